@@ -1,4 +1,4 @@
-/* Runs an Intel HEX image on simavr's ATmega328P for at most so many steps, where each port gives the bytes of a script
+/* Runs an Intel HEX image on simavr's ATmega328P, or on the chip that is named behind, for at most so many steps, where each port gives the bytes of a script
    and 0 behind them, or what was written to it last where it is hooked, and prints what `napledge run` prints: a line for
    each access of a port, and the number in R25:R24 at BREAK. A step is an instruction; simavr's own devices are left out. */
 #include <simavr/sim_avr.h>
@@ -9,7 +9,7 @@
 #include <stdlib.h>
 #include <string.h>
 
-enum { BREAK = 0x9598, FIRST_PORT = 0x20, SPL = 0x5D, SPH = 0x5E, SREG = 0x5F, PORTS = 0x100, LINE = 65536 };
+enum { BREAK = 0x9598, FIRST_PORT = 0x20, RAMPZ = 0x5B, SPL = 0x5D, SPH = 0x5E, SREG = 0x5F, PORTS = 0x100, LINE = 65536 };
 
 static struct { uint8_t bytes[LINE]; int count, next, hooked; uint8_t written; } given[PORTS];
 
@@ -53,13 +53,13 @@ static void read_script(FILE *file)
 
 int main(int argc, char **argv)
 {
-    avr_t *avr = avr_make_mcu_by_name("atmega328p");
+    avr_t *avr = avr_make_mcu_by_name(argc == 5 ? argv[4] : "atmega328p");
     ihex_chunk_p chunks = NULL;
     FILE *script;
     long steps;
     int count, i;
 
-    if (argc != 4 || !avr || !(script = fopen(argv[2], "r")))
+    if (argc < 4 || argc > 5 || !avr || !(script = fopen(argv[2], "r")))
         return 2;
     read_script(script);
     avr_init(avr);
@@ -70,11 +70,12 @@ int main(int argc, char **argv)
         avr_loadcode(avr, chunks[i].data, chunks[i].size, chunks[i].baseaddr);
     avr->codeend = avr->flashend;
     for (i = FIRST_PORT; i < PORTS; i++)
-        if (i != SPL && i != SPH && i != SREG) {
+        if (i != SPL && i != SPH && i != SREG && !(i == RAMPZ && avr->rampz)) {
             memset(&avr->io[AVR_DATA_TO_IO(i)], 0, sizeof avr->io[0]);
             avr->io[AVR_DATA_TO_IO(i)].r.c = read_port;
             avr->io[AVR_DATA_TO_IO(i)].w.c = write_port;
         }
+    setvbuf(stdout, NULL, _IOLBF, 0);
     for (steps = strtol(argv[3], NULL, 10); steps > 0; steps--) {
         if ((avr->flash[avr->pc] | avr->flash[avr->pc + 1] << 8) == BREAK) {
             printf("result %d\n", (int16_t)(avr->data[24] | avr->data[25] << 8));

@@ -7,6 +7,7 @@ use Rattle.std.proofs.lemmas.Bool.Decides.{nat_tests}
 use Rattle.std.proofs.lemmas.List.{get_or-drop}
 use Rattle.ec_space.specs.declared.space.Bank.TheVariants.{Flash as FlashBank, Data as DataBank}
 use Rattle.ec_space.specs.Memory.{Memory}
+use Rattle.ec_space.specs.declared.Core.{Core}
 use Rattle.ec_avr.specs.declared.machine.Access.TheVariants.{Silent, In, Out, Read, Write, Stack}
 use Rattle.ec_avr.specs.declared.machine.Access.{Access}
 use Rattle.ec_avr.specs.declared.machine.FaultKind.TheVariants.{DataOut}
@@ -24,21 +25,22 @@ or_parts : (a b : Bool) → IsTrue (a || b) → IsTrue a ⊎ IsTrue b
 or_parts true b h = inl refl
 or_parts false b h = inr h
 
-core_low : (a : ℕ) → IsTrue (is_core_register a && not (a == 0x5F)) → (a < 256) × (a ≢ 95) × IsTrue (is_core_register a)
-core_low a h =
-    let p = and_parts (is_core_register a) (not (a == 0x5F)) h in
+core_low : (core : Core) (a : ℕ) → IsTrue (is_core_register core a && not (a == 0x5F))
+    → (a < 256) × (a ≢ 95) × IsTrue (is_core_register core a)
+core_low core a h =
+    let p = and_parts (is_core_register core a) (not (a == 0x5F)) h in
     let c = p.0 in
     let n = p.1 in
     (low a c, other a n, c)
   where
-    low : (a : ℕ) → IsTrue (is_core_register a) → a < 256
+    low : (a : ℕ) → IsTrue (is_core_register core a) → a < 256
     low a c = grind (arith, nat_tests)
 
     other : (a : ℕ) → IsTrue (not (a == 0x5F)) → a ≢ 95
     other a n = grind (arith, nat_tests)
 
-core_no_port : (a : ℕ) → IsTrue (is_core_register a) → is_port a ≡ false
-core_no_port a c = rw c (no (nat_lt a 256))
+core_no_port : (core : Core) (a : ℕ) → IsTrue (is_core_register core a) → is_port core a ≡ false
+core_no_port core a c = rw c (no (nat_lt a 256))
   where
     no : (b : Bool) → (b && false) ≡ false
     no true = refl
@@ -47,19 +49,19 @@ core_no_port a c = rw c (no (nat_lt a 256))
 sram_parts : (a size : ℕ) → IsTrue (nat_le 256 a && nat_lt a size) → (256 ≤ a) × (a < size)
 sram_parts a size h = let p = and_parts (nat_le 256 a) (nat_lt a size) h in (leb-true 256 a p.0, ltb-true a size p.1)
 
-sram_no_port : (a : ℕ) → 256 ≤ a → is_port a ≡ false
-sram_no_port a h = grind (arith, nat_tests)
+sram_no_port : (core : Core) (a : ℕ) → 256 ≤ a → is_port core a ≡ false
+sram_no_port core a h = grind (arith, nat_tests)
 
-sram_no_core : (a : ℕ) → 256 ≤ a → is_core_register a ≡ false
-sram_no_core a h = grind (arith, nat_tests)
+sram_no_core : (core : Core) (a : ℕ) → 256 ≤ a → is_core_register core a ≡ false
+sram_no_core core a h = grind (arith, nat_tests)
 
 high : (a : ℕ) → 256 ≤ a → nat_lt a 256 ≡ false
 high a h = grind (arith, nat_tests)
 
-port_parts : (a : ℕ) → IsTrue (is_port a) → (a < 256) × (is_core_register a ≡ false)
-port_parts a h =
-    let p = and_parts (nat_lt a 256) (not (is_core_register a)) h in
-    (ltb-true a 256 p.0, off (is_core_register a) p.1)
+port_parts : (core : Core) (a : ℕ) → IsTrue (is_port core a) → (a < 256) × (is_core_register core a ≡ false)
+port_parts core a h =
+    let p = and_parts (nat_lt a 256) (not (is_core_register core a)) h in
+    (ltb-true a 256 p.0, off (is_core_register core a) p.1)
   where
     off : (b : Bool) → IsTrue (not b) → b ≡ false
     off true h = cc
@@ -67,7 +69,7 @@ port_parts a h =
 
 -- ---- the stack
 
-module _ (e : Env) (size : ℕ) (fit : Fits e size) (s : State) (v : View) (h : Shows e size s.mem v) where
+module _ (e : Env) (size : ℕ) (fit : Fits e size) (s : State) (v : View) (h : Shows e size s.core s.mem v) where
   pub sp_shown : stack_pointer s ≡ sp v
   sp_shown =
       let p = reads e size s.mem v 93 h (omega arith) in
@@ -76,25 +78,30 @@ module _ (e : Env) (size : ℕ) (fit : Fits e size) (s : State) (v : View) (h : 
 
   pub stacked_at : (a : ℕ) → e.kind a ≡ Stacked → (256 ≤ a) × (a < size) × (is_sram s a ≡ true)
   stacked_at a q =
-      let may = subst (λ (z : Kind). IsTrue (may_be z size a)) q (fit.kinds a) in
+      let may = subst (λ (z : Kind). IsTrue (may_be e.core z size a)) q (fit.kinds a) in
       let p = sram_parts a size may in
       (p.0, p.1, rw h.sized may)
 
 -- ---- where Y is free
 
-module _ (e : Env) (size : ℕ) (free : 65536 ≤ e.base) (fit : Fits e size) (s : State) (v : View) (h : Shows e size s.mem v) where
+module _ (e : Env) (size : ℕ) (free : 65536 ≤ e.base) (fit : Fits e size) (s : State) (v : View) (h : Shows e size s.core s.mem v) where
   no_base : (w : View) → HoldsBase e w
   no_base w l = absurd (omega (arith, free, l))
 
   has : (a : ℕ) → a < size → nat_lt a (length s.mem.data) ≡ true
   has a l = let q = h.sized in lt-ltb a (length s.mem.data) (omega arith)
 
-  load_own_core : (d a words : ℕ) → d < 32 → IsTrue (is_core_register a && not (a == 0x5F))
+  may_at : (a : ℕ) (k : Kind) → e.kind a ≡ k → IsTrue (may_be s.core k size a)
+  may_at a k q =
+      subst (λ (x : Kind). IsTrue (may_be s.core x size a)) q
+      (subst (λ (core : Core). IsTrue (may_be core (e.kind a) size a)) (sym h.same) (fit.kinds a))
+
+  load_own_core : (d a words : ℕ) → d < 32 → IsTrue (is_core_register s.core a && not (a == 0x5F))
       → Does e size s v (set d (v.at a) v) words (port_at s a) (load d a (answer_of v.inputs (port_at s a)) words s)
   load_own_core d a words l c =
-      let p = core_low a c in
+      let p = core_low s.core a c in
       let big = fit.ports in
-      let q = core_no_port a p.2 in
+      let q = core_no_port s.core a p.2 in
       let y = has a (omega (arith, p.0)) in
       let r = reads e size s.mem v a h p.1 in
       record {
@@ -111,15 +118,16 @@ module _ (e : Env) (size : ℕ) (free : 65536 ≤ e.base) (fit : Fits e size) (s
       → Does e size s v w words (port_at s a) (load d a (answer_of v.inputs (port_at s a)) words s)
   load_sram d a words w l c1 c2 wa wf wi ws =
       let big = fit.ports in
-      let q = sram_no_port a c1 in
+      let q = sram_no_port s.core a c1 in
       let y = has a c2 in
       let r = reads e size s.mem v a h (omega arith) in
       let k = shows_byte e size free s.mem v d (slice_index s.mem.data a) h (omega arith) (omega arith) (h.bytes a) in
       record {
         access = Read DataBank a (v.at a);
-        ran = rw (y, q, sram_no_core a c1, high a c1, r) refl;
+        ran = rw (y, q, sram_no_core s.core a c1, high a c1, r) refl;
         pc = rw y refl;
         shows = rw (y, q) (record {
+          same = k.same;
           flash = k.flash;
           sized = k.sized;
           bytes = k.bytes;
@@ -139,11 +147,11 @@ module _ (e : Env) (size : ℕ) (free : 65536 ≤ e.base) (fit : Fits e size) (s
       either true = rw (get_or-drop 1 (v.inputs p) k 0) (h.feeds p (1 + k))
       either false = h.feeds p k
 
-  load_port : (d a words : ℕ) → d < 32 → IsTrue (is_port a)
+  load_port : (d a words : ℕ) → d < 32 → IsTrue (is_port s.core a)
       → Does e size s v (load_by Port d a v) words (port_at s a) (load d a (answer_of v.inputs (port_at s a)) words s)
   load_port d a words l c =
       let big = fit.ports in
-      let p = port_parts a c in
+      let p = port_parts s.core a c in
       let y = has a (omega (arith, p.0)) in
       let low = lt-ltb a 256 p.0 in
       let k = shows_byte e size free s.mem v d (given v a) h (omega arith) (omega arith) (h.feeds a 0) in
@@ -152,7 +160,7 @@ module _ (e : Env) (size : ℕ) (free : 65536 ≤ e.base) (fit : Fits e size) (s
         ran = rw (y, p.1, low) refl;
         pc = rw y refl;
         shows = rw (y, p.1, low)
-            (record { flash = k.flash; sized = k.sized; bytes = k.bytes; at = k.at; flags = k.flags; feeds = feeds_later a; base = no_base (load_by Port d a v) });
+            (record { same = k.same; flash = k.flash; sized = k.sized; bytes = k.bytes; at = k.at; flags = k.flags; feeds = feeds_later a; base = no_base (load_by Port d a v) });
         seen = refl;
         inputs = rw (p.1, low, y) refl;
       }
@@ -161,28 +169,28 @@ module _ (e : Env) (size : ℕ) (free : 65536 ≤ e.base) (fit : Fits e size) (s
   pub load_does : (d a words : ℕ) (k : Kind) → e.kind a ≡ k → d < 32 → (load_by k d a v).safe ≡ true
       → Does e size s v (load_by k d a v) words (port_at s a) (load d a (answer_of v.inputs (port_at s a)) words s)
   load_does d a words Own q l safe =
-      let may = subst (λ (x : Kind). IsTrue (may_be x size a)) q (fit.kinds a) in
+      let may = may_at a Own q in
       ⊎_elim
       (λ c. load_own_core d a words l c)
       (λ c. let p = sram_parts a size c in load_sram d a words (set d (v.at a) v) l p.0 p.1 refl refl refl (rw q (sym (append-nil v.seen))))
       (or_parts _ _ may)
   load_does d a words Object q l safe =
-      let may = subst (λ (x : Kind). IsTrue (may_be x size a)) q (fit.kinds a) in
+      let may = may_at a Object q in
       let p = sram_parts a size may in
       load_sram d a words (load_by Object d a v) l p.0 p.1 refl refl refl (rw q refl)
   load_does d a words Port q l safe =
-      load_port d a words l (subst (λ (x : Kind). IsTrue (may_be x size a)) q (fit.kinds a))
+      load_port d a words l (may_at a Port q)
   load_does d a words Stacked q l safe = absurd (false≢true safe)
   load_does d a words Barred q l safe = absurd (false≢true safe)
 
   -- ---- stores
 
-  store_own_core : (a x words : ℕ) → x < 256 → IsTrue (is_core_register a && not (a == 0x5F))
+  store_own_core : (a x words : ℕ) → x < 256 → IsTrue (is_core_register s.core a && not (a == 0x5F))
       → Does e size s v (set a x v) words None (store a x words s)
   store_own_core a x words l c =
-      let p = core_low a c in
+      let p = core_low s.core a c in
       let big = fit.ports in
-      let q = core_no_port a p.2 in
+      let q = core_no_port s.core a p.2 in
       let y = has a (omega (arith, p.0)) in
       record {
         access = Silent;
@@ -198,14 +206,15 @@ module _ (e : Env) (size : ℕ) (free : 65536 ≤ e.base) (fit : Fits e size) (s
       → Does e size s v w words None (store a x words s)
   store_sram a x words w l c1 c2 wa wf wi ws =
       let big = fit.ports in
-      let q = sram_no_port a c1 in
+      let q = sram_no_port s.core a c1 in
       let y = has a c2 in
       let k = shows_byte e size free s.mem v a x h c2 (omega arith) l in
       record {
         access = Write a x;
-        ran = rw (y, sram_no_core a c1, high a c1) refl;
+        ran = rw (y, sram_no_core s.core a c1, high a c1) refl;
         pc = rw (y, q) refl;
         shows = rw (y, q) (record {
+          same = k.same;
           flash = k.flash;
           sized = k.sized;
           bytes = k.bytes;
@@ -218,11 +227,11 @@ module _ (e : Env) (size : ℕ) (free : 65536 ≤ e.base) (fit : Fits e size) (s
         inputs = wi;
       }
 
-  store_port : (a x words : ℕ) → x < 256 → IsTrue (is_port a)
+  store_port : (a x words : ℕ) → x < 256 → IsTrue (is_port s.core a)
       → Does e size s v (store_by Port a x v) words None (store a x words s)
   store_port a x words l c =
       let big = fit.ports in
-      let p = port_parts a c in
+      let p = port_parts s.core a c in
       let y = has a (omega (arith, p.0)) in
       let low = lt-ltb a 256 p.0 in
       record {
@@ -230,7 +239,7 @@ module _ (e : Env) (size : ℕ) (free : 65536 ≤ e.base) (fit : Fits e size) (s
         ran = rw (y, p.1, low) refl;
         pc = rw (y, p.1, low) refl;
         shows =
-            rw (y, p.1, low) (record { flash = h.flash; sized = h.sized; bytes = h.bytes; at = h.at; flags = h.flags; feeds = h.feeds; base = no_base (store_by Port a x v) });
+            rw (y, p.1, low) (record { same = h.same; flash = h.flash; sized = h.sized; bytes = h.bytes; at = h.at; flags = h.flags; feeds = h.feeds; base = no_base (store_by Port a x v) });
         seen = refl;
         inputs = refl;
       }
@@ -238,17 +247,17 @@ module _ (e : Env) (size : ℕ) (free : 65536 ≤ e.base) (fit : Fits e size) (s
   pub store_does : (a x words : ℕ) (k : Kind) → e.kind a ≡ k → x < 256 → (store_by k a x v).safe ≡ true
       → Does e size s v (store_by k a x v) words None (store a x words s)
   store_does a x words Own q l safe =
-      let may = subst (λ (z : Kind). IsTrue (may_be z size a)) q (fit.kinds a) in
+      let may = may_at a Own q in
       ⊎_elim
       (λ c. store_own_core a x words l c)
       (λ c. let p = sram_parts a size c in store_sram a x words (set a x v) l p.0 p.1 refl refl refl (rw q (sym (append-nil v.seen))))
       (or_parts _ _ may)
   store_does a x words Object q l safe =
-      let may = subst (λ (z : Kind). IsTrue (may_be z size a)) q (fit.kinds a) in
+      let may = may_at a Object q in
       let p = sram_parts a size may in
       store_sram a x words (store_by Object a x v) l p.0 p.1 refl refl refl (rw q refl)
   store_does a x words Port q l safe =
-      store_port a x words l (subst (λ (z : Kind). IsTrue (may_be z size a)) q (fit.kinds a))
+      store_port a x words l (may_at a Port q)
   store_does a x words Stacked q l safe = absurd (false≢true safe)
   store_does a x words Barred q l safe = absurd (false≢true safe)
 
@@ -267,6 +276,7 @@ module _ (e : Env) (size : ℕ) (free : 65536 ≤ e.base) (fit : Fits e size) (s
         ran = rw (sym q, h.flash, y) refl;
         pc = rw (sym q, h.flash, y) refl;
         shows = rw (sym q, h.flash, y) (record {
+          same = k.same;
           flash = refl;
           sized = k.sized;
           bytes = k.bytes;
@@ -294,8 +304,8 @@ module _ (e : Env) (size : ℕ) (free : 65536 ≤ e.base) (fit : Fits e size) (s
 
   -- ---- the stack
 
-  pub sp_set : (m : Memory) (w : View) (n : ℕ) → Shows e size m w → n < 65536
-      → Shows e size (with_data (with_data m 93 (n % 256)) 94 (n / 256)) (record w { at = put_pair w.at 93 n })
+  pub sp_set : {core : Core} (m : Memory) (w : View) (n : ℕ) → Shows e size core m w → n < 65536
+      → Shows e size core (with_data (with_data m 93 (n % 256)) 94 (n / 256)) (record w { at = put_pair w.at 93 n })
   sp_set m w n k l =
       let big = fit.ports in
       shows_byte e size free _ _ 94 (n / 256) (shows_byte e size free m w 93 (n % 256) k (omega arith) (omega arith) (omega arith)) (omega arith)

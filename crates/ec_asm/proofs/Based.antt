@@ -15,6 +15,7 @@ use Rattle.ec_isa.specs.declared.instructions.Instr.TheVariants.{Sbrs}
 use Rattle.ec_avr.specs.declared.machine.Access.{Access}
 use Rattle.ec_avr.specs.declared.machine.Access.TheVariants.{Silent, In, Out, Read, Write, Stack}
 use Rattle.ec_space.specs.Memory.{Memory}
+use Rattle.ec_space.specs.declared.Core.{Core}
 use Rattle.ec_avr.specs.Effects.{After}
 use Rattle.ec_avr.specs.State.{raised, lowered}
 use Rattle.ec_asm.specs.Base.{is_beside, are_beside, leaves_base}
@@ -81,7 +82,7 @@ module _ (e : Env) (size : ℕ) (fit : Fits e size) (based : e.base < 65536) (v 
 
   stack_apart : (a : ℕ) → e.kind a ≡ Stacked → 256 ≤ a
   stack_apart a q =
-      let may = subst (λ (z : Kind). IsTrue (may_be z size a)) q (fit.kinds a) in
+      let may = subst (λ (z : Kind). IsTrue (may_be e.core z size a)) q (fit.kinds a) in
       leb-true 256 a (and_parts (nat_le 256 a) (nat_lt a size) may).0
 
   push_keeps : (k : Kind) (x : ℕ) → e.kind (sp v) ≡ k → pair (push_by k x v).at 28 ≡ pair v.at 28
@@ -223,8 +224,9 @@ free_fits e size fit = record {
   base = λ l. absurd (omega (arith, l));
 }
 
-pub free_shows : (e : Env) (size : ℕ) (m : Memory) (v : View) → Shows e size m v → Shows (unbased e) size m v
+pub free_shows : {core : Core} (e : Env) (size : ℕ) (m : Memory) (v : View) → Shows e size core m v → Shows (unbased e) size core m v
 free_shows e size m v h = record {
+  same = h.same;
   flash = h.flash;
   sized = h.sized;
   bytes = h.bytes;
@@ -234,8 +236,10 @@ free_shows e size m v h = record {
   base = λ l. absurd (omega (arith, l));
 }
 
-based_shows : (e : Env) (size : ℕ) (m : Memory) (v : View) → Shows (unbased e) size m v → HoldsBase e v → Shows e size m v
+based_shows : {core : Core} (e : Env) (size : ℕ) (m : Memory) (v : View) → Shows (unbased e) size core m v → HoldsBase e v
+    → Shows e size core m v
 based_shows e size m v h holds = record {
+  same = h.same;
   flash = h.flash;
   sized = h.sized;
   bytes = h.bytes;

@@ -156,7 +156,7 @@ run_unsafe e (suc m) Stuck h = run_unsafe e m Stuck tt
 
 -- ---- one step
 
-result_shown : (e : Env) (size : ℕ) (s : State) (v : View) → Shows e size s.mem v
+result_shown : (e : Env) (size : ℕ) (s : State) (v : View) → Shows e size s.core s.mem v
     → machine_result s ≡ cast_signed w16 (pair v.at 24)
 result_shown e size s v h =
     let p = reads e size s.mem v 24 h (omega arith) in
@@ -176,13 +176,13 @@ on_stack_is Port h = absurd (false≢true h)
 on_stack_is Barred h = absurd (false≢true h)
 
 module _ (laws : StepLaws) (e : Env) (size : ℕ) (free : 65536 ≤ e.base) (fit : Fits e size) (s : State) (v : View)
-    (h : Shows e size s.mem v) where
+    (h : Shows e size s.core s.mem v) where
   jumped : (to : ℕ) (x : After) → x ≡ jump to s → Moves e size v v (to % 65536) None x
   jumped to x p = record {
     access = Silent;
     ran = ap (λ y. y.stepped) p;
     pc = ap (λ y. y.state.pc) p;
-    shows = subst (λ y. Shows e size y.state.mem v) (sym p) h;
+    shows = subst (λ y. Shows e size y.state.core y.state.mem v) (sym p) h;
     seen = sym (append-nil v.seen);
     inputs = refl;
   }
@@ -275,7 +275,7 @@ module _ (laws : StepLaws) (e : Env) (size : ℕ) (free : 65536 ≤ e.base) (fit
   act_moves i t = on i (goes_on i) t
 
 -- the same where Y holds a base
-module _ (laws : StepLaws) (e : Env) (size : ℕ) (fit : Fits e size) (s : State) (v : View) (h : Shows e size s.mem v) where
+module _ (laws : StepLaws) (e : Env) (size : ℕ) (fit : Fits e size) (s : State) (v : View) (h : Shows e size s.core s.mem v) where
   held_after : (i : Instr) (pc : ℕ) (w : View) → keeps_base e.base i ≡ true → act e (Some i) s.pc v ≡ Running pc w → HoldsBase e w
   held_after i pc w keeps q l =
       let kept : IsKept e size fit l v (Running pc w) =
@@ -298,7 +298,7 @@ module _ (laws : StepLaws) (e : Env) (size : ℕ) (fit : Fits e size) (s : State
       (subst (IsMove (unbased e) size v (port_of i s) (after i s v)) (sym (act_same e v h.base i s.pc)) m)
 
 -- so an instruction that goes on
-pub based_follows : SetsOneBit → (e : Env) (size : ℕ) → Fits e size → (s : State) (v : View) → Shows e size s.mem v → (i : Instr)
+pub based_follows : SetsOneBit → (e : Env) (size : ℕ) → Fits e size → (s : State) (v : View) → Shows e size s.core s.mem v → (i : Instr)
     → IsTrue (in_table i) → keeps_base e.base i ≡ true → (change e i v).safe ≡ true → Follows e size i s v
 based_follows one_bit e size fit s v h i t keeps safe =
     let free : 65536 ≤ (unbased e).base = omega arith in
@@ -329,7 +329,7 @@ unsafe_runs e size m v s (Ended w) h = λ safe. absurd (false≢true (sym h ∙ 
 unsafe_runs e size m v s Stuck h = tt
 
 -- the step of the machine, where the instruction is known
-step_is : StepLaws → (e : Env) (size : ℕ) (s : State) (v : View) (i : Instr) → Shows e size s.mem v → fetch e s.pc ≡ Some i
+step_is : StepLaws → (e : Env) (size : ℕ) (s : State) (v : View) (i : Instr) → Shows e size s.core s.mem v → fetch e s.pc ≡ Some i
     → (m_step (answer_of v.inputs (needs_port s)) s ≡ after i s v) × (needs_port s ≡ port_of i s) × IsTrue (in_table i)
 step_is laws e size s v i h f =
     let g : (if is_whole s then instruction_at s s.pc else None) ≡ Some i = rw h.flash (fetched e s.pc i f).0 in
@@ -364,8 +364,8 @@ later e size m v w s x port pc (Ended u) k p n r = λ safe.
     }
 later e size m v w s x port pc Stuck k p n r = tt
 
-module _ (laws : StepLaws) (e : Env) (size : ℕ) (fit : Fits e size) (m : ℕ) (ih : (s : State) (v : View) → Shows e size s.mem v
-    → RunsAs e size m v s (run e m (Running s.pc v))) (s : State) (v : View) (h : Shows e size s.mem v) where
+module _ (laws : StepLaws) (e : Env) (size : ℕ) (fit : Fits e size) (m : ℕ) (ih : (s : State) (v : View) → Shows e size s.core s.mem v
+    → RunsAs e size m v s (run e m (Running s.pc v))) (s : State) (v : View) (h : Shows e size s.core s.mem v) where
   by_safe : (i : Instr) (pc : ℕ) (w : View) (b : Bool) → w.safe ≡ b → fetch e s.pc ≡ Some i
       → (w.safe ≡ true → Moves e size v w pc (port_of i s) (after i s v))
       → RunsAs e size (suc m) v s (run e m (Running pc w))
@@ -396,7 +396,7 @@ module _ (laws : StepLaws) (e : Env) (size : ℕ) (fit : Fits e size) (m : ℕ) 
       by_status i (act e (Some i) s.pc v) f (based_act_moves laws e size fit s v h i q.2 (fetched e s.pc i f).1)
 
 -- the run of the view is that of the machine, as long as it is safe
-pub runs_as : StepLaws → (e : Env) (size : ℕ) → Fits e size → (m : ℕ) (s : State) (v : View) → Shows e size s.mem v
+pub runs_as : StepLaws → (e : Env) (size : ℕ) → Fits e size → (m : ℕ) (s : State) (v : View) → Shows e size s.core s.mem v
     → RunsAs e size m v s (run e m (Running s.pc v))
 unfolding machine
 runs_as laws e size fit zero s v h =

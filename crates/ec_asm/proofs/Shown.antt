@@ -8,6 +8,7 @@ use Rattle.std.proofs.lemmas.Grind.{get_or-set_at}
 use Rattle.std.proofs.Math.ListN.{length-set}
 use Rattle.ec_space.specs.Bytes.{AreBytes}
 use Rattle.ec_space.specs.Memory.{Memory}
+use Rattle.ec_space.specs.declared.Core.{Core}
 use Rattle.ec_avr.specs.Flags.{with_flags}
 pub use Rattle.ec_avr.proofs.Bits.{bit_below, bool_below, product_of_bits}
 use Rattle.ec_asm.specs.View.{Flags, View, put, bytes_of, flags_of}
@@ -65,16 +66,17 @@ abbrev pub with_data : Memory → ℕ → ℕ → Memory
 with_data m a x = record m { «data» = slice_set m.data a x }
 
 -- a byte that is read
-pub reads : (e : Env) (size : ℕ) (m : Memory) (v : View) (a : ℕ) → Shows e size m v → a ≢ 95 → slice_index m.data a ≡ v.at a
+pub reads : {core : Core} (e : Env) (size : ℕ) (m : Memory) (v : View) (a : ℕ) → Shows e size core m v → a ≢ 95 → slice_index m.data a ≡ v.at a
 reads e size m v a h n = let q = ne_eqb a 95 n in sym (ap (λ f. f a) h.at ∙ rw q refl)
 
 -- where Y is free
 module _ (e : Env) (size : ℕ) (free : 65536 ≤ e.base) where
-  pub shows_byte : (m : Memory) (v : View) (a x : ℕ) → Shows e size m v → a < size → a ≢ 95 → x < 256
-      → Shows e size (with_data m a x) (record v { at = put v.at a x })
+  pub shows_byte : {core : Core} (m : Memory) (v : View) (a x : ℕ) → Shows e size core m v → a < size → a ≢ 95 → x < 256
+      → Shows e size core (with_data m a x) (record v { at = put v.at a x })
   shows_byte m v a x h l n b =
       let len = h.sized in
       record {
+        same = h.same;
         flash = h.flash;
         sized = length-set m.data a x ∙ h.sized;
         bytes = are_bytes-set m.data a x h.bytes (omega arith) b;
@@ -84,11 +86,12 @@ module _ (e : Env) (size : ℕ) (free : 65536 ≤ e.base) where
         base = λ l. absurd (omega (arith, free, l));
       }
 
-  pub shows_sreg : (m : Memory) (v : View) (w : ℕ) (f : Flags) → Shows e size m v → 256 ≤ size → w < 256
-      → flags_of w ≡ f → Shows e size (with_data m 95 w) (record v { flags = f })
+  pub shows_sreg : {core : Core} (m : Memory) (v : View) (w : ℕ) (f : Flags) → Shows e size core m v → 256 ≤ size → w < 256
+      → flags_of w ≡ f → Shows e size core (with_data m 95 w) (record v { flags = f })
   shows_sreg m v w f h l b q =
       let len = h.sized in
       record {
+        same = h.same;
         flash = h.flash;
         sized = length-set m.data 95 w ∙ h.sized;
         bytes = are_bytes-set m.data 95 w h.bytes (omega arith) b;

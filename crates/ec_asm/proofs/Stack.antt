@@ -59,7 +59,7 @@ two_stacked e a b p zero d inside = p.0
 two_stacked e a b p (suc zero) d inside = p.1
 two_stacked e a b p (suc (suc k)) d inside = absurd (omega arith)
 
-module _ (e : Env) (size : ℕ) (fit : Fits e size) (s : State) (v : View) (h : Shows e size s.mem v) where
+module _ (e : Env) (size : ℕ) (fit : Fits e size) (s : State) (v : View) (h : Shows e size s.core s.mem v) where
   pointer : sp v ≡ stack_pointer s
   pointer = sym (sp_shown e size fit s v h)
 
@@ -129,7 +129,7 @@ module _ (e : Env) (size : ℕ) (fit : Fits e size) (k j : ℕ) (s t : State) (v
   by_status Stuck r safe = absurd (false≢true (safe_before e j Stuck safe))
 
 pub stack_stays_inside : StepLaws → (e : Env) (size m k : ℕ) (s t : State) (v : View) (trace : List Access) → Fits e size
-    → Shows e size s.mem v → is_safe (run e m (Running s.pc v)) ≡ true → k < m → machine k v.inputs s ≡ MRunning trace t
+    → Shows e size s.core s.mem v → is_safe (run e m (Running s.pc v)) ≡ true → k < m → machine k v.inputs s ≡ MRunning trace t
     → AreStacked e (stack_bytes t)
 stack_stays_inside laws e size m k s t v trace fit h safe l ran =
     let j = m - k - 1 in

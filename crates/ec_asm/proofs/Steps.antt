@@ -55,7 +55,7 @@ even d l h = let q = eqb-true (d % 2) 0 h in omega arith
 product_below : (x y : ℕ) → x < 256 → y < 256 → x * y < 65536
 product_below x y p q = omega (arith, mul-le x y 255 255 (omega arith) (omega arith))
 
-module _ (one_bit : SetsOneBit) (e : Env) (size : ℕ) (free : 65536 ≤ e.base) (fit : Fits e size) (s : State) (v : View) (h : Shows e size s.mem v) where
+module _ (one_bit : SetsOneBit) (e : Env) (size : ℕ) (free : 65536 ≤ e.base) (fit : Fits e size) (s : State) (v : View) (h : Shows e size s.core s.mem v) where
   abbrev m : Memory
   m = s.mem
 
@@ -105,7 +105,7 @@ module _ (one_bit : SetsOneBit) (e : Env) (size : ℕ) (free : 65536 ≤ e.base)
       let p = pair_read pointer lp in
       let w = load_by (e.kind (pair v.at pointer)) d (pair v.at pointer) v in
       subst (λ x. Does e size s v (move_to pointer (raised x) w) 1 (port_at s a) (load_and_raise d pointer given s)) (sym p)
-      (moved_does e size free fit s v h (nat_lt a (length m.data)) (load_access a (loaded s a given)) (with_register s d (loaded s a given)) w
+      (moved_does e size free fit s v h (nat_lt a (length m.data)) (load_access s.core a (loaded s a given)) (with_register s d (loaded s a given)) w
       (port_at s a) pointer (raised a) lp (omega arith) (loads d (pair v.at pointer) a 1 p l safe))
 
   stores_and_raises : (pointer k : ℕ) → pointer < 31 → k < 32
@@ -118,7 +118,7 @@ module _ (one_bit : SetsOneBit) (e : Env) (size : ℕ) (free : 65536 ≤ e.base)
       let p = pair_read pointer lp in
       let w = store_by (e.kind (pair v.at pointer)) (pair v.at pointer) (v.at k) v in
       subst (λ n. Does e size s v (move_to pointer (raised n) w) 1 None (store_and_raise pointer x s)) (sym p)
-      (moved_does e size free fit s v h (nat_lt a (length m.data)) (store_access a x) (stored s a x) w None pointer (raised a) lp (omega arith)
+      (moved_does e size free fit s v h (nat_lt a (length m.data)) (store_access s.core a x) (stored s a x) w None pointer (raised a) lp (omega arith)
       (stores (pair v.at pointer) a k 1 p l safe))
 
   flash_and_raises : (d : ℕ) → d < 32
@@ -141,7 +141,7 @@ module _ (one_bit : SetsOneBit) (e : Env) (size : ℕ) (free : 65536 ≤ e.base)
   place_at k a f = ltb-true k 32 (and_parts (is_register k) (nat_lt a 65536) f).0
 
   product_shows : (x y : ℕ) → x < 256 → y < 256
-      → Shows e size
+      → Shows e size s.core
       (with_data (with_data (with_data m 0 (x * y % 256)) 1 (x * y / 256)) 95 (product_flags (slice_index m.data 95) (x * y)))
       (record v { at = put_pair v.at 0 (x * y); flags = record v.flags { c = x * y / 32768; z = from_bool (x * y == 0) } })
   product_shows x y p q =
@@ -158,7 +158,7 @@ module _ (one_bit : SetsOneBit) (e : Env) (size : ℕ) (free : 65536 ≤ e.base)
       (with_bit_below (with_bit w 0 (x * y / 32768)) 1 (from_bool (x * y == 0)) one (omega arith) (bool_below _)) f
 
   flag_shows : (b x : ℕ) → b < 8 → x ≤ 1
-      → Shows e size (with_data m 95 (with_bit (slice_index m.data 95) b x)) (record v { flags = flag_put v.flags b x })
+      → Shows e size s.core (with_data m 95 (with_bit (slice_index m.data 95) b x)) (record v { flags = flag_put v.flags b x })
   flag_shows b x l k =
       let w = slice_index m.data 95 in
       shows_sreg e size free m v (with_bit w b x) _ h fit.ports (with_bit_below w b x (byte 95) l k)

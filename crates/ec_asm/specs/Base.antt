@@ -4,8 +4,8 @@ use Rattle.ec_isa.specs.declared.instructions.Instr.{Instr}
 use Rattle.ec_isa.specs.declared.instructions.Instr.TheVariants.{Movw, Sbc, Add, Sub, Adc, And, Eor, Or, Mov, Sbci}
 use Rattle.ec_isa.specs.declared.instructions.Instr.TheVariants.{Subi, Ori, Andi, Ldi, LddZ, LddY, Lds, LdZPlus}
 use Rattle.ec_isa.specs.declared.instructions.Instr.TheVariants.{LdMinusZ, LdYPlus, LdMinusY, LdX, LdXPlus, LdMinusX}
-use Rattle.ec_isa.specs.declared.instructions.Instr.TheVariants.{StYPlus, StMinusY, LpmZ, LpmZPlus, Pop, Com, Neg, Swap}
-use Rattle.ec_isa.specs.declared.instructions.Instr.TheVariants.{Inc, Asr, Lsr, Ror, Dec, Adiw, Sbiw, Bld}
+use Rattle.ec_isa.specs.declared.instructions.Instr.TheVariants.{StYPlus, StMinusY, LpmZ, LpmZPlus, Elpm, ElpmInc, Pop, Com, Neg}
+use Rattle.ec_isa.specs.declared.instructions.Instr.TheVariants.{Swap, Inc, Asr, Lsr, Ror, Dec, Adiw, Sbiw, Bld}
 use Rattle.ec_isa.specs.declared.instructions.Instr.TheVariants.{In as InInstr}
 
 -- a register that is none of Y's, and two neighbouring ones of which none is
@@ -46,6 +46,8 @@ leaves_base (StYPlus r) = false
 leaves_base (StMinusY r) = false
 leaves_base (LpmZ d) = is_beside d
 leaves_base (LpmZPlus d) = is_beside d
+leaves_base (Elpm d) = is_beside d
+leaves_base (ElpmInc d) = is_beside d
 leaves_base (Pop d) = is_beside d
 leaves_base (Com d) = is_beside d
 leaves_base (Neg d) = is_beside d

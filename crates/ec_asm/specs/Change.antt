@@ -2,6 +2,7 @@
 use Rattle.std.specs.Prelude.{ℕ, zero, suc, ◌+◌, ◌-◌, ◌*◌, ◌/◌, ◌%◌, ◌==◌, nat_lt, Bool, true, false, if◌then◌else◌}
 use Rattle.std.specs.Prelude.{List, [], ◌∷◌, ◌++◌, slice_index, drop, bit_and, bit_or, bit_xor}
 use Rattle.std.specs.Int.{bit_at, from_bool}
+use Rattle.ec_space.specs.declared.Core.{Core}
 use Rattle.ec_space.specs.declared.space.Bank.TheVariants.{Flash as FlashBank, Data as DataBank}
 use Rattle.ec_isa.specs.declared.instructions.Instr.{Instr}
 use Rattle.ec_isa.specs.declared.instructions.Instr.TheVariants.{Nop, Movw, Cpc, Sbc, Add, Cpse, Cp, Sub, Adc, And, Eor}
@@ -30,10 +31,11 @@ pub data Kind : Type 0 where
   Stacked : Kind
   Barred : Kind
 
--- What is outside the code: the flash, the word of each label (65,536 or more for one that has none), the address of
+-- What is outside the code: the core, the flash, the word of each label (65,536 or more for one that has none), the address of
 -- each byte of an object, the base, which is the address that Y holds all along (65,536 or more where Y is free), what
 -- stands at each data address, and what at each address of the flash
 pub record Env : Type 0 where
+  pub core : Core
   pub flash : List ℕ
   pub word_of : ℕ → ℕ
   pub address_of : ℕ → ℕ → ℕ

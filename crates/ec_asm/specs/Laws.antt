@@ -30,19 +30,19 @@ use Rattle.ec_asm.specs.Placed.{IsPlaced}
 -- allowed
 abbrev pub InstructionsFollow : Type 0
 InstructionsFollow =
-    (e : Env) (size : ℕ) (s : State) (v : View) (i : Instr) → Fits e size → Shows e size s.mem v → IsTrue (in_table i)
+    (e : Env) (size : ℕ) (s : State) (v : View) (i : Instr) → Fits e size → Shows e size s.core s.mem v → IsTrue (in_table i)
     → keeps_base e.base i ≡ true → (change e i v).safe ≡ true → Follows e size i s v
 
 -- the machine's run is that of the view, where all accesses are allowed
 abbrev pub MachineRunsAsView : Type 0
 MachineRunsAsView =
-    (e : Env) (size m : ℕ) (s : State) (v : View) → Fits e size → Shows e size s.mem v
+    (e : Env) (size m : ℕ) (s : State) (v : View) → Fits e size → Shows e size s.core s.mem v
     → RunsAs e size m v s (run e m (Running s.pc v))
 
 -- and in it every byte that is pushed or popped is one of the stack's
 abbrev pub StackStaysInside : Type 0
 StackStaysInside =
-    (e : Env) (size m k : ℕ) (s t : State) (v : View) (trace : List Access) → Fits e size → Shows e size s.mem v
+    (e : Env) (size m k : ℕ) (s t : State) (v : View) (trace : List Access) → Fits e size → Shows e size s.core s.mem v
     → is_safe (run e m (Running s.pc v)) ≡ true → k < m → machine k v.inputs s ≡ MRunning trace t
     → All (λ at. e.kind at ≡ Stacked) (stack_bytes t)
 

@@ -3,6 +3,7 @@ use Rattle.std.specs.Prelude.{◌≡◌, ℕ, ◌+◌, ◌%◌, ◌<◌, ◌≤�
 use Rattle.std.specs.Prelude.{◌∷◌, ◌++◌, slice_index, length, Option, Some, IsTrue, option_and_then}
 use Rattle.ec_space.specs.Bytes.{AreBytes}
 use Rattle.ec_space.specs.Memory.{Memory}
+use Rattle.ec_space.specs.declared.Core.{Core}
 use Rattle.ec_space.specs.declared.space.Bank.TheVariants.{Flash as FlashBank, Data as DataBank}
 use Rattle.ec_isa.specs.declared.instructions.Instr.{Instr}
 use Rattle.ec_avr.specs.declared.machine.Access.{Access}
@@ -21,8 +22,9 @@ use Rattle.ec_asm.specs.Run.{Status, Running, Ended, Stuck}
 abbrev pub HoldsBase : Env → View → Type 0
 HoldsBase e v = e.base < 65536 → pair v.at 28 ≡ e.base
 
--- the banks are those that the view shows
-pub record Shows (e : Env) (size : ℕ) (m : Memory) (v : View) : Type 0 where
+-- the core is the one that the code is for, and the banks are those that the view shows
+pub record Shows (e : Env) (size : ℕ) (core : Core) (m : Memory) (v : View) : Type 0 where
+  pub same : core ≡ e.core
   pub flash : m.flash ≡ e.flash
   pub sized : length m.data ≡ size
   pub bytes : AreBytes m.data
@@ -31,13 +33,13 @@ pub record Shows (e : Env) (size : ℕ) (m : Memory) (v : View) : Type 0 where
   pub feeds : (port k : ℕ) → slice_index (v.inputs port) k < 256
   pub base : HoldsBase e v
 
--- what may stand at an address of a data memory of so many bytes
-abbrev pub may_be : Kind → ℕ → ℕ → Bool
-may_be Own size a = (is_core_register a && not (a == 0x5F)) || (nat_le 256 a && nat_lt a size)
-may_be Object size a = nat_le 256 a && nat_lt a size
-may_be Port size a = is_port a
-may_be Stacked size a = nat_le 256 a && nat_lt a size
-may_be Barred size a = true
+-- what may stand at an address of a core's data memory of so many bytes
+abbrev pub may_be : Core → Kind → ℕ → ℕ → Bool
+may_be core Own size a = (is_core_register core a && not (a == 0x5F)) || (nat_le 256 a && nat_lt a size)
+may_be core Object size a = nat_le 256 a && nat_lt a size
+may_be core Port size a = is_port core a
+may_be core Stacked size a = nat_le 256 a && nat_lt a size
+may_be core Barred size a = true
 
 abbrev pub in_flash : Kind → ℕ → ℕ → Bool
 in_flash Own size a = nat_lt a size
@@ -50,7 +52,7 @@ BarsBase e = e.base < 65536 → (e.kind 28 ≡ Barred) × (e.kind 29 ≡ Barred)
 
 pub record Fits (e : Env) (size : ℕ) : Type 0 where
   pub ports : 256 ≤ size
-  pub kinds : (a : ℕ) → IsTrue (may_be (e.kind a) size a)
+  pub kinds : (a : ℕ) → IsTrue (may_be e.core (e.kind a) size a)
   pub table : (a : ℕ) → IsTrue (in_flash (e.table a) (length e.flash) a)
   pub code : (a : ℕ) → slice_index e.flash a < 256
   pub base : BarsBase e
@@ -80,7 +82,7 @@ pub record Moves (e : Env) (size : ℕ) (v w : View) (to : ℕ) (port : Option �
   pub access : Access
   pub ran : x.stepped ≡ Ran access
   pub pc : x.state.pc ≡ to
-  pub shows : Shows e size x.state.mem w
+  pub shows : Shows e size x.state.core x.state.mem w
   pub seen : w.seen ≡ v.seen ++ noted e access
   pub inputs : w.inputs ≡ inputs_after v.inputs port
 
@@ -105,7 +107,7 @@ pub record GoesOn (e : Env) (size m : ℕ) (v : View) (s : State) (pc : ℕ) (w 
   pub ran : machine m v.inputs s ≡ MRunning trace state
   pub on : (k : ℕ) → machine (m + k) v.inputs s ≡ preceded_by trace (machine k w.inputs state)
   pub at : state.pc ≡ pc
-  pub shows : Shows e size state.mem w
+  pub shows : Shows e size state.core state.mem w
   pub seen : w.seen ≡ v.seen ++ noted_all e trace
 
 -- it ended, with the result that the view shows

@@ -55,7 +55,7 @@ trace_behind (a ∷ trace) run = trace_preceded a (preceded_by trace run) ∙ ap
 
 -- ---- one step
 
-module _ (laws : GuardLaws) (e : Env) (size : ℕ) (fit : Fits e size) (s : State) (v : View) (h : Shows e size s.mem v) where
+module _ (laws : GuardLaws) (e : Env) (size : ℕ) (fit : Fits e size) (s : State) (v : View) (h : Shows e size s.core s.mem v) where
   act_allowed : (i : Instr) (answer : ℕ) → is_safe (act e (Some i) s.pc v) ≡ true → IsStepAllowed e (effect (Some i) answer s).stepped
   unfolding effect
   act_allowed (Jmp k) answer safe = tt
@@ -97,7 +97,7 @@ first_allowed e rest (Fault kind pc) t ok more = tt
 -- ---- runs
 
 module _ (laws : GuardLaws) (e : Env) (size : ℕ) (fit : Fits e size) where
-  one_allowed : (s : State) (v : View) → Shows e size s.mem v → is_safe (step e (Running s.pc v)) ≡ true
+  one_allowed : (s : State) (v : View) → Shows e size s.core s.mem v → is_safe (step e (Running s.pc v)) ≡ true
       → AreAllowed e (trace_of (machine 1 v.inputs s))
   unfolding machine
   one_allowed s v h safe =
@@ -112,7 +112,7 @@ module _ (laws : GuardLaws) (e : Env) (size : ℕ) (fit : Fits e size) where
   left inputs s = (m_step (answer_of inputs (needs_port s)) s).state
 
   -- a step that ends the run is its last
-  last_allowed : (k : ℕ) (s : State) (v : View) → Shows e size s.mem v → is_safe (step e (Running s.pc v)) ≡ true
+  last_allowed : (k : ℕ) (s : State) (v : View) → Shows e size s.core s.mem v → is_safe (step e (Running s.pc v)) ≡ true
       → (trace : List Access) (result : ℤ) → machine 1 v.inputs s ≡ EndedWith trace result
       → AreAllowed e (trace_of (machine (suc k) v.inputs s))
   unfolding machine
@@ -123,9 +123,9 @@ module _ (laws : GuardLaws) (e : Env) (size : ℕ) (fit : Fits e size) where
         none : (a : Access) → MRunning (a ∷ []) (left v.inputs s) ≡ EndedWith trace result → ⊥
         none a z = cc
 
-  module _ (k : ℕ) (ih : (s : State) (v : View) → Shows e size s.mem v → is_safe (run e k (Running s.pc v)) ≡ true
+  module _ (k : ℕ) (ih : (s : State) (v : View) → Shows e size s.core s.mem v → is_safe (run e k (Running s.pc v)) ≡ true
       → AreAllowed e (trace_of (machine k v.inputs s)))
-      (s : State) (v : View) (h : Shows e size s.mem v) (one : is_safe (step e (Running s.pc v)) ≡ true) where
+      (s : State) (v : View) (h : Shows e size s.core s.mem v) (one : is_safe (step e (Running s.pc v)) ≡ true) where
     by_status : (st : Status) → RunsAs e size 1 v s st → is_safe (run e k st) ≡ true → AreAllowed e (trace_of (machine (suc k) v.inputs s))
     by_status (Running pc w) r safe =
         let g = r (safe_before e k (Running pc w) safe) in
@@ -139,7 +139,7 @@ module _ (laws : GuardLaws) (e : Env) (size : ℕ) (fit : Fits e size) where
         let g = r (safe_before e k (Ended w) safe) in last_allowed k s v h one g.trace _ g.ran
     by_status Stuck r safe = absurd (false≢true (safe_before e k Stuck safe))
 
-  all_allowed : (k : ℕ) (s : State) (v : View) → Shows e size s.mem v → is_safe (run e k (Running s.pc v)) ≡ true
+  all_allowed : (k : ℕ) (s : State) (v : View) → Shows e size s.core s.mem v → is_safe (run e k (Running s.pc v)) ≡ true
       → AreAllowed e (trace_of (machine k v.inputs s))
   unfolding machine
   all_allowed zero s v h safe = tt

@@ -6,7 +6,7 @@ use Rattle.std.proofs.lemmas.Bool.Decides.{nat_tests}
 use Rattle.ec_space.specs.declared.space.Bank.TheVariants.{Data as DataBank}
 use Rattle.ec_isa.specs.declared.instructions.Instr.{Instr}
 use Rattle.ec_isa.specs.declared.instructions.Instr.TheVariants.{LddZ, LddY, StdZ, StdY, Lds, Sts, LdX, StX, LpmZ, LdXPlus, LdZPlus}
-use Rattle.ec_isa.specs.declared.instructions.Instr.TheVariants.{StXPlus, StZPlus, LpmZPlus, Pop, Push, In as InInstr, Out as OutInstr}
+use Rattle.ec_isa.specs.declared.instructions.Instr.TheVariants.{StXPlus, StZPlus, LpmZPlus, Elpm, ElpmInc, Pop, Push, In as InInstr, Out as OutInstr}
 use Rattle.ec_isa.specs.declared.instructions.Instr.TheVariants.{Call, Ret, Rcall, LdMinusZ, LdYPlus, LdMinusY, LdMinusX, StMinusZ, StYPlus}
 use Rattle.ec_isa.specs.declared.instructions.Instr.TheVariants.{StMinusY, StMinusX, Icall}
 use Rattle.ec_avr.specs.declared.machine.Access.TheVariants.{Silent, In, Out, Read, Write, Stack}
@@ -15,6 +15,7 @@ use Rattle.ec_avr.specs.declared.machine.Stepped.TheVariants.{Ran, Ended as MEnd
 use Rattle.ec_avr.specs.Effects.{After, effect, load, store, load_access, store_access, load_and_raise, store_and_raise, load_flash}
 use Rattle.ec_avr.specs.Effects.{load_flash_and_raise, push, pop, call, return_from_call}
 use Rattle.ec_avr.specs.Machine.{State}
+use Rattle.ec_space.specs.declared.Core.{Core}
 use Rattle.ec_avr.specs.State.{is_core_register, is_sram, raised, lowered, stack_pointer, pair as m_pair}
 use Rattle.ec_asm.specs.View.{View, pair}
 use Rattle.ec_asm.specs.Change.{Env, Kind, Own, Object, Port, Stacked, Barred, y_of, change, load_by, store_by, flash_by, push_by, pop_by, sp}
@@ -81,44 +82,48 @@ is_stacked Stacked h = refl
 is_stacked Barred h = absurd (false≢true h)
 
 -- above the ports a byte that is used is held
-high_is_held : (k : Kind) (size a : ℕ) → may_be k size a ≡ true → IsUsed k → nat_lt a 256 ≡ false → is_held k ≡ true
-high_is_held Own size a may u high = refl
-high_is_held Object size a may u high = refl
-high_is_held Port size a may u high = absurd (false≢true (sym high ∙ (and_parts (nat_lt a 256) (not (is_core_register a)) may).0))
-high_is_held Stacked size a may u high = absurd u
-high_is_held Barred size a may u high = absurd u
+high_is_held : (core : Core) (k : Kind) (size a : ℕ) → may_be core k size a ≡ true → IsUsed k → nat_lt a 256 ≡ false → is_held k ≡ true
+high_is_held core Own size a may u high = refl
+high_is_held core Object size a may u high = refl
+high_is_held core Port size a may u high = absurd (false≢true (sym high ∙ (and_parts (nat_lt a 256) (not (is_core_register core a)) may).0))
+high_is_held core Stacked size a may u high = absurd u
+high_is_held core Barred size a may u high = absurd u
 
 -- below, but for registers, it is a port
 no_memory : (size a : ℕ) → (nat_le 256 a && nat_lt a size) ≡ true → nat_lt a 256 ≡ true → ⊥
 no_memory size a may low = let p = and_parts (nat_le 256 a) (nat_lt a size) may in grind (arith, nat_tests)
 
-low_is_port : (k : Kind) (size a : ℕ) → may_be k size a ≡ true → IsUsed k → is_core_register a ≡ false → nat_lt a 256 ≡ true → k ≡ Port
-low_is_port Own size a may u core low =
-    absurd (⊎_elim (λ c. false≢true (sym core ∙ (and_parts (is_core_register a) (not (a == 0x5F)) c).0)) (λ h. no_memory size a h low)
-    (or_cases (is_core_register a && not (a == 0x5F)) (nat_le 256 a && nat_lt a size) may))
-low_is_port Object size a may u core low = absurd (no_memory size a may low)
-low_is_port Port size a may u core low = refl
-low_is_port Stacked size a may u core low = absurd u
-low_is_port Barred size a may u core low = absurd u
+low_is_port : (core : Core) (k : Kind) (size a : ℕ) → may_be core k size a ≡ true → IsUsed k → is_core_register core a ≡ false
+    → nat_lt a 256 ≡ true → k ≡ Port
+low_is_port core Own size a may u out low =
+    absurd (⊎_elim (λ c. false≢true (sym out ∙ (and_parts (is_core_register core a) (not (a == 0x5F)) c).0)) (λ h. no_memory size a h low)
+    (or_cases (is_core_register core a && not (a == 0x5F)) (nat_le 256 a && nat_lt a size) may))
+low_is_port core Object size a may u out low = absurd (no_memory size a may low)
+low_is_port core Port size a may u out low = refl
+low_is_port core Stacked size a may u out low = absurd u
+low_is_port core Barred size a may u out low = absurd u
 
-module _ (e : Env) (size : ℕ) (fit : Fits e size) (s : State) (v : View) (h : Shows e size s.mem v) where
+module _ (e : Env) (size : ℕ) (fit : Fits e size) (s : State) (v : View) (h : Shows e size s.core s.mem v) where
   -- ---- families
 
-  load_access_allowed : (a byte : ℕ) → IsUsed (e.kind a) → IsAllowed e (load_access a byte)
-  load_access_allowed a byte u = by_tests (is_core_register a) (nat_lt a 256) refl refl where
-    by_tests : (b c : Bool) → is_core_register a ≡ b → nat_lt a 256 ≡ c
+  may_at : (a : ℕ) → may_be s.core (e.kind a) size a ≡ true
+  may_at a = subst (λ (core : Core). may_be core (e.kind a) size a ≡ true) (sym h.same) (fit.kinds a)
+
+  load_access_allowed : (a byte : ℕ) → IsUsed (e.kind a) → IsAllowed e (load_access s.core a byte)
+  load_access_allowed a byte u = by_tests (is_core_register s.core a) (nat_lt a 256) refl refl where
+    by_tests : (b c : Bool) → is_core_register s.core a ≡ b → nat_lt a 256 ≡ c
         → IsAllowed e (if b then Silent else (if c then In a byte else Read DataBank a byte))
     by_tests true c core low = tt
-    by_tests false true core low = low_is_port (e.kind a) size a (fit.kinds a) u core low
-    by_tests false false core low = (ltb-false a 256 low, high_is_held (e.kind a) size a (fit.kinds a) u low)
+    by_tests false true core low = low_is_port s.core (e.kind a) size a (may_at a) u core low
+    by_tests false false core low = (ltb-false a 256 low, high_is_held s.core (e.kind a) size a (may_at a) u low)
 
-  store_access_allowed : (a byte : ℕ) → IsUsed (e.kind a) → IsAllowed e (store_access a byte)
-  store_access_allowed a byte u = by_tests (is_core_register a) (nat_lt a 256) refl refl where
-    by_tests : (b c : Bool) → is_core_register a ≡ b → nat_lt a 256 ≡ c
+  store_access_allowed : (a byte : ℕ) → IsUsed (e.kind a) → IsAllowed e (store_access s.core a byte)
+  store_access_allowed a byte u = by_tests (is_core_register s.core a) (nat_lt a 256) refl refl where
+    by_tests : (b c : Bool) → is_core_register s.core a ≡ b → nat_lt a 256 ≡ c
         → IsAllowed e (if b then Silent else (if c then Out a byte else Write a byte))
     by_tests true c core low = tt
-    by_tests false true core low = low_is_port (e.kind a) size a (fit.kinds a) u core low
-    by_tests false false core low = (ltb-false a 256 low, high_is_held (e.kind a) size a (fit.kinds a) u low)
+    by_tests false true core low = low_is_port s.core (e.kind a) size a (may_at a) u core low
+    by_tests false false core low = (ltb-false a 256 low, high_is_held s.core (e.kind a) size a (may_at a) u low)
 
   -- one of two outcomes
   where_allowed : (b : Bool) (x y : After) → IsStepAllowed e x.stepped → IsStepAllowed e y.stepped
@@ -240,6 +245,8 @@ module _ (e : Env) (size : ℕ) (fit : Fits e size) (s : State) (v : View) (h : 
   change_allowed (StYPlus r) answer safe = absurd (false≢true safe)
   change_allowed (StMinusY r) answer safe = absurd (false≢true safe)
   change_allowed (StMinusX r) answer safe = absurd (false≢true safe)
+  change_allowed (Elpm d) answer safe = absurd (false≢true safe)
+  change_allowed (ElpmInc d) answer safe = absurd (false≢true safe)
   change_allowed (Call k) answer safe = absurd (false≢true safe)
   change_allowed (Rcall k) answer safe = absurd (false≢true safe)
   change_allowed Icall answer safe = absurd (false≢true safe)

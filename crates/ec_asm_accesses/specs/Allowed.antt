@@ -30,7 +30,7 @@ IsAllowed e Stack = (at : ℕ) × (e.kind at ≡ Stacked)
 -- where the run of the view is safe, so is each access of the machine
 abbrev pub AccessesAreAllowed : Type 0
 AccessesAreAllowed =
-    (e : Env) (size m k : ℕ) (s : State) (v : View) → Fits e size → Shows e size s.mem v
+    (e : Env) (size m k : ℕ) (s : State) (v : View) → Fits e size → Shows e size s.core s.mem v
     → is_safe (run e m (Running s.pc v)) ≡ true → k ≤ m
     → AllByRecursion (IsAllowed e) (trace_of (machine k v.inputs s))
 

@@ -50,6 +50,8 @@ fn leaves_base(instr: Instr) -> bool
         | Instr::LdMinusX { d }
         | Instr::LpmZ { d }
         | Instr::LpmZPlus { d }
+        | Instr::Elpm { d }
+        | Instr::ElpmInc { d }
         | Instr::Pop { d }
         | Instr::Com { d }
         | Instr::Neg { d }

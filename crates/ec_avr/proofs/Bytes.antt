@@ -12,7 +12,7 @@ use Rattle.ec_isa.specs.declared.instructions.Instr.{Instr}
 use Rattle.ec_isa.specs.declared.instructions.Instr.TheVariants.{Nop, Movw, Cpc, Sbc, Add, Cpse, Cp, Sub, Adc, And, Eor, Or, Mov, Mul, Cpi}
 use Rattle.ec_isa.specs.declared.instructions.Instr.TheVariants.{Sbci, Subi, Ori, Andi, Ldi, LddZ, LddY, StdZ, StdY, Lds, Sts, LdZPlus}
 use Rattle.ec_isa.specs.declared.instructions.Instr.TheVariants.{LdMinusZ, LdYPlus, LdMinusY, LdX, LdXPlus, LdMinusX, StZPlus, StMinusZ}
-use Rattle.ec_isa.specs.declared.instructions.Instr.TheVariants.{StYPlus, StMinusY, StX, StXPlus, StMinusX, LpmZ, LpmZPlus, Pop, Push, Com}
+use Rattle.ec_isa.specs.declared.instructions.Instr.TheVariants.{StYPlus, StMinusY, StX, StXPlus, StMinusX, LpmZ, LpmZPlus, Elpm, ElpmInc, Pop, Push, Com}
 use Rattle.ec_isa.specs.declared.instructions.Instr.TheVariants.{Neg, Swap, Inc, Asr, Lsr, Ror, Dec, Bset, Bclr, Ijmp, Icall, Ret, Break}
 use Rattle.ec_isa.specs.declared.instructions.Instr.TheVariants.{Jmp, Call, Adiw, Sbiw, In as InInstr, Out as OutInstr, Rjmp, Rcall, Brbs}
 use Rattle.ec_isa.specs.declared.instructions.Instr.TheVariants.{Brbc, Bld, Bst, Sbrc, Sbrs}
@@ -20,9 +20,10 @@ use Rattle.ec_isa.specs.Formats.{is_register}
 use Rattle.ec_isa.specs.Table.{in_table}
 use Rattle.ec_isa.proofs.InstructionAt.{instruction_is}
 use Rattle.ec_avr.specs.declared.machine.FaultKind.{FaultKind}
-use Rattle.ec_avr.specs.declared.machine.FaultKind.TheVariants.{DataOut, StackOut, PcOut}
+use Rattle.ec_avr.specs.declared.machine.FaultKind.TheVariants.{DataOut, StackOut, PcOut, Unsupported}
 use Rattle.ec_avr.specs.State.{State, word_at, byte_at, with_byte, register, with_register, pair, with_pair, pointer_x, pointer_y}
-use Rattle.ec_avr.specs.State.{pointer_z, stack_pointer, sreg, with_sreg, flag, is_port, is_sram, raised, lowered, with_pc, passed}
+use Rattle.ec_avr.specs.State.{pointer_z, stack_pointer, sreg, with_sreg, flag, is_port, is_sram, raised, lowered, with_pc, passed, rampz}
+use Rattle.ec_avr.specs.State.{has_rampz, far_pointer, with_far_pointer, raised_far}
 use Rattle.ec_avr.specs.Flags.{with_flags, with_bit, byte_sum, sum_flags, byte_difference, difference_flags, logic_flags, complement_flags}
 use Rattle.ec_avr.specs.Flags.{count_flags, shifted, shift_flags, pair_sum, pair_sum_flags, pair_difference, pair_difference_flags}
 use Rattle.ec_avr.specs.Flags.{product_flags}
@@ -60,6 +61,10 @@ holds_pair : (s : State) (at n : ℕ) → HoldsBytes s → n < 65536 → HoldsBy
 holds_pair s at n h small =
     holds_byte (with_byte s at (n % 256)) (at + 1) (n / 256) (holds_byte s at (n % 256) h (omega arith)) (omega arith)
 
+holds_far : (s : State) (n : ℕ) → HoldsBytes s → n < 16777216 → HoldsBytes (with_far_pointer s n)
+holds_far s n h small =
+    holds_byte (with_pair s pointer_z (n % 65536)) rampz (n / 65536) (holds_pair s pointer_z (n % 65536) h (omega arith)) (omega arith)
+
 holds_pc : (s : State) (to : ℕ) → HoldsBytes s → HoldsBytes (with_pc s to)
 holds_pc s to h = record { flash_bytes = h.flash_bytes; data_bytes = h.data_bytes; word_address = omega arith }
 
@@ -67,7 +72,7 @@ holds_passed : (s : State) (words : ℕ) → HoldsBytes s → HoldsBytes (passed
 holds_passed s words h = holds_pc s (s.pc + words) h
 
 holds_stored : (s : State) (at byte : ℕ) → HoldsBytes s → byte < 256 → HoldsBytes (stored s at byte)
-holds_stored s at byte h small = split (is_port at)
+holds_stored s at byte h small = split (is_port s.core at)
   where
     split : (b : Bool) → HoldsBytes (if b then s else with_byte s at byte)
     split true = h
@@ -178,7 +183,7 @@ module _ (s : State) (h : HoldsBytes s) where
   shift_of d top t = let x = byte d in result d _ _ (omega arith) (shift_flags_below (sreg s) (register s d) top (byte 0x5F) (byte d) t)
 
   loaded_below : (at answer : ℕ) → answer < 256 → loaded s at answer < 256
-  loaded_below at answer a = split (is_port at)
+  loaded_below at answer a = split (is_port s.core at)
     where
       split : (b : Bool) → (if b then answer else byte_at s at) < 256
       split true = a
@@ -303,6 +308,15 @@ effect_holds (LpmZPlus d) t answer a s h =
     let at = pair s pointer_z in
     of_test (nat_lt at (length s.mem.flash)) _ DataOut s h
     (holds_passed _ 1 (holds_pair _ pointer_z (raised at) (holds_byte s d (slice_index s.mem.flash at) h (h.flash_bytes at)) (omega arith)))
+effect_holds (Elpm d) t answer a s h =
+    let at = far_pointer s in
+    of_test (has_rampz s.core) _ Unsupported s h
+    (of_test (nat_lt at (length s.mem.flash)) _ DataOut s h (one s h d (slice_index s.mem.flash at) (h.flash_bytes at)))
+effect_holds (ElpmInc d) t answer a s h =
+    let at = far_pointer s in
+    of_test (has_rampz s.core) _ Unsupported s h
+    (of_test (nat_lt at (length s.mem.flash)) _ DataOut s h
+    (holds_passed _ 1 (holds_far _ (raised_far at) (holds_byte s d (slice_index s.mem.flash at) h (h.flash_bytes at)) (omega arith))))
 effect_holds (Push r) t answer a s h =
     let at = stack_pointer s in
     of_test (is_sram s at) _ StackOut s h

@@ -9,16 +9,18 @@ use Rattle.ec_isa.specs.declared.instructions.Instr.{Instr}
 use Rattle.ec_isa.specs.declared.instructions.Instr.TheVariants.{Movw, Cpc, Sbc, Add, Cp, Sub, Adc, And, Eor, Or, Mov, Mul, Cpi, Sbci, Subi}
 use Rattle.ec_isa.specs.declared.instructions.Instr.TheVariants.{Ori, Andi, Ldi, LddZ, LddY, StdZ, StdY, Lds, Sts, LdZPlus, LdMinusZ}
 use Rattle.ec_isa.specs.declared.instructions.Instr.TheVariants.{LdYPlus, LdMinusY, LdX, LdXPlus, LdMinusX, StZPlus, StMinusZ, StYPlus}
-use Rattle.ec_isa.specs.declared.instructions.Instr.TheVariants.{StMinusY, StX, StXPlus, StMinusX, LpmZ, LpmZPlus, Pop, Push, Com, Neg}
+use Rattle.ec_isa.specs.declared.instructions.Instr.TheVariants.{StMinusY, StX, StXPlus, StMinusX, LpmZ, LpmZPlus, Elpm, ElpmInc, Pop, Push, Com, Neg}
 use Rattle.ec_isa.specs.declared.instructions.Instr.TheVariants.{Swap, Inc, Asr, Lsr, Ror, Dec, Bset, Bclr, Icall, Ret, Call, Adiw, Sbiw}
 use Rattle.ec_isa.specs.declared.instructions.Instr.TheVariants.{In as InInstr, Out as OutInstr, Rcall, Bld, Bst}
 use Rattle.ec_isa.specs.Formats.{is_register}
 use Rattle.ec_isa.specs.Table.{in_table}
 use Rattle.ec_avr.specs.declared.machine.FaultKind.{FaultKind}
-use Rattle.ec_avr.specs.declared.machine.FaultKind.TheVariants.{DataOut, StackOut}
+use Rattle.ec_avr.specs.declared.machine.FaultKind.TheVariants.{DataOut, StackOut, Unsupported}
 use Rattle.ec_avr.specs.State.{State, byte_at, with_byte, register, with_register, with_pair, with_sreg, is_port, is_sram, pair, pointer_x}
-use Rattle.ec_avr.specs.State.{pointer_y, pointer_z, stack_pointer, raised, lowered, Keeps}
+use Rattle.ec_avr.specs.State.{pointer_y, pointer_z, stack_pointer, raised, lowered, KeepsBoth, Keeps, rampz, has_rampz, far_pointer, with_far_pointer}
+use Rattle.ec_avr.specs.State.{raised_far}
 use Rattle.ec_space.specs.Memory.{Memory}
+use Rattle.ec_space.specs.declared.Core.{Core}
 use Rattle.ec_avr.specs.Effects.{After, faulted, stored, store, store_and_raise, lower_and_store, call, relative, effect}
 
 -- ---- places that are no ports
@@ -27,17 +29,17 @@ and_false : (b : Bool) → (b && false) ≡ false
 and_false true = refl
 and_false false = refl
 
-register_is_none : (d : ℕ) → IsTrue (is_register d) → is_port d ≡ false
-register_is_none d h = rw h (and_false (nat_lt d 256))
+register_is_none : (core : Core) (d : ℕ) → IsTrue (is_register d) → is_port core d ≡ false
+register_is_none core d h = rw h (and_false (nat_lt d 256))
 
-below_is_none : (d : ℕ) → d < 32 → is_port d ≡ false
-below_is_none d h = register_is_none d (lt-ltb d 32 h)
+below_is_none : (core : Core) (d : ℕ) → d < 32 → is_port core d ≡ false
+below_is_none core d h = register_is_none core d (lt-ltb d 32 h)
 
 not_below : (at : ℕ) (b : Bool) → nat_lt at 256 ≡ b → IsTrue (nat_le 256 at) → nat_lt at 256 ≡ false
 not_below at true e h = let low = ltb-true at 256 e in let high = leb-true 256 at h in absurd (omega arith)
 not_below at false e h = e
 
-sram_is_none : (s : State) (at : ℕ) → IsTrue (is_sram s at) → is_port at ≡ false
+sram_is_none : (s : State) (at : ℕ) → IsTrue (is_sram s at) → is_port s.core at ≡ false
 sram_is_none s at h =
     let p = and_parts (nat_le 256 at) (nat_lt at (length s.mem.data)) h in
     let high = not_below at (nat_lt at 256) refl p.0 in
@@ -45,60 +47,62 @@ sram_is_none s at h =
 
 -- ---- writes
 
-keeps_byte : (s : State) (at byte : ℕ) → is_port at ≡ false → Keeps s.mem (with_byte s at byte).mem
+keeps_byte : (s : State) (at byte : ℕ) → is_port s.core at ≡ false → Keeps s (with_byte s at byte)
 keeps_byte s at byte none = record {
+  same = refl;
   flash = refl;
   size = length-set s.mem.data at byte;
   ports = λ p port.
       let apart : p ≢ at = λ e.
-      let yes : is_port at ≡ true = subst (λ q. is_port q ≡ true) e port in
+      let yes : is_port s.core at ≡ true = subst (λ q. is_port s.core q ≡ true) e port in
       let clash : true ≡ false = sym yes ∙ none in
       cc in
       get_or-set_other s.mem.data at p byte 0 apart;
 }
 
-pub unchanged : (m : Memory) → Keeps m m
-unchanged m = record { flash = refl; size = refl; ports = λ p port. refl }
+pub unchanged : (s : State) → Keeps s s
+unchanged s = record { same = refl; flash = refl; size = refl; ports = λ p port. refl }
 
-followed : {a b c : Memory} → Keeps a b → Keeps b c → Keeps a c
+followed : {k l m : Core} {a b c : Memory} → KeepsBoth k a l b → KeepsBoth l b m c → KeepsBoth k a m c
 followed f g = record {
+  same = g.same ∙ f.same;
   flash = g.flash ∙ f.flash;
   size = g.size ∙ f.size;
-  ports = λ p port. g.ports p port ∙ f.ports p port;
+  ports = λ p port. g.ports p (subst (λ core. IsTrue (is_port core p)) (sym f.same) port) ∙ f.ports p port;
 }
 
-keeps_pair : (s : State) (at n : ℕ) → is_port at ≡ false → is_port (at + 1) ≡ false → Keeps s.mem (with_pair s at n).mem
+keeps_pair : (s : State) (at n : ℕ) → is_port s.core at ≡ false → is_port s.core (at + 1) ≡ false → Keeps s (with_pair s at n)
 keeps_pair s at n low high =
     followed (keeps_byte s at (n % 256) low) (keeps_byte (with_byte s at (n % 256)) (at + 1) (n / 256) high)
 
 -- a register and SREG
-keeps_result : (s : State) (d byte flags : ℕ) → IsTrue (is_register d) → Keeps s.mem (with_sreg (with_register s d byte) flags).mem
+keeps_result : (s : State) (d byte flags : ℕ) → IsTrue (is_register d) → Keeps s (with_sreg (with_register s d byte) flags)
 keeps_result s d byte flags h =
-    followed (keeps_byte s d byte (register_is_none d h)) (keeps_byte (with_byte s d byte) 0x5F flags refl)
+    followed (keeps_byte s d byte (register_is_none s.core d h)) (keeps_byte (with_byte s d byte) 0x5F flags refl)
 
-keeps_pair_result : (s : State) (d n flags : ℕ) → is_port d ≡ false → is_port (d + 1) ≡ false
-    → Keeps s.mem (with_sreg (with_pair s d n) flags).mem
+keeps_pair_result : (s : State) (d n flags : ℕ) → is_port s.core d ≡ false → is_port s.core (d + 1) ≡ false
+    → Keeps s (with_sreg (with_pair s d n) flags)
 keeps_pair_result s d n flags low high =
     followed (keeps_pair s d n low high) (keeps_byte (with_pair s d n) 0x5F flags refl)
 
-keeps_register : (s : State) (d byte : ℕ) → IsTrue (is_register d) → Keeps s.mem (with_register s d byte).mem
-keeps_register s d byte h = keeps_byte s d byte (register_is_none d h)
+keeps_register : (s : State) (d byte : ℕ) → IsTrue (is_register d) → Keeps s (with_register s d byte)
+keeps_register s d byte h = keeps_byte s d byte (register_is_none s.core d h)
 
-keeps_stored : (s : State) (at byte : ℕ) → Keeps s.mem (stored s at byte).mem
-keeps_stored s at byte = split (is_port at) refl
+keeps_stored : (s : State) (at byte : ℕ) → Keeps s (stored s at byte)
+keeps_stored s at byte = split (is_port s.core at) refl
   where
-    split : (b : Bool) → is_port at ≡ b → Keeps s.mem (if b then s else with_byte s at byte).mem
-    split true e = unchanged s.mem
+    split : (b : Bool) → is_port s.core at ≡ b → Keeps s (if b then s else with_byte s at byte)
+    split true e = unchanged s
     split false e = keeps_byte s at byte e
 
 -- a step that is made where a test allows it
-of_test : (can : Bool) (after : After) (kind : FaultKind) (s : State) → (IsTrue can → Keeps s.mem after.state.mem)
-    → Keeps s.mem (if can then after else faulted kind s).state.mem
+of_test : (can : Bool) (after : After) (kind : FaultKind) (s : State) → (IsTrue can → Keeps s after.state)
+    → Keeps s (if can then after else faulted kind s).state
 of_test true after kind s h = h refl
-of_test false after kind s h = unchanged s.mem
+of_test false after kind s h = unchanged s
 
-at_data : (at : ℕ) (after : After) (s : State) → Keeps s.mem after.state.mem
-    → Keeps s.mem (if nat_lt at (length s.mem.data) then after else faulted DataOut s).state.mem
+at_data : (at : ℕ) (after : After) (s : State) → Keeps s after.state
+    → Keeps s (if nat_lt at (length s.mem.data) then after else faulted DataOut s).state
 at_data at after s h = of_test (nat_lt at (length s.mem.data)) after DataOut s (λ _. h)
 
 -- ---- the table: the registers that an instruction names are below 32
@@ -134,44 +138,52 @@ even_below d r h =
     let even = eqb-true (d % 2) 0 q.1 in
     omega arith
 
-pair_of_two : (s : State) (d n : ℕ) → d < 31 → Keeps s.mem (with_pair s d n).mem
-pair_of_two s d n h = keeps_pair s d n (below_is_none d (omega arith)) (below_is_none (d + 1) (omega arith))
+pair_of_two : (s : State) (d n : ℕ) → d < 31 → Keeps s (with_pair s d n)
+pair_of_two s d n h = keeps_pair s d n (below_is_none s.core d (omega arith)) (below_is_none s.core (d + 1) (omega arith))
 
-pair_result : (s : State) (d n flags : ℕ) → d < 31 → Keeps s.mem (with_sreg (with_pair s d n) flags).mem
+pair_result : (s : State) (d n flags : ℕ) → d < 31 → Keeps s (with_sreg (with_pair s d n) flags)
 pair_result s d n flags h =
-    keeps_pair_result s d n flags (below_is_none d (omega arith)) (below_is_none (d + 1) (omega arith))
+    keeps_pair_result s d n flags (below_is_none s.core d (omega arith)) (below_is_none s.core (d + 1) (omega arith))
 
 -- a load that moves a pointer
 loads_and_moves : (s : State) (d byte pointer at : ℕ) → IsTrue (is_register d) → pointer < 31
-    → Keeps s.mem (with_pair (with_register s d byte) pointer at).mem
+    → Keeps s (with_pair (with_register s d byte) pointer at)
 loads_and_moves s d byte pointer at h p =
     followed (keeps_register s d byte h) (pair_of_two (with_register s d byte) pointer at p)
 
+-- a load that moves the far pointer, on a core that has RAMPZ
+loads_and_moves_far : (s : State) (d byte at : ℕ) → IsTrue (is_register d) → IsTrue (has_rampz s.core)
+    → Keeps s (with_far_pointer (with_register s d byte) at)
+loads_and_moves_far s d byte at h has =
+    let moved = with_pair (with_register s d byte) pointer_z (at % 65536) in
+    let none : is_port s.core rampz ≡ false = rw has refl in
+    followed (loads_and_moves s d byte pointer_z (at % 65536) h (omega arith)) (keeps_byte moved rampz (at / 65536) none)
+
 moves_and_loads : (s : State) (d byte pointer at : ℕ) → IsTrue (is_register d) → pointer < 31
-    → Keeps s.mem (with_register (with_pair s pointer at) d byte).mem
+    → Keeps s (with_register (with_pair s pointer at) d byte)
 moves_and_loads s d byte pointer at h p =
     followed (pair_of_two s pointer at p) (keeps_register (with_pair s pointer at) d byte h)
 
-stores_and_moves : (s : State) (to byte pointer at : ℕ) → pointer < 31 → Keeps s.mem (with_pair (stored s to byte) pointer at).mem
+stores_and_moves : (s : State) (to byte pointer at : ℕ) → pointer < 31 → Keeps s (with_pair (stored s to byte) pointer at)
 stores_and_moves s to byte pointer at p =
     followed (keeps_stored s to byte) (pair_of_two (stored s to byte) pointer at p)
 
-moves_and_stores : (s : State) (to byte pointer at : ℕ) → pointer < 31 → Keeps s.mem (stored (with_pair s pointer at) to byte).mem
+moves_and_stores : (s : State) (to byte pointer at : ℕ) → pointer < 31 → Keeps s (stored (with_pair s pointer at) to byte)
 moves_and_stores s to byte pointer at p =
     followed (pair_of_two s pointer at p) (keeps_stored (with_pair s pointer at) to byte)
 
-stores : (s : State) (at byte words : ℕ) → Keeps s.mem (store at byte words s).state.mem
+stores : (s : State) (at byte words : ℕ) → Keeps s (store at byte words s).state
 stores s at byte words = at_data at _ s (keeps_stored s at byte)
 
-stores_and_raises : (s : State) (pointer byte : ℕ) → pointer < 31 → Keeps s.mem (store_and_raise pointer byte s).state.mem
+stores_and_raises : (s : State) (pointer byte : ℕ) → pointer < 31 → Keeps s (store_and_raise pointer byte s).state
 stores_and_raises s pointer byte p =
     let at = pair s pointer in at_data at _ s (stores_and_moves s at byte pointer (raised at) p)
 
-lowers_and_stores : (s : State) (pointer byte : ℕ) → pointer < 31 → Keeps s.mem (lower_and_store pointer byte s).state.mem
+lowers_and_stores : (s : State) (pointer byte : ℕ) → pointer < 31 → Keeps s (lower_and_store pointer byte s).state
 lowers_and_stores s pointer byte p =
     let at = lowered (pair s pointer) in at_data at _ s (moves_and_stores s at byte pointer at p)
 
-calls : (to back : ℕ) (s : State) → Keeps s.mem (call to back s).state.mem
+calls : (to back : ℕ) (s : State) → Keeps s (call to back s).state
 calls to back s =
     let first = stack_pointer s in
     let second = lowered first in
@@ -184,7 +196,7 @@ calls to back s =
     (keeps_byte one second (back / 256 % 256) (sram_is_none s second p.1)))
     (keeps_pair two 0x5D (lowered second) refl refl))
 
-pub keeps : (i : Instr) → IsTrue (in_table i) → (answer : ℕ) (s : State) → Keeps s.mem (effect (Some i) answer s).state.mem
+pub keeps : (i : Instr) → IsTrue (in_table i) → (answer : ℕ) (s : State) → Keeps s (effect (Some i) answer s).state
 unfolding effect
 keeps (Movw d r) h answer s = pair_of_two s d _ (even_below d r h)
 keeps (Mov d r) h answer s = keeps_register s d _ (two d r h)
@@ -245,6 +257,13 @@ keeps (LpmZ d) h answer s =
 keeps (LpmZPlus d) h answer s =
     of_test (nat_lt (pair s pointer_z) (length s.mem.flash)) _ DataOut s
     (λ _. loads_and_moves s d _ pointer_z _ (beside d 30 h) (omega arith))
+keeps (Elpm d) h answer s =
+    of_test (has_rampz s.core) _ Unsupported s
+    (λ has. of_test (nat_lt (far_pointer s) (length s.mem.flash)) _ DataOut s (λ _. keeps_register s d _ h))
+keeps (ElpmInc d) h answer s =
+    of_test (has_rampz s.core) _ Unsupported s
+    (λ has. of_test (nat_lt (far_pointer s) (length s.mem.flash)) _ DataOut s
+    (λ _. loads_and_moves_far s d _ (raised_far (far_pointer s)) (beside d 30 h) has))
 keeps (Push r) h answer s =
     let at = stack_pointer s in
     of_test (is_sram s at) _ StackOut s
@@ -261,4 +280,4 @@ keeps Icall h answer s = calls (pair s pointer_z) (s.pc + 1) s
 keeps Ret h answer s =
     let first = raised (stack_pointer s) in
     of_test (is_sram s first && is_sram s (raised first)) _ StackOut s (λ _. keeps_pair s 0x5D (raised first) refl refl)
-keeps _ h answer s = unchanged s.mem
+keeps _ h answer s = unchanged s

@@ -88,14 +88,14 @@ pub step_keeps : StepKeeps
 unfolding step effect
 step_keeps answer s = by_test (is_whole s) (by_table (instruction_at s s.pc) refl)
   where
-    by_table : (i : Option Instr) → instruction_at s s.pc ≡ i → Keeps s.mem (effect i answer s).state.mem
-    by_table None e = unchanged s.mem
+    by_table : (i : Option Instr) → instruction_at s s.pc ≡ i → Keeps s (effect i answer s).state
+    by_table None e = unchanged s
     by_table (Some i) e = keeps i ((instruction_is i (word_at s s.pc) (word_at s (s.pc + 1))).0 e).in_range answer s
 
-    by_test : (b : Bool) → Keeps s.mem (effect (instruction_at s s.pc) answer s).state.mem
-        → Keeps s.mem (if b then effect (instruction_at s s.pc) answer s else faulted PcOut s).state.mem
+    by_test : (b : Bool) → Keeps s (effect (instruction_at s s.pc) answer s).state
+        → Keeps s (if b then effect (instruction_at s s.pc) answer s else faulted PcOut s).state
     by_test true h = h
-    by_test false h = unchanged s.mem
+    by_test false h = unchanged s
 
 -- ---- the program counter
 

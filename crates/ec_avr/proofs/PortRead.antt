@@ -5,18 +5,18 @@ use Rattle.ec_space.specs.declared.space.Bank.TheVariants.{Data as DataBank}
 use Rattle.ec_isa.specs.declared.instructions.Instr.{Instr}
 use Rattle.ec_isa.specs.declared.instructions.Instr.TheVariants.{LddZ, LddY, StdZ, StdY, Lds, Sts, LdZPlus, LdMinusZ, LdYPlus, LdMinusY}
 use Rattle.ec_isa.specs.declared.instructions.Instr.TheVariants.{LdX, LdXPlus, LdMinusX, StZPlus, StMinusZ, StYPlus, StMinusY, StX, StXPlus}
-use Rattle.ec_isa.specs.declared.instructions.Instr.TheVariants.{StMinusX, LpmZ, LpmZPlus, Pop, Push, Icall, Ret, Call, In as InInstr}
+use Rattle.ec_isa.specs.declared.instructions.Instr.TheVariants.{StMinusX, LpmZ, LpmZPlus, Elpm, ElpmInc, Pop, Push, Icall, Ret, Call, In as InInstr}
 use Rattle.ec_isa.specs.declared.instructions.Instr.TheVariants.{Out as OutInstr, Rcall}
 use Rattle.ec_avr.specs.declared.machine.Access.{Access}
 use Rattle.ec_avr.specs.declared.machine.Access.TheVariants.{Silent, In, Out, Read, Write, Stack}
 use Rattle.ec_avr.specs.declared.machine.FaultKind.{FaultKind}
-use Rattle.ec_avr.specs.declared.machine.FaultKind.TheVariants.{DataOut, PcOut, StackOut}
+use Rattle.ec_avr.specs.declared.machine.FaultKind.TheVariants.{DataOut, PcOut, StackOut, Unsupported}
 use Rattle.ec_avr.specs.declared.machine.Stepped.{Stepped}
 use Rattle.ec_avr.specs.declared.machine.Stepped.TheVariants.{Ran, Ended, Fault}
 use Rattle.ec_avr.specs.State.{State, byte_at, is_core_register, is_sram, pair, with_pair, pointer_x, pointer_y, pointer_z, stack_pointer}
-use Rattle.ec_avr.specs.State.{raised, lowered, register, with_register, passed}
+use Rattle.ec_avr.specs.State.{raised, lowered, register, with_register, passed, has_rampz, far_pointer}
 use Rattle.ec_avr.specs.Effects.{After, faulted, loaded, stored, load, load_and_raise, lower_and_load, store, store_and_raise}
-use Rattle.ec_avr.specs.Effects.{lower_and_store, load_flash, load_flash_and_raise, push, pop, call, return_from_call, relative}
+use Rattle.ec_avr.specs.Effects.{lower_and_store, load_flash, load_flash_and_raise, if_rampz, load_far, load_far_and_raise, push, pop, call, return_from_call, relative}
 use Rattle.ec_avr.specs.Machine.{step, effect, instruction_at, load_address, port_at, port_read, read_access, needs_port, is_whole}
 
 -- a load reads the answer where its address is a port
@@ -53,14 +53,14 @@ of_test false after kind s h = refl
 module _ (s : State) where
   of_load_at : (d at answer words : ℕ) → read_access (load d at answer words s).stepped ≡ option_map (λ (p : ℕ). In p answer) (port_at s at)
   of_load_at d at answer words =
-      of_load (is_core_register at) (nat_lt at 256) (nat_lt at (length s.mem.data)) at answer (byte_at s at)
+      of_load (is_core_register s.core at) (nat_lt at 256) (nat_lt at (length s.mem.data)) at answer (byte_at s at)
       (passed (with_register s d (loaded s at answer)) words) s
 
   of_load_and_raise : (d pointer answer : ℕ)
       → read_access (load_and_raise d pointer answer s).stepped ≡ option_map (λ (p : ℕ). In p answer) (port_at s (pair s pointer))
   of_load_and_raise d pointer answer =
       let at = pair s pointer in
-      of_load (is_core_register at) (nat_lt at 256) (nat_lt at (length s.mem.data)) at answer (byte_at s at)
+      of_load (is_core_register s.core at) (nat_lt at 256) (nat_lt at (length s.mem.data)) at answer (byte_at s at)
       (passed (with_pair (with_register s d (loaded s at answer)) pointer (raised at)) 1) s
 
   of_lower_and_load : (d pointer answer : ℕ)
@@ -68,23 +68,23 @@ module _ (s : State) where
   of_lower_and_load d pointer answer =
       let at = lowered (pair s pointer) in
       let moved = with_pair s pointer at in
-      of_load (is_core_register at) (nat_lt at 256) (nat_lt at (length s.mem.data)) at answer (byte_at moved at)
+      of_load (is_core_register s.core at) (nat_lt at 256) (nat_lt at (length s.mem.data)) at answer (byte_at moved at)
       (passed (with_register moved d (loaded moved at answer)) 1) s
 
   of_store_at : (at byte words : ℕ) → read_access (store at byte words s).stepped ≡ None
   of_store_at at byte words =
-      of_store (is_core_register at) (nat_lt at 256) (nat_lt at (length s.mem.data)) at byte (passed (stored s at byte) words) s
+      of_store (is_core_register s.core at) (nat_lt at 256) (nat_lt at (length s.mem.data)) at byte (passed (stored s at byte) words) s
 
   of_store_and_raise : (pointer byte : ℕ) → read_access (store_and_raise pointer byte s).stepped ≡ None
   of_store_and_raise pointer byte =
       let at = pair s pointer in
-      of_store (is_core_register at) (nat_lt at 256) (nat_lt at (length s.mem.data)) at byte
+      of_store (is_core_register s.core at) (nat_lt at 256) (nat_lt at (length s.mem.data)) at byte
       (passed (with_pair (stored s at byte) pointer (raised at)) 1) s
 
   of_lower_and_store : (pointer byte : ℕ) → read_access (lower_and_store pointer byte s).stepped ≡ None
   of_lower_and_store pointer byte =
       let at = lowered (pair s pointer) in
-      of_store (is_core_register at) (nat_lt at 256) (nat_lt at (length s.mem.data)) at byte
+      of_store (is_core_register s.core at) (nat_lt at 256) (nat_lt at (length s.mem.data)) at byte
       (passed (stored (with_pair s pointer at) at byte) 1) s
 
   of_load_flash : (d : ℕ) → read_access (load_flash d s).stepped ≡ None
@@ -92,6 +92,15 @@ module _ (s : State) where
 
   of_load_flash_and_raise : (d : ℕ) → read_access (load_flash_and_raise d s).stepped ≡ None
   of_load_flash_and_raise d = of_test (nat_lt (pair s pointer_z) (length s.mem.flash)) _ DataOut s refl
+
+  of_rampz : (after : State → After) → read_access (after s).stepped ≡ None → read_access (if_rampz after s).stepped ≡ None
+  of_rampz after h = of_test (has_rampz s.core) (after s) Unsupported s h
+
+  of_load_far : (d : ℕ) → read_access (load_far d s).stepped ≡ None
+  of_load_far d = of_test (nat_lt (far_pointer s) (length s.mem.flash)) _ DataOut s refl
+
+  of_load_far_and_raise : (d : ℕ) → read_access (load_far_and_raise d s).stepped ≡ None
+  of_load_far_and_raise d = of_test (nat_lt (far_pointer s) (length s.mem.flash)) _ DataOut s refl
 
   of_push : (byte : ℕ) → read_access (push byte s).stepped ≡ None
   of_push byte = of_test (is_sram s (stack_pointer s)) _ StackOut s refl
@@ -134,6 +143,8 @@ read_by (Some (StMinusY r)) answer s = of_lower_and_store s pointer_y (register 
 read_by (Some (StMinusX r)) answer s = of_lower_and_store s pointer_x (register s r)
 read_by (Some (LpmZ d)) answer s = of_load_flash s d
 read_by (Some (LpmZPlus d)) answer s = of_load_flash_and_raise s d
+read_by (Some (Elpm d)) answer s = of_rampz s (load_far d) (of_load_far s d)
+read_by (Some (ElpmInc d)) answer s = of_rampz s (load_far_and_raise d) (of_load_far_and_raise s d)
 read_by (Some (Push r)) answer s = of_push s (register s r)
 read_by (Some (Pop d)) answer s = of_pop s d
 read_by (Some (Call k)) answer s = of_call s k (s.pc + 2)

@@ -7,20 +7,21 @@ use Rattle.std.proofs.lemmas.List.{get_or-set_other}
 use Rattle.ec_isa.specs.declared.instructions.Instr.{Instr}
 use Rattle.ec_isa.specs.declared.instructions.Instr.TheVariants.{LddZ, LddY, StdZ, StdY, Lds, Sts, LdZPlus, LdMinusZ, LdYPlus, LdMinusY}
 use Rattle.ec_isa.specs.declared.instructions.Instr.TheVariants.{LdX, LdXPlus, LdMinusX, StZPlus, StMinusZ, StYPlus, StMinusY, StX, StXPlus}
-use Rattle.ec_isa.specs.declared.instructions.Instr.TheVariants.{StMinusX, LpmZ, LpmZPlus, Pop, Push, Icall, Ret, Call, In as InInstr}
+use Rattle.ec_isa.specs.declared.instructions.Instr.TheVariants.{StMinusX, LpmZ, LpmZPlus, Elpm, ElpmInc, Pop, Push, Icall, Ret, Call, In as InInstr}
 use Rattle.ec_isa.specs.declared.instructions.Instr.TheVariants.{Out as OutInstr, Rcall}
 use Rattle.ec_isa.specs.Table.{in_table}
 use Rattle.ec_isa.proofs.InstructionAt.{instruction_is}
 use Rattle.ec_avr.specs.declared.machine.Access.{Access}
 use Rattle.ec_avr.specs.declared.machine.Access.TheVariants.{Silent, In, Out, Read, Write, Stack}
-use Rattle.ec_avr.specs.declared.machine.FaultKind.TheVariants.{DataOut, PcOut, StackOut}
+use Rattle.ec_avr.specs.declared.machine.FaultKind.TheVariants.{DataOut, PcOut, StackOut, Unsupported}
 use Rattle.ec_avr.specs.declared.machine.Stepped.{Stepped}
 use Rattle.ec_avr.specs.declared.machine.Stepped.TheVariants.{Ran}
 use Rattle.ec_space.specs.declared.space.Bank.TheVariants.{Flash as FlashBank, Data as DataBank}
 use Rattle.ec_avr.specs.State.{State, word_at, byte_at, with_byte, register, with_register, pair, with_pair, pointer_x, pointer_y}
-use Rattle.ec_avr.specs.State.{pointer_z, stack_pointer, with_stack_pointer, is_core_register, is_sram, raised, lowered, with_pc, passed}
+use Rattle.ec_avr.specs.State.{pointer_z, stack_pointer, with_stack_pointer, is_core_register, is_sram, raised, lowered, with_pc, passed, has_rampz}
+use Rattle.ec_avr.specs.State.{far_pointer}
 use Rattle.ec_avr.specs.Effects.{After, faulted, loaded, stored, load, load_and_raise, lower_and_load, store, store_and_raise}
-use Rattle.ec_avr.specs.Effects.{lower_and_store, load_flash, load_flash_and_raise, push, pop, call, return_from_call, relative, effect}
+use Rattle.ec_avr.specs.Effects.{lower_and_store, load_flash, load_flash_and_raise, load_far, load_far_and_raise, if_rampz, push, pop, call, return_from_call, relative, effect}
 use Rattle.ec_avr.specs.Effects.{instruction_at}
 use Rattle.ec_avr.specs.Machine.{step, is_whole}
 use Rattle.ec_avr.specs.Placed.{stack_bytes, stack_bytes_of}
@@ -68,39 +69,46 @@ of_flash : (has : Bool) (at byte : ℕ) (moved s : State)
 of_flash true at byte moved s = refl
 of_flash false at byte moved s = refl
 
+of_far : (has inside : Bool) (at byte : ℕ) (moved s : State)
+    → let after : After = if inside then record { stepped = Ran (Read FlashBank at byte); state = moved } else faulted DataOut s in
+    is_stack (if has then after else faulted Unsupported s).stepped ≡ false
+of_far true true at byte moved s = refl
+of_far true false at byte moved s = refl
+of_far false inside at byte moved s = refl
+
 module _ (s : State) where
   of_load_at : (d at answer words : ℕ) → StackStep s (load d at answer words s) []
   of_load_at d at answer words =
-      apart _ (of_load (is_core_register at) (nat_lt at 256) (nat_lt at (length s.mem.data)) at (loaded s at answer)
+      apart _ (of_load (is_core_register s.core at) (nat_lt at 256) (nat_lt at (length s.mem.data)) at (loaded s at answer)
       (passed (with_register s d (loaded s at answer)) words) s)
 
   of_load_and_raise : (d pointer answer : ℕ) → StackStep s (load_and_raise d pointer answer s) []
   of_load_and_raise d pointer answer =
       let at = pair s pointer in
-      apart _ (of_load (is_core_register at) (nat_lt at 256) (nat_lt at (length s.mem.data)) at (loaded s at answer)
+      apart _ (of_load (is_core_register s.core at) (nat_lt at 256) (nat_lt at (length s.mem.data)) at (loaded s at answer)
       (passed (with_pair (with_register s d (loaded s at answer)) pointer (raised at)) 1) s)
 
   of_lower_and_load : (d pointer answer : ℕ) → StackStep s (lower_and_load d pointer answer s) []
   of_lower_and_load d pointer answer =
       let at = lowered (pair s pointer) in
       let moved = with_pair s pointer at in
-      apart _ (of_load (is_core_register at) (nat_lt at 256) (nat_lt at (length s.mem.data)) at (loaded moved at answer)
+      apart _ (of_load (is_core_register s.core at) (nat_lt at 256) (nat_lt at (length s.mem.data)) at (loaded moved at answer)
       (passed (with_register moved d (loaded moved at answer)) 1) s)
 
   of_store_at : (at byte words : ℕ) → StackStep s (store at byte words s) []
   of_store_at at byte words =
-      apart _ (of_store (is_core_register at) (nat_lt at 256) (nat_lt at (length s.mem.data)) at byte (passed (stored s at byte) words) s)
+      apart _ (of_store (is_core_register s.core at) (nat_lt at 256) (nat_lt at (length s.mem.data)) at byte (passed (stored s at byte) words) s)
 
   of_store_and_raise : (pointer byte : ℕ) → StackStep s (store_and_raise pointer byte s) []
   of_store_and_raise pointer byte =
       let at = pair s pointer in
-      apart _ (of_store (is_core_register at) (nat_lt at 256) (nat_lt at (length s.mem.data)) at byte
+      apart _ (of_store (is_core_register s.core at) (nat_lt at 256) (nat_lt at (length s.mem.data)) at byte
       (passed (with_pair (stored s at byte) pointer (raised at)) 1) s)
 
   of_lower_and_store : (pointer byte : ℕ) → StackStep s (lower_and_store pointer byte s) []
   of_lower_and_store pointer byte =
       let at = lowered (pair s pointer) in
-      apart _ (of_store (is_core_register at) (nat_lt at 256) (nat_lt at (length s.mem.data)) at byte
+      apart _ (of_store (is_core_register s.core at) (nat_lt at 256) (nat_lt at (length s.mem.data)) at byte
       (passed (stored (with_pair s pointer at) at byte) 1) s)
 
   of_load_flash : (d : ℕ) → StackStep s (load_flash d s) []
@@ -108,6 +116,12 @@ module _ (s : State) where
 
   of_load_flash_and_raise : (d : ℕ) → StackStep s (load_flash_and_raise d s) []
   of_load_flash_and_raise d = apart _ (of_flash (nat_lt (pair s pointer_z) (length s.mem.flash)) _ _ _ s)
+
+  of_load_far : (d : ℕ) → StackStep s (if_rampz (load_far d) s) []
+  of_load_far d = apart _ (of_far (has_rampz s.core) (nat_lt (far_pointer s) (length s.mem.flash)) _ _ _ s)
+
+  of_load_far_and_raise : (d : ℕ) → StackStep s (if_rampz (load_far_and_raise d) s) []
+  of_load_far_and_raise d = apart _ (of_far (has_rampz s.core) (nat_lt (far_pointer s) (length s.mem.flash)) _ _ _ s)
 
 -- ---- steps that access it
 
@@ -196,6 +210,8 @@ of_effect (StMinusY r) t answer s = of_lower_and_store s pointer_y (register s r
 of_effect (StMinusX r) t answer s = of_lower_and_store s pointer_x (register s r)
 of_effect (LpmZ d) t answer s = of_load_flash s d
 of_effect (LpmZPlus d) t answer s = of_load_flash_and_raise s d
+of_effect (Elpm d) t answer s = of_load_far s d
+of_effect (ElpmInc d) t answer s = of_load_far_and_raise s d
 of_effect (Push r) t answer s = of_push s (register s r)
 of_effect (Pop d) t answer s = of_pop s d (ltb-true d 32 t)
 of_effect (Call k) t answer s = of_call s k (s.pc + 2)

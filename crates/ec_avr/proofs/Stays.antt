@@ -4,11 +4,11 @@ use Rattle.std.specs.Prelude.{if◌then◌else◌}
 use Rattle.ec_isa.specs.declared.instructions.Instr.{Instr}
 use Rattle.ec_isa.specs.declared.instructions.Instr.TheVariants.{LddZ, LddY, StdZ, StdY, Lds, Sts, LdZPlus, LdMinusZ, LdYPlus, LdMinusY}
 use Rattle.ec_isa.specs.declared.instructions.Instr.TheVariants.{LdX, LdXPlus, LdMinusX, StZPlus, StMinusZ, StYPlus, StMinusY, StX, StXPlus}
-use Rattle.ec_isa.specs.declared.instructions.Instr.TheVariants.{StMinusX, LpmZ, LpmZPlus, Pop, Push, Icall, Ret, Call, In as InInstr}
+use Rattle.ec_isa.specs.declared.instructions.Instr.TheVariants.{StMinusX, LpmZ, LpmZPlus, Elpm, ElpmInc, Pop, Push, Icall, Ret, Call, In as InInstr}
 use Rattle.ec_isa.specs.declared.instructions.Instr.TheVariants.{Out as OutInstr, Rcall, Break}
 use Rattle.ec_avr.specs.declared.machine.FaultKind.{FaultKind}
-use Rattle.ec_avr.specs.declared.machine.FaultKind.TheVariants.{DataOut, StackOut}
-use Rattle.ec_avr.specs.State.{State, is_sram, pair, pointer_x, pointer_y, pointer_z, stack_pointer, raised, lowered}
+use Rattle.ec_avr.specs.declared.machine.FaultKind.TheVariants.{DataOut, StackOut, Unsupported}
+use Rattle.ec_avr.specs.State.{State, is_sram, pair, pointer_x, pointer_y, pointer_z, stack_pointer, raised, lowered, has_rampz, far_pointer}
 use Rattle.ec_avr.specs.Effects.{After, faulted}
 use Rattle.ec_avr.specs.Machine.{effect, StaysUnlessRan}
 
@@ -51,6 +51,10 @@ stays (Some (StMinusY r)) answer s = at_data (lowered (pair s pointer_y)) _ s tt
 stays (Some (StMinusX r)) answer s = at_data (lowered (pair s pointer_x)) _ s tt
 stays (Some (LpmZ d)) answer s = of_test (nat_lt (pair s pointer_z) (length s.mem.flash)) _ DataOut s tt
 stays (Some (LpmZPlus d)) answer s = of_test (nat_lt (pair s pointer_z) (length s.mem.flash)) _ DataOut s tt
+stays (Some (Elpm d)) answer s =
+    of_test (has_rampz s.core) _ Unsupported s (of_test (nat_lt (far_pointer s) (length s.mem.flash)) _ DataOut s tt)
+stays (Some (ElpmInc d)) answer s =
+    of_test (has_rampz s.core) _ Unsupported s (of_test (nat_lt (far_pointer s) (length s.mem.flash)) _ DataOut s tt)
 stays (Some (Push r)) answer s = of_test (is_sram s (stack_pointer s)) _ StackOut s tt
 stays (Some (Pop d)) answer s = of_test (is_sram s (raised (stack_pointer s))) _ StackOut s tt
 stays (Some (Call k)) answer s = of_test (is_sram s (stack_pointer s) && is_sram s (lowered (stack_pointer s))) _ StackOut s tt

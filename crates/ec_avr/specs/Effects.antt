@@ -9,7 +9,7 @@ use Rattle.ec_isa.specs.declared.instructions.Instr.TheVariants.{Or, Mov, Mul, C
 use Rattle.ec_isa.specs.declared.instructions.Instr.TheVariants.{LddY, StdZ, StdY, Lds, Sts, LdZPlus, LdMinusZ, LdYPlus}
 use Rattle.ec_isa.specs.declared.instructions.Instr.TheVariants.{LdMinusY, LdX, LdXPlus, LdMinusX, StZPlus, StMinusZ}
 use Rattle.ec_isa.specs.declared.instructions.Instr.TheVariants.{StYPlus, StMinusY, StX, StXPlus, StMinusX, LpmZ}
-use Rattle.ec_isa.specs.declared.instructions.Instr.TheVariants.{LpmZPlus, Pop, Push, Com, Neg, Swap, Inc, Asr, Lsr}
+use Rattle.ec_isa.specs.declared.instructions.Instr.TheVariants.{LpmZPlus, Elpm, ElpmInc, Pop, Push, Com, Neg, Swap, Inc, Asr, Lsr}
 use Rattle.ec_isa.specs.declared.instructions.Instr.TheVariants.{Ror, Dec, Bset, Bclr, Ijmp, Icall, Ret, Break, Jmp}
 use Rattle.ec_isa.specs.declared.instructions.Instr.TheVariants.{Call, Adiw, Sbiw, In as InInstr, Out as OutInstr, Rjmp}
 use Rattle.ec_isa.specs.declared.instructions.Instr.TheVariants.{Rcall, Brbs, Brbc, Bld, Bst, Sbrc, Sbrs}
@@ -21,8 +21,10 @@ use Rattle.ec_avr.specs.declared.machine.FaultKind.TheVariants.{Unsupported, Dat
 use Rattle.ec_avr.specs.declared.machine.Stepped.{Stepped}
 use Rattle.ec_avr.specs.declared.machine.Stepped.TheVariants.{Ran, Ended, Fault}
 use Rattle.ec_avr.specs.State.{State, word_at, byte_at, with_byte, register, with_register, pair, with_pair, pointer_x}
-use Rattle.ec_avr.specs.State.{pointer_y, pointer_z, stack_pointer, with_stack_pointer, sreg, with_sreg, flag}
-use Rattle.ec_avr.specs.State.{is_core_register, is_port, is_sram, raised, lowered, with_pc, passed}
+use Rattle.ec_avr.specs.State.{pointer_y, pointer_z, far_pointer, with_far_pointer, raised_far, stack_pointer, with_stack_pointer, sreg}
+use Rattle.ec_avr.specs.State.{with_sreg, flag, has_rampz, is_core_register, is_port, is_sram, raised, lowered, with_pc}
+use Rattle.ec_avr.specs.State.{passed}
+use Rattle.ec_space.specs.declared.Core.{Core}
 use Rattle.ec_avr.specs.Flags.{with_bit, byte_sum, sum_flags, byte_difference, difference_flags, logic_flags}
 use Rattle.ec_avr.specs.Flags.{complement_flags, count_flags, shifted, shift_flags, pair_sum, pair_sum_flags}
 use Rattle.ec_avr.specs.Flags.{pair_difference, pair_difference_flags, product_flags}
@@ -105,25 +107,26 @@ set_bit d b value s = silent (with_register s d (with_bit (register s d) b value
 
 -- the byte that a load gives: at a port its answer, and else the byte that stands there
 abbrev pub loaded : State → (at answer : ℕ) → ℕ
-loaded s at answer = if is_port at then answer else byte_at s at
+loaded s at answer = if is_port s.core at then answer else byte_at s at
 
 -- a store to a port leaves the state as it is
 abbrev pub stored : State → (at byte : ℕ) → State
-stored s at byte = if is_port at then s else with_byte s at byte
+stored s at byte = if is_port s.core at then s else with_byte s at byte
 
-abbrev pub load_access : (at byte : ℕ) → Access
-load_access at byte =
-    if is_core_register at then Silent else (if nat_lt at 256 then In at byte else Read DataBank at byte)
+abbrev pub load_access : Core → (at byte : ℕ) → Access
+load_access core at byte =
+    if is_core_register core at then Silent else (if nat_lt at 256 then In at byte else Read DataBank at byte)
 
-abbrev pub store_access : (at byte : ℕ) → Access
-store_access at byte = if is_core_register at then Silent else (if nat_lt at 256 then Out at byte else Write at byte)
+abbrev pub store_access : Core → (at byte : ℕ) → Access
+store_access core at byte =
+    if is_core_register core at then Silent else (if nat_lt at 256 then Out at byte else Write at byte)
 
 -- Rd is loaded from an address, by an instruction of so many words
 abbrev pub load : (d at answer words : ℕ) → State → After
 load d at answer words s =
     if nat_lt at (length s.mem.data) then
     record {
-      stepped = Ran (load_access at (loaded s at answer));
+      stepped = Ran (load_access s.core at (loaded s at answer));
       state = passed (with_register s d (loaded s at answer)) words;
     }
     else faulted DataOut s
@@ -134,7 +137,7 @@ load_and_raise d pointer answer s =
     let at = pair s pointer in
     if nat_lt at (length s.mem.data) then
     record {
-      stepped = Ran (load_access at (loaded s at answer));
+      stepped = Ran (load_access s.core at (loaded s at answer));
       state = passed (with_pair (with_register s d (loaded s at answer)) pointer (raised at)) 1;
     }
     else faulted DataOut s
@@ -146,7 +149,7 @@ lower_and_load d pointer answer s =
     let moved = with_pair s pointer at in
     if nat_lt at (length s.mem.data) then
     record {
-      stepped = Ran (load_access at (loaded moved at answer));
+      stepped = Ran (load_access s.core at (loaded moved at answer));
       state = passed (with_register moved d (loaded moved at answer)) 1;
     }
     else faulted DataOut s
@@ -155,7 +158,7 @@ lower_and_load d pointer answer s =
 abbrev pub store : (at byte words : ℕ) → State → After
 store at byte words s =
     if nat_lt at (length s.mem.data) then
-    record { stepped = Ran (store_access at byte); state = passed (stored s at byte) words }
+    record { stepped = Ran (store_access s.core at byte); state = passed (stored s at byte) words }
     else faulted DataOut s
 
 -- a byte is stored by the old pointer, and then the pointer is the old one plus 1, whatever the store wrote to it
@@ -163,7 +166,7 @@ abbrev pub store_and_raise : (pointer byte : ℕ) → State → After
 store_and_raise pointer byte s =
     let at = pair s pointer in
     if nat_lt at (length s.mem.data) then
-    record { stepped = Ran (store_access at byte); state = passed (with_pair (stored s at byte) pointer (raised at)) 1 }
+    record { stepped = Ran (store_access s.core at byte); state = passed (with_pair (stored s at byte) pointer (raised at)) 1 }
     else faulted DataOut s
 
 -- the pointer falls by 1, and then a byte is stored by the new pointer
@@ -171,7 +174,7 @@ abbrev pub lower_and_store : (pointer byte : ℕ) → State → After
 lower_and_store pointer byte s =
     let at = lowered (pair s pointer) in
     if nat_lt at (length s.mem.data) then
-    record { stepped = Ran (store_access at byte); state = passed (stored (with_pair s pointer at) at byte) 1 }
+    record { stepped = Ran (store_access s.core at byte); state = passed (stored (with_pair s pointer at) at byte) 1 }
     else faulted DataOut s
 
 -- Rd is loaded from flash by Z
@@ -192,6 +195,31 @@ load_flash_and_raise d s =
     record {
       stepped = Ran (Read FlashBank at byte);
       state = passed (with_pair (with_register s d byte) pointer_z (raised at)) 1;
+    }
+    else faulted DataOut s
+
+-- a step that needs RAMPZ, where the core has it
+abbrev pub if_rampz : (State → After) → State → After
+if_rampz after s = if has_rampz s.core then after s else faulted Unsupported s
+
+-- Rd is loaded from flash by RAMPZ:Z
+abbrev pub load_far : ℕ → State → After
+load_far d s =
+    let at = far_pointer s in
+    let byte = slice_index s.mem.flash at in
+    if nat_lt at (length s.mem.flash) then
+    record { stepped = Ran (Read FlashBank at byte); state = passed (with_register s d byte) 1 }
+    else faulted DataOut s
+
+-- Rd is loaded from flash by the old RAMPZ:Z, and then RAMPZ:Z rises by 1
+abbrev pub load_far_and_raise : ℕ → State → After
+load_far_and_raise d s =
+    let at = far_pointer s in
+    let byte = slice_index s.mem.flash at in
+    if nat_lt at (length s.mem.flash) then
+    record {
+      stepped = Ran (Read FlashBank at byte);
+      state = passed (with_far_pointer (with_register s d byte) (raised_far at)) 1;
     }
     else faulted DataOut s
 
@@ -332,6 +360,8 @@ effect (Some (StMinusY r)) answer s = lower_and_store pointer_y (register s r) s
 effect (Some (StMinusX r)) answer s = lower_and_store pointer_x (register s r) s
 effect (Some (LpmZ d)) answer s = load_flash d s
 effect (Some (LpmZPlus d)) answer s = load_flash_and_raise d s
+effect (Some (Elpm d)) answer s = if_rampz (load_far d) s
+effect (Some (ElpmInc d)) answer s = if_rampz (load_far_and_raise d) s
 effect (Some (Push r)) answer s = push (register s r) s
 effect (Some (Pop d)) answer s = pop d s
 effect (Some (Call k)) answer s = call k (s.pc + 2) s

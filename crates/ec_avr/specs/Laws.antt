@@ -53,9 +53,9 @@ NeedsByInstruction =
     (s : State) (i : Instr) → IsTrue (is_whole s) → instruction_at s s.pc ≡ Some i
     → needs_port s ≡ option_and_then (port_at s) (load_address (Some i) s)
 
--- a step keeps the flash, the size of the data memory and the bytes at the addresses of ports
+-- a step keeps the core, the flash, the size of the data memory and the bytes at the addresses of ports
 abbrev pub StepKeeps : Type 0
-StepKeeps = (answer : ℕ) (s : State) → Keeps s.mem (step answer s).state.mem
+StepKeeps = (answer : ℕ) (s : State) → Keeps s (step answer s).state
 
 -- ---- the program counter
 

@@ -24,14 +24,14 @@ abbrev pub is_whole : State → Bool
 is_whole s = is_in_flash s s.pc && (not (has_two_words (instruction_at s s.pc)) || is_in_flash s (s.pc + 1))
 
 -- A step, where the port that it reads answers a byte. The fault is the first that holds of these: a word of the
--- instruction lies past the flash, the table has no such instruction, a load or store lies past the memory, a push or
--- pop lies outside the SRAM
+-- instruction lies past the flash, the table has no such instruction or the core has not, a load or store lies past the
+-- memory, a push or pop lies outside the SRAM
 unfoldable pub step : ℕ → State → After
 step answer s = if is_whole s then effect (instruction_at s s.pc) answer s else faulted PcOut s
 
 -- the address, if it is that of a port
 abbrev pub port_at : State → ℕ → Option ℕ
-port_at s at = if is_port at && nat_lt at (length s.mem.data) then Some at else None
+port_at s at = if is_port s.core at && nat_lt at (length s.mem.data) then Some at else None
 
 -- the port that the next step reads
 abbrev pub needs_port : State → Option ℕ
@@ -105,19 +105,21 @@ machine (suc m) inputs s =
     let next = step (answer_of inputs (needs_port s)) s in
     continued (machine m (inputs_after inputs (needs_port s))) next.stepped next.state
 
--- a state after a reset: the flash is given, and registers, SP, SREG and SRAM hold anything
+-- a state after a reset: the core and the flash are given, and registers, SP, SREG, RAMPZ and SRAM hold anything
 pub record IsReset (core : Core) (image : List ℕ) (s : State) : Type 0 where
   pub begin : s.pc ≡ 0
+  pub same : s.core ≡ core
   pub flash : s.mem.flash ≡ image
   pub size : length s.mem.data ≡ data_size core
   pub bytes : AreBytes s.mem.data
 
--- the reset state whose registers, SP, SREG and SRAM hold one byte. No byte stands at a port, where 0 is kept
+-- the reset state whose registers, SP, SREG, RAMPZ and SRAM hold one byte. No byte stands at a port, where 0 is kept
 abbrev pub reset_with : Core → List ℕ → ℕ → State
 reset_with core image fill = record {
+  core = core;
   mem = record {
     flash = image;
-    «data» = map (λ at. if is_port at then 0 else fill) (range_with_len 0 (data_size core));
+    «data» = map (λ at. if is_port core at then 0 else fill) (range_with_len 0 (data_size core));
   };
   pc = 0;
 }

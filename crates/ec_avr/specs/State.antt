@@ -1,13 +1,15 @@
--- The state of the machine and the places in it (Microchip AVR Instruction Set Manual and the data memory map of the
--- ATmega328P).
+-- The state of the machine and the places in it (Microchip AVR Instruction Set Manual and the data memory maps of the
+-- ATmega328P and the ATmega1284P).
 use Rattle.std.specs.Prelude.{◌≡◌, ℕ, ◌+◌, ◌*◌, ◌/◌, ◌%◌, nat_lt, nat_le, Bool, ◌&&◌, IsTrue, length}
 use Rattle.std.specs.Prelude.{slice_index, slice_set}
 use Rattle.std.specs.Int.{bit_at}
+use Rattle.ec_space.specs.declared.Core.{Core}
 use Rattle.ec_space.specs.Memory.{Memory}
-pub use Rattle.ec_isa.specs.Addresses.{is_core_register, is_port, raised, lowered}
+pub use Rattle.ec_isa.specs.Addresses.{has_rampz, is_core_register, is_port, raised, lowered}
 
--- both banks, and the program counter, which counts words. The registers are the first 32 data bytes
+-- the core, both banks, and the program counter, which counts words. The registers are the first 32 data bytes
 pub record State : Type 0 where
+  pub core : Core
   pub mem : Memory
   pub pc : ℕ
 
@@ -50,6 +52,21 @@ pointer_y = 28
 abbrev pub pointer_z : ℕ
 pointer_z = 30
 
+-- the data address of the register RAMPZ
+abbrev pub rampz : ℕ
+rampz = 0x5B
+
+-- the number in RAMPZ:Z, of 24 bits
+abbrev pub far_pointer : State → ℕ
+far_pointer s = 65536 * byte_at s rampz + pair s pointer_z
+
+abbrev pub with_far_pointer : State → ℕ → State
+with_far_pointer s n = with_byte (with_pair s pointer_z (n % 65536)) rampz (n / 65536)
+
+-- the next such number, by modulo 2 to the power of 24
+abbrev pub raised_far : ℕ → ℕ
+raised_far n = (n + 1) % 16777216
+
 -- the stack pointer, in SPH:SPL
 abbrev pub stack_pointer : State → ℕ
 stack_pointer s = pair s 0x5D
@@ -79,8 +96,14 @@ with_pc s to = record s { pc = to % 65536 }
 abbrev pub passed : State → ℕ → State
 passed s words = with_pc s (s.pc + words)
 
--- What no step changes: the flash, the size of the data memory, and the bytes at the addresses of ports
-pub record Keeps (old new : Memory) : Type 0 where
+-- a core and a memory, and what they are later: the same core, flash, size of the data memory, and bytes at the
+-- addresses of ports
+pub record KeepsBoth (core : Core) (old : Memory) (later : Core) (new : Memory) : Type 0 where
+  pub same : later ≡ core
   pub flash : new.flash ≡ old.flash
   pub size : length new.data ≡ length old.data
-  pub ports : (at : ℕ) → IsTrue (is_port at) → slice_index new.data at ≡ slice_index old.data at
+  pub ports : (at : ℕ) → IsTrue (is_port core at) → slice_index new.data at ≡ slice_index old.data at
+
+-- what no step changes
+abbrev pub Keeps : State → State → Type 0
+Keeps old new = KeepsBoth old.core old.mem new.core new.mem

@@ -19,7 +19,7 @@ use std::marker::Model;
 /// What a step accessed, besides the instruction itself.
 #[derive(Clone, Copy, Debug, PartialEq, Eq)]
 pub enum Access {
-    /// Nothing but registers, SP and SREG.
+    /// Nothing but registers, SP, SREG and RAMPZ.
     Silent,
     /// A byte was read from a port.
     In { port: u8, byte: u8 },
@@ -36,7 +36,7 @@ pub enum Access {
 /// Why a step cannot be made.
 #[derive(Clone, Copy, Debug, PartialEq, Eq)]
 pub enum FaultKind {
-    /// The instruction table has no such instruction.
+    /// The instruction table has no such instruction, or the core has not.
     Unsupported,
     /// A word of the instruction lies past the flash.
     PcOut,
@@ -82,7 +82,7 @@ impl PortAnswer {
 
 /// The core with its flash, its data memory and its program counter.
 ///
-/// Contracts see it as a `State`: the memory, and the program counter, which counts words.
+/// Contracts see it as a `State`: the core, the memory, and the program counter, which counts words.
 #[derive(Drop)]
 pub struct Machine {
     core: Core,
@@ -99,7 +99,7 @@ impl Model for Machine {
 
     ghost Value = { State };
 
-    ghost view = { λ m. record { mem = m.memory; pc = m.pc } };
+    ghost view = { λ m. record { core = m.core; mem = m.memory; pc = m.pc } };
 
     ghost invariant = { λ m. IsMade m.core m.memory m.decoded.items };
 }
@@ -109,8 +109,8 @@ impl Machine {
     ghost use Rattle.ec_avr.specs.Machine.{State, step, needs_port, port_at, port_read, StaysUnlessRan, Keeps, byte_of};
     ghost use Rattle.ec_avr.specs.Machine.{is_byte, machine_result, is_whole, instruction_at, IsReset, reset_with};
 
-    /// The machine after a reset: the program counter is 0, the flash is the image's, and the registers, SP, SREG and
-    /// the SRAM hold `fill`. No other call takes memory.
+    /// The machine after a reset: the program counter is 0, the core and the flash are the image's, and the registers, SP,
+    /// SREG, RAMPZ and the SRAM hold `fill`. No other call takes memory.
     pub fn boot(alloc: Global, image: &Image, fill: u8) -> Result<Machine, NoMemory>
         ensures reset { IfOk result (λ s. IsReset image.now.core image.now.bytes.items s) }
         ensures value { IfOk result (λ s. s ≡ reset_with image.now.core image.now.bytes.items fill) }
@@ -130,7 +130,11 @@ impl Machine {
         memory
             .window_mut(Bank::Flash, 0, core.flash_size())
             .copy_from_slice(image.bytes.as_slice());
-        fill_memory(memory.window_mut(Bank::Data, 0, core.data_size()), fill);
+        fill_memory(
+            core,
+            memory.window_mut(Bank::Data, 0, core.data_size()),
+            fill,
+        );
         Ok(Machine {
             core,
             memory,
@@ -176,7 +180,7 @@ impl Machine {
         ensures stepped { result ≡ (step (byte_of answer) self.old).stepped }
         ensures state { self.new ≡ (step (byte_of answer) self.old).state }
         ensures stays { StaysUnlessRan result self.old self.new }
-        ensures keeps { Keeps self.old.mem self.new.mem }
+        ensures keeps { Keeps self.old self.new }
     {
         let found = self.instruction_at(self.pc as u32);
         if !self.is_whole(found) {
@@ -219,7 +223,7 @@ impl Machine {
     fn port_at(&self, at: u16) -> Option<u8>
         ensures { result ≡ port_at self.now at }
     {
-        if is_port(at) && self.has_data(at) {
+        if is_port(self.core, at) && self.has_data(at) {
             Some(at as u8)
         } else {
             None
@@ -237,12 +241,12 @@ impl Machine {
 }
 
 /// Fills all data bytes but those of ports.
-fn fill_memory(bytes: &mut [u8], fill: u8)
+fn fill_memory(core: Core, bytes: &mut [u8], fill: u8)
     ensures { EachIndex bytes.new (λ at. slice_index bytes.new at
-        ≡ (if is_port at then slice_index bytes.old at else fill)) }
+        ≡ (if is_port core at then slice_index bytes.old at else fill)) }
 {
     for (at, byte) in bytes.iter_mut().enumerate() {
-        if 255 < at || !is_port(at as u16) {
+        if 255 < at || !is_port(core, at as u16) {
             *byte = fill;
         }
     }

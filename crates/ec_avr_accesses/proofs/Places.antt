@@ -43,12 +43,12 @@ pub record IsStored (s : State) (at byte : ℕ) (t : State) : Type 0 where
   pub others : (a : ℕ) → 256 ≤ a → a ≢ at → byte_at t a ≡ byte_at s a
 
 pub stores : (s : State) (at byte : ℕ) → at < length s.mem.data → IsStored s at byte (stored s at byte)
-stores s at byte inside = by_port (is_port at) refl
+stores s at byte inside = by_port (is_port s.core at) refl
   where
-    by_port : (b : Bool) → is_port at ≡ b → IsStored s at byte (if b then s else with_byte s at byte)
+    by_port : (b : Bool) → is_port s.core at ≡ b → IsStored s at byte (if b then s else with_byte s at byte)
     by_port true e =
         record {
-          here = λ high. let low = ltb-true at 256 (and_parts (nat_lt at 256) (not (is_core_register at)) e).0 in absurd (omega arith);
+          here = λ high. let low = ltb-true at 256 (and_parts (nat_lt at 256) (not (is_core_register s.core at)) e).0 in absurd (omega arith);
           others = λ a high apart. refl;
         }
     by_port false e =

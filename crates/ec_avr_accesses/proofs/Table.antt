@@ -1,5 +1,5 @@
 -- What each instruction of the table does to the SRAM.
-use Rattle.std.proofs.Common.{◌≡◌, ◌≢◌, ℕ, ◌+◌, ◌%◌, ◌<◌, Bool, true, false, not, ◌&&◌, ◌==◌, List, [], ◌∷◌, Option, Some}
+use Rattle.std.proofs.Common.{◌≡◌, ◌≢◌, ℕ, ◌+◌, ◌/◌, ◌%◌, ◌<◌, Bool, true, false, not, ◌&&◌, ◌==◌, List, [], ◌∷◌, Option, Some}
 use Rattle.std.proofs.Common.{None, refl, length, nat_lt, arith}
 use Rattle.std.specs.Prelude.{IsTrue, if◌then◌else◌, nat_le, ⊤, slice_index}
 use Rattle.std.proofs.lemmas.Bool.{and_parts, ltb-true, ltb-false}
@@ -8,19 +8,21 @@ use Rattle.ec_isa.specs.declared.instructions.Instr.{Instr}
 use Rattle.ec_isa.specs.declared.instructions.Instr.TheVariants.{Movw, Cpc, Sbc, Add, Cp, Sub, Adc, And, Eor, Or, Mov, Mul, Cpi, Sbci, Subi}
 use Rattle.ec_isa.specs.declared.instructions.Instr.TheVariants.{Ori, Andi, Ldi, LddZ, LddY, StdZ, StdY, Lds, Sts, LdZPlus, LdMinusZ}
 use Rattle.ec_isa.specs.declared.instructions.Instr.TheVariants.{LdYPlus, LdMinusY, LdX, LdXPlus, LdMinusX, StZPlus, StMinusZ, StYPlus}
-use Rattle.ec_isa.specs.declared.instructions.Instr.TheVariants.{StMinusY, StX, StXPlus, StMinusX, LpmZ, LpmZPlus, Pop, Push, Com, Neg}
-use Rattle.ec_isa.specs.declared.instructions.Instr.TheVariants.{Swap, Inc, Asr, Lsr, Ror, Dec, Bset, Bclr, Icall, Ret, Call, Adiw, Sbiw}
+use Rattle.ec_isa.specs.declared.instructions.Instr.TheVariants.{StMinusY, StX, StXPlus, StMinusX, LpmZ, LpmZPlus, Elpm, ElpmInc, Pop, Push, Com}
+use Rattle.ec_isa.specs.declared.instructions.Instr.TheVariants.{Neg, Swap, Inc, Asr, Lsr, Ror, Dec, Bset, Bclr, Icall, Ret, Call, Adiw, Sbiw}
 use Rattle.ec_isa.specs.declared.instructions.Instr.TheVariants.{In as InInstr, Out as OutInstr, Rcall, Bld, Bst, Break}
 use Rattle.ec_isa.specs.Formats.{is_register}
 use Rattle.ec_isa.specs.Table.{in_table}
 use Rattle.ec_isa.proofs.InstructionAt.{instruction_is}
 use Rattle.ec_space.specs.declared.space.Bank.TheVariants.{Flash as FlashBank, Data as DataBank}
 use Rattle.ec_avr.specs.declared.machine.Access.TheVariants.{Silent, In, Out, Read, Write, Stack}
-use Rattle.ec_avr.specs.declared.machine.FaultKind.TheVariants.{DataOut, StackOut, PcOut}
+use Rattle.ec_avr.specs.declared.machine.FaultKind.TheVariants.{DataOut, StackOut, PcOut, Unsupported}
 use Rattle.ec_avr.specs.declared.machine.Stepped.{Stepped}
 use Rattle.ec_avr.specs.declared.machine.Stepped.TheVariants.{Ran, Ended, Fault}
 use Rattle.ec_avr.specs.State.{State, word_at, register, with_register, pair, with_pair, pointer_x, pointer_y, pointer_z}
-use Rattle.ec_avr.specs.State.{stack_pointer, is_core_register, is_sram, raised, lowered, passed}
+use Rattle.ec_avr.specs.State.{stack_pointer, is_core_register, is_sram, raised, lowered, passed, has_rampz, far_pointer, with_far_pointer}
+use Rattle.ec_avr.specs.State.{rampz, raised_far}
+use Rattle.ec_space.specs.declared.Core.{Core}
 use Rattle.ec_avr.specs.Effects.{After, faulted, loaded, stored, load, load_and_raise, lower_and_load, store, store_and_raise}
 use Rattle.ec_avr.specs.Effects.{lower_and_store, load_access, store_access, effect, instruction_at}
 use Rattle.ec_avr.specs.Machine.{step, is_whole}
@@ -41,14 +43,14 @@ Told s (Fault kind pc) stacked t = ⊤
 
 -- ---- accesses
 
-core_is_low : (at : ℕ) → is_core_register at ≡ true → at < 256
-core_is_low at h = grind (arith, nat_tests)
+core_is_low : (core : Core) (at : ℕ) → is_core_register core at ≡ true → at < 256
+core_is_low core at h = grind (arith, nat_tests)
 
 stays_below : (s t : State) (at byte : ℕ) → IsStored s at byte t → at < 256 → SramStays s t
 stays_below s t at byte h low a high = h.others a high (λ e. let same : a ≡ at = e in omega (arith, same))
 
-by_load : (s t : State) (at byte : ℕ) → SramStays s t → Told s (Ran (load_access at byte)) [] t
-by_load s t at byte h = by_tests (is_core_register at) (nat_lt at 256)
+by_load : (s t : State) (at byte : ℕ) → SramStays s t → Told s (Ran (load_access s.core at byte)) [] t
+by_load s t at byte h = by_tests (is_core_register s.core at) (nat_lt at 256)
   where
     by_tests : (core low : Bool) → Told s (Ran (if core then Silent else (if low then In at byte else Read DataBank at byte))) [] t
     by_tests true low = h
@@ -56,15 +58,15 @@ by_load s t at byte h = by_tests (is_core_register at) (nat_lt at 256)
     by_tests false false = h
 
 by_store : (s t : State) (at byte : ℕ) → nat_lt at (length s.mem.data) ≡ true → IsStored s at byte t
-    → Told s (Ran (store_access at byte)) [] t
-by_store s t at byte inside h = by_tests (is_core_register at) (nat_lt at 256) refl refl
+    → Told s (Ran (store_access s.core at byte)) [] t
+by_store s t at byte inside h = by_tests (is_core_register s.core at) (nat_lt at 256) refl refl
   where
     in_sram : nat_lt at 256 ≡ false → IsTrue (is_sram s at)
     in_sram low = let high = ltb-false at 256 low in grind (arith, nat_tests)
 
-    by_tests : (core low : Bool) → is_core_register at ≡ core → nat_lt at 256 ≡ low
+    by_tests : (core low : Bool) → is_core_register s.core at ≡ core → nat_lt at 256 ≡ low
         → Told s (Ran (if core then Silent else (if low then Out at byte else Write at byte))) [] t
-    by_tests true low c l = stays_below s t at byte h (core_is_low at c)
+    by_tests true low c l = stays_below s t at byte h (core_is_low s.core at c)
     by_tests false true c l = stays_below s t at byte h (ltb-true at 256 l)
     by_tests false false c l = (in_sram l, h)
 
@@ -165,6 +167,12 @@ module _ (s : State) where
       Told s x.stepped [] x.state
   loads_flash at byte t h = where_told s (nat_lt at (length s.mem.flash)) _ _ [] (λ can. h) tt
 
+  loads_far : (at byte : ℕ) (t : State) → SramStays s t
+      → let inside : After =
+      (if nat_lt at (length s.mem.flash) then record { stepped = Ran (Read FlashBank at byte); state = t } else faulted DataOut s) in
+      let x : After = (if has_rampz s.core then inside else faulted Unsupported s) in Told s x.stepped [] x.state
+  loads_far at byte t h = where_told s (has_rampz s.core) _ _ [] (λ has. loads_flash at byte t h) tt
+
   stacks : (can : Bool) (t : State) (a : ℕ) (rest : List ℕ)
       → let x = (if can then record { stepped = Ran Stack; state = t } else faulted StackOut s) in Told s x.stepped (a ∷ rest) x.state
   stacks can t a rest = where_told s can _ _ (a ∷ rest) (λ c e. cc) tt
@@ -235,6 +243,17 @@ module _ (s : State) where
       loads_flash at byte (passed (with_pair (with_register s d byte) pointer_z (raised at)) 1)
       (through s (with_register s d byte) (with_pair (with_register s d byte) pointer_z (raised at))
       (low_byte s d byte (omega (arith, beside d 30 h))) (low_pair (with_register s d byte) pointer_z (raised at) (omega arith)))
+  of_effect (Elpm d) h answer = loads_far (far_pointer s) _ _ (low_byte s d _ (omega (arith, small d h)))
+  of_effect (ElpmInc d) h answer =
+      let at = far_pointer s in
+      let byte = slice_index s.mem.flash at in
+      let loaded_byte = with_register s d byte in
+      let n = raised_far at in
+      let moved = with_pair loaded_byte pointer_z (n % 65536) in
+      loads_far at byte (passed (with_far_pointer loaded_byte n) 1)
+      (through s loaded_byte (with_far_pointer loaded_byte n) (low_byte s d byte (omega (arith, beside d 30 h)))
+      (through loaded_byte moved (with_far_pointer loaded_byte n) (low_pair loaded_byte pointer_z (n % 65536) (omega arith))
+      (low_byte moved rampz (n / 65536) (omega arith))))
   of_effect (Push r) h answer = stacks (is_sram s (stack_pointer s)) _ _ _
   of_effect (Pop d) h answer = stacks (is_sram s (raised (stack_pointer s))) _ _ _
   of_effect (Call k) h answer = stacks (is_sram s (stack_pointer s) && is_sram s (lowered (stack_pointer s))) _ _ _

@@ -15,7 +15,7 @@ use ec_asm::AsmProgram;
 use ec_asm_based::Reach;
 use ec_core::{Obj, Program, Storage, StructDef, size_of};
 use ec_map::Map;
-use ec_space::{Bank, NoMemory, Place, Seq};
+use ec_space::{Home, NoMemory, Place, Seq};
 use std::alloc::Global;
 
 /// Whether an object stands in data memory: not in flash, and not in named registers.
@@ -24,8 +24,8 @@ fn is_in_memory(obj: &Obj) -> bool
 {
     match (&obj.storage, obj.home) {
         (Storage::Register(_), _) => false,
-        (_, Bank::Data) => true,
-        (_, Bank::Flash) => false,
+        (_, Home::Data) => true,
+        (_, Home::Flash | Home::Far) => false,
     }
 }
 

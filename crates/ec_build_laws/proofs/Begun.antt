@@ -83,10 +83,10 @@ record Loads (e : Env) (end : ℕ) (s : State) (v w : View) : Type 0 where
   state : State
   ran : (k : ℕ) → machine (1 + k) v.inputs s ≡ preceded_by (Silent ∷ []) (machine k v.inputs state)
   at : state.pc ≡ end
-  shows : Shows e 2304 state.mem w
+  shows : Shows e 2304 state.core state.mem w
 
 module _ (laws : BeginLaws) (e : Env) (fit : Fits e 2304) (d n end : ℕ) (s : State) (v : View) (at : At e (Ldi d n) s.pc end)
-    (shows : Shows e 2304 s.mem v) where
+    (shows : Shows e 2304 s.core s.mem v) where
   step_is : (answer : ℕ) → step answer s ≡ effect (Some (Ldi d n)) answer s
   step_is answer =
       let g : (if is_whole s then instruction_at s s.pc else None) ≡ Some (Ldi d n) = rw shows.flash (fetched e s.pc (Ldi d n) at.is).0 in
@@ -121,7 +121,7 @@ module _ (laws : BeginLaws) (e : Env) (fit : Fits e 2304) (d n end : ℕ) (s : S
 -- ---- the whole
 
 module _ (laws : BeginLaws) (e : Env) (word : ℕ) (fit : Fits e 2304) (s : State) (inputs : Inputs) (give : GiveBytes inputs)
-    (shows : Shows (unbased e) 2304 s.mem (view_of s inputs)) (pc : s.pc ≡ 0) where
+    (shows : Shows (unbased e) 2304 s.core s.mem (view_of s inputs)) (pc : s.pc ≡ 0) where
   abbrev u : Env
   u = unbased e
 
@@ -148,6 +148,7 @@ module _ (laws : BeginLaws) (e : Env) (word : ℕ) (fit : Fits e 2304) (s : Stat
     ran = λ k. ap (λ n. machine n inputs s) (zero-add k);
     at = pc ∙ sym is;
     shows = record {
+      same = shows.same;
       flash = shows.flash;
       sized = shows.sized;
       bytes = shows.bytes;
@@ -199,6 +200,7 @@ module _ (laws : BeginLaws) (e : Env) (word : ℕ) (fit : Fits e 2304) (s : Stat
           ap (λ n. machine n inputs s) sum ∙ one.ran (1 + k) ∙ ap (preceded_by (Silent ∷ [])) (two.ran k);
       at = two.at ∙ sym is;
       shows = record {
+        same = two.shows.same;
         flash = two.shows.flash;
         sized = two.shows.sized;
         bytes = two.shows.bytes;

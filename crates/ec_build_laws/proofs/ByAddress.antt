@@ -10,7 +10,9 @@ use Rattle.ec_space.specs.Memory.{flash_size}
 use Rattle.ec_space.specs.declared.space.Bank.{Bank}
 use Rattle.ec_space.specs.declared.space.Bank.TheVariants.{Flash, Data}
 use Rattle.ec_space.specs.declared.space.Place.{Place}
+use Rattle.ec_space.specs.Spaces.{bank_of}
 use Rattle.ec_avr.specs.State.{is_core_register, is_port}
+use Rattle.ec_space.specs.declared.Core.TheVariants.{Small}
 use Rattle.ec_asm.specs.Change.{Kind, Own, Object, Port, Stacked, Barred}
 use Rattle.ec_asm.specs.Shows.{may_be, in_flash}
 use Rattle.ec_asm.specs.declared.items.AsmProgram.{AsmProgram}
@@ -55,23 +57,23 @@ same_told Data Data h = refl
 
 pub object_there : (bank : Bank) (structs : List PlainStruct) (os : List PlainObject) (qs : List Place) (a i : ℕ) (o : PlainObject)
     (q : Place)
-    → slice_get os i ≡ Some o → slice_get qs i ≡ Some q → o.home ≡ bank → q.offset ≤ a → a < q.offset + size_of_type structs o.ty
+    → slice_get os i ≡ Some o → slice_get qs i ≡ Some q → bank_of o.home ≡ bank → q.offset ≤ a → a < q.offset + size_of_type structs o.ty
     → is_of_objects bank structs os qs a ≡ true
 object_there bank structs [] qs a i o q is at home from below = absurd cc
 object_there bank structs (x ∷ os) [] a i o q is at home from below = absurd cc
 object_there bank structs (x ∷ os) (y ∷ qs) a zero o q is at home from below =
     let s : x ≡ o = cc in
     let t : y ≡ q = cc in
-    let h : x.home ≡ bank = ap (λ z. z.home) s ∙ home in
+    let h : bank_of x.home ≡ bank = ap (λ z. bank_of z.home) s ∙ home in
     let f : y.offset ≤ a = subst (λ z. z.offset ≤ a) (sym t) from in
     let b : a < y.offset + size_of_type structs x.ty =
     subst (λ z. a < z.offset + size_of_type structs x.ty) (sym t)
     (subst (λ z. a < q.offset + size_of_type structs z.ty) (sym s) below) in
-    or_left (same_bank x.home bank && is_byte_of y.offset (size_of_type structs x.ty) a) (is_of_objects bank structs os qs a)
-    (and_from (same_bank x.home bank) (is_byte_of y.offset (size_of_type structs x.ty) a) (rw h (same_itself bank))
+    or_left (same_bank (bank_of x.home) bank && is_byte_of y.offset (size_of_type structs x.ty) a) (is_of_objects bank structs os qs a)
+    (and_from (same_bank (bank_of x.home) bank) (is_byte_of y.offset (size_of_type structs x.ty) a) (rw h (same_itself bank))
     (byte_there y.offset (size_of_type structs x.ty) a f b))
 object_there bank structs (x ∷ os) (y ∷ qs) a (suc i) o q is at home from below =
-    or_right (same_bank x.home bank && is_byte_of y.offset (size_of_type structs x.ty) a) (is_of_objects bank structs os qs a)
+    or_right (same_bank (bank_of x.home) bank && is_byte_of y.offset (size_of_type structs x.ty) a) (is_of_objects bank structs os qs a)
     (object_there bank structs os qs a i o q is at home from below)
 
 -- one of some objects, with its number
@@ -80,7 +82,7 @@ record Found (bank : Bank) (structs : List PlainStruct) (os : List PlainObject) 
   o : PlainObject
   q : Place
   object : slice_get os i ≡ Some o
-  home : o.home ≡ bank
+  home : bank_of o.home ≡ bank
   place : slice_get qs i ≡ Some q
   from_there : q.offset ≤ a
   below : a < q.offset + size_of_type structs o.ty
@@ -93,13 +95,13 @@ object_told bank structs (x ∷ os) [] a h = absurd (false≢true h)
 object_told bank structs (x ∷ os) (y ∷ qs) a h =
     ⊎_elim
     (λ here.
-    let (home, byte) = and_parts (same_bank x.home bank) (is_byte_of y.offset (size_of_type structs x.ty) a) here in
+    let (home, byte) = and_parts (same_bank (bank_of x.home) bank) (is_byte_of y.offset (size_of_type structs x.ty) a) here in
     let (from, below) = byte_told y.offset (size_of_type structs x.ty) a byte in
-    record { i = 0; o = x; q = y; object = refl; home = same_told x.home bank home; place = refl; from_there = from; below = below })
+    record { i = 0; o = x; q = y; object = refl; home = same_told (bank_of x.home) bank home; place = refl; from_there = from; below = below })
     (λ more.
     let f = object_told bank structs os qs a more in
     record { i = suc f.i; o = f.o; q = f.q; object = f.object; home = f.home; place = f.place; from_there = f.from_there; below = f.below })
-    (or_cases (same_bank x.home bank && is_byte_of y.offset (size_of_type structs x.ty) a) (is_of_objects bank structs os qs a) h)
+    (or_cases (same_bank (bank_of x.home) bank && is_byte_of y.offset (size_of_type structs x.ty) a) (is_of_objects bank structs os qs a) h)
 
 -- ---- scratch memory
 
@@ -144,11 +146,11 @@ high_kind : (p : PlainProgram) (m : Map) (asm : AsmProgram) (l : Located) (a : �
     ≡ memory_kind p m asm l a
 high_kind p m asm l a h k = rw (le-ltb a 256 h, lt-ltb a 2304 k) refl
 
-pub core_is_low : (a : ℕ) → is_core_register a ≡ true → a < 256
+pub core_is_low : (a : ℕ) → is_core_register Small a ≡ true → a < 256
 core_is_low a h = grind arith
 
-pub port_is_none : (a : ℕ) → is_port a ≡ true → (a < 256) × (is_core_register a ≡ false)
-port_is_none a h = let (l, n) = and_parts (nat_lt a 256) (not (is_core_register a)) h in (ltb-true a 256 l, not-true (is_core_register a) n)
+pub port_is_none : (a : ℕ) → is_port Small a ≡ true → (a < 256) × (is_core_register Small a ≡ false)
+port_is_none a h = let (l, n) = and_parts (nat_lt a 256) (not (is_core_register Small a)) h in (ltb-true a 256 l, not-true (is_core_register Small a) n)
 
 -- SREG is hidden
 not_sreg : (a : ℕ) → is_hidden a ≡ false → (a == 0x5F) ≡ false
@@ -246,16 +248,16 @@ module _ (p : PlainProgram) (m : Map) (asm : AsmProgram) (l : Located) (map_vali
         high_kind p m asm l a (omega (arith, low, first)) (omega (arith, high, ends))
         ∙ rw (none, no_scratch, no_work, byte_there m.stack.first m.stack.size a low high) refl
 
-    registers : (a : ℕ) → is_core_register a ≡ true → is_hidden a ≡ false → kinds p m asm l a ≡ Own
-    registers a h seen = low_kind p m asm l a (core_is_low a h) ∙ own_if (is_hidden a) (is_core_register a) seen h
+    registers : (a : ℕ) → is_core_register Small a ≡ true → is_hidden a ≡ false → kinds p m asm l a ≡ Own
+    registers a h seen = low_kind p m asm l a (core_is_low a h) ∙ own_if (is_hidden a) (is_core_register Small a) seen h
 
-    ports : (a : ℕ) → is_port a ≡ true → kinds p m asm l a ≡ Port
+    ports : (a : ℕ) → is_port Small a ≡ true → kinds p m asm l a ≡ Port
     ports a h =
         let k = port_is_none a h in
-        let sreg : (a == 0x5F) ≡ false = ne_eqb a 0x5F (λ e. true≢false (subst (λ n. is_core_register n ≡ false) e k.1)) in
-        let low : (a == 28) ≡ false = ne_eqb a 28 (λ e. true≢false (subst (λ n. is_core_register n ≡ false) e k.1)) in
-        let high : (a == 29) ≡ false = ne_eqb a 29 (λ e. true≢false (subst (λ n. is_core_register n ≡ false) e k.1)) in
-        low_kind p m asm l a k.0 ∙ port_if (is_hidden a) (is_core_register a) (rw (sreg, low, high) refl) k.1
+        let sreg : (a == 0x5F) ≡ false = ne_eqb a 0x5F (λ e. true≢false (subst (λ n. is_core_register Small n ≡ false) e k.1)) in
+        let low : (a == 28) ≡ false = ne_eqb a 28 (λ e. true≢false (subst (λ n. is_core_register Small n ≡ false) e k.1)) in
+        let high : (a == 29) ≡ false = ne_eqb a 29 (λ e. true≢false (subst (λ n. is_core_register Small n ≡ false) e k.1)) in
+        low_kind p m asm l a k.0 ∙ port_if (is_hidden a) (is_core_register Small a) (rw (sreg, low, high) refl) k.1
 
     -- ---- which addresses are told to be of a kind
 
@@ -263,7 +265,7 @@ module _ (p : PlainProgram) (m : Map) (asm : AsmProgram) (l : Located) (map_vali
     record Tells (a : ℕ) (k : Kind) : Type 0 where
       object : k ≡ Object → is_of_objects Data p.structs p.objects l.places.items a ≡ true
       own : k ≡ Own → IsOwnByte asm l a
-      port : k ≡ Port → is_port a ≡ true
+      port : k ≡ Port → is_port Small a ≡ true
       stacked : k ≡ Stacked → (m.stack.first ≤ a) × (a < end_of m.stack)
 
     own_memory : (a : ℕ) → (is_of_scratch asm.frames.items l.frames.items a || is_byte_of l.work 64 a) ≡ true → IsOwnByte asm l a
@@ -273,7 +275,7 @@ module _ (p : PlainProgram) (m : Map) (asm : AsmProgram) (l : Located) (map_vali
         (λ u. let w = byte_told l.work 64 a u in of_work a w.0 w.1)
         (or_cases (is_of_scratch asm.frames.items l.frames.items a) (is_byte_of l.work 64 a) h)
 
-    register_tells : (a : ℕ) → a < 256 → (b c : Bool) → is_hidden a ≡ b → is_core_register a ≡ c
+    register_tells : (a : ℕ) → a < 256 → (b c : Bool) → is_hidden a ≡ b → is_core_register Small a ≡ c
         → Tells a (if b then Barred else if c then Own else Port)
     register_tells a low true c q r =
         record { object = λ h. absurd cc; own = λ h. absurd cc; port = λ h. absurd cc; stacked = λ h. absurd cc }
@@ -283,7 +285,7 @@ module _ (p : PlainProgram) (m : Map) (asm : AsmProgram) (l : Located) (map_vali
         record {
           object = λ h. absurd cc;
           own = λ h. absurd cc;
-          port = λ h. and_from (nat_lt a 256) (not (is_core_register a))
+          port = λ h. and_from (nat_lt a 256) (not (is_core_register Small a))
               (lt-ltb a 256 low) (ap not r);
           stacked = λ h. absurd cc;
         }
@@ -307,7 +309,7 @@ module _ (p : PlainProgram) (m : Map) (asm : AsmProgram) (l : Located) (map_vali
     tells : (a : ℕ) → Tells a (kinds p m asm l a)
     tells a = by_tests (nat_lt a 256) (nat_lt a 2304) refl where
       by_tests : (b c : Bool) → nat_lt a 256 ≡ b → Tells a (if b then register_kind a else if c then memory_kind p m asm l a else Barred)
-      by_tests true c q = register_tells a (ltb-true a 256 q) (is_hidden a) (is_core_register a) refl refl
+      by_tests true c q = register_tells a (ltb-true a 256 q) (is_hidden a) (is_core_register Small a) refl refl
       by_tests false true q =
           memory_tells a (is_of_objects Data p.structs p.objects l.places.items a)
           (is_of_scratch asm.frames.items l.frames.items a || is_byte_of l.work 64 a)
@@ -341,16 +343,16 @@ kinds_are_told apart p m asm l valid map_valid asm_valid located =
 
 -- ---- that they suit
 
-pub register_may_be : (a : ℕ) → a < 256 → may_be (register_kind a) 2304 a ≡ true
-register_may_be a low = by_tests (is_hidden a) (is_core_register a) refl refl where
-  by_tests : (b c : Bool) → is_hidden a ≡ b → is_core_register a ≡ c → may_be (if b then Barred else if c then Own else Port) 2304 a ≡ true
+pub register_may_be : (a : ℕ) → a < 256 → may_be Small (register_kind a) 2304 a ≡ true
+register_may_be a low = by_tests (is_hidden a) (is_core_register Small a) refl refl where
+  by_tests : (b c : Bool) → is_hidden a ≡ b → is_core_register Small a ≡ c → may_be Small (if b then Barred else if c then Own else Port) 2304 a ≡ true
   by_tests true c q r = refl
   by_tests false true q r = rw (r, not_sreg a q) refl
   by_tests false false q r = rw (r, lt-ltb a 256 low) refl
 
-pub memory_may_be : (k : Kind) (a : ℕ) → (k ≢ Port) → 256 ≤ a → a < 2304 → may_be k 2304 a ≡ true
+pub memory_may_be : (k : Kind) (a : ℕ) → (k ≢ Port) → 256 ≤ a → a < 2304 → may_be Small k 2304 a ≡ true
 memory_may_be Own a n low high =
-    or_right (is_core_register a && not (a == 0x5F)) (nat_le 256 a && nat_lt a 2304) (rw (le-leb 256 a low, lt-ltb a 2304 high) refl)
+    or_right (is_core_register Small a && not (a == 0x5F)) (nat_le 256 a && nat_lt a 2304) (rw (le-leb 256 a low, lt-ltb a 2304 high) refl)
 memory_may_be Object a n low high = rw (le-leb 256 a low, lt-ltb a 2304 high) refl
 memory_may_be Port a n low high = absurd (n refl)
 memory_may_be Stacked a n low high = rw (le-leb 256 a low, lt-ltb a 2304 high) refl
@@ -362,10 +364,10 @@ memory_is_no_port false true d h = cc
 memory_is_no_port false false true h = cc
 memory_is_no_port false false false h = cc
 
-kinds_may_be : (p : PlainProgram) (m : Map) (asm : AsmProgram) (l : Located) (a : ℕ) → may_be (kinds p m asm l a) 2304 a ≡ true
+kinds_may_be : (p : PlainProgram) (m : Map) (asm : AsmProgram) (l : Located) (a : ℕ) → may_be Small (kinds p m asm l a) 2304 a ≡ true
 kinds_may_be p m asm l a = by_tests (nat_lt a 256) (nat_lt a 2304) refl refl where
   by_tests : (b c : Bool) → nat_lt a 256 ≡ b → nat_lt a 2304 ≡ c
-      → may_be (if b then register_kind a else if c then memory_kind p m asm l a else Barred) 2304 a ≡ true
+      → may_be Small (if b then register_kind a else if c then memory_kind p m asm l a else Barred) 2304 a ≡ true
   by_tests true c q r = register_may_be a (ltb-true a 256 q)
   by_tests false true q r =
       memory_may_be (memory_kind p m asm l a) a

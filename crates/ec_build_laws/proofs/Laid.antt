@@ -12,11 +12,14 @@ use Rattle.std.proofs.lemmas.List.{length-map}
 use Rattle.std.proofs.lemmas.List.Elements.{Contains-append_cases, Contains-push_cases}
 use Rattle.std.proofs.lemmas.Option.{slice_get-map, slice_get_within, get_or_from_slice_get}
 use Rattle.ec_space.specs.ByteLaws.{length-little_endian}
-use Rattle.ec_space.specs.Spaces.{holds, width}
+use Rattle.ec_space.specs.Spaces.{bank_of, holds, width}
 use Rattle.ec_space.specs.declared.space.Bank.{Bank}
 use Rattle.ec_space.specs.declared.space.Bank.TheVariants.{Flash, Data}
+use Rattle.ec_space.specs.declared.space.Home.{Home}
+use Rattle.ec_space.specs.declared.space.Home.TheVariants.{Flash as FlashHome, Far as FarHome, Data as DataHome}
 use Rattle.ec_space.specs.declared.space.Place.{Place}
 use Rattle.ec_avr.specs.State.{is_core_register}
+use Rattle.ec_space.specs.declared.Core.TheVariants.{Small}
 use Rattle.ec_asm.specs.Change.{Env, Kind, Own, Object, Stacked, unbased}
 use Rattle.ec_asm.specs.Items.{HasAt, code_words}
 use Rattle.ec_asm.specs.Laws.{PlacedItemsStand}
@@ -43,6 +46,7 @@ use Rattle.ec_core.specs.Valid.{IsStatic, IsObject, IsStored, IsInitialValue, Ar
 use Rattle.ec_core.specs.declared.programs.LeafInit.{LeafInit}
 use Rattle.ec_core.specs.declared.programs.LeafInit.TheVariants.{Number as TheNumber, Null as TheNull, Address}
 use Rattle.ec_core.specs.declared.values.Value.{Value}
+use Rattle.ec_core.proofs.Homes.{home_in_data}
 use Rattle.ec_ir.specs.Meaning.{start_state, standing}
 use Rattle.ec_ir.specs.Operations.{PlainIr, call_function, PlainIrFunction, PlainIrProgram, data_of}
 use Rattle.ec_ir.specs.Valid.{Results, ValidOperation, ValidIrFunction, called_in, CallsTo, calls, calls_through}
@@ -152,16 +156,23 @@ index_of_initials y last o h =
     )
     (let n = slice_index y.initials o in omega (arith, h))
 
--- ---- static objects of the data bank
+-- ---- static objects of the data bank, and where the values of those in flash are
 
-record IsKept (s : PlainStorage) (home : Bank) : Type 0 where
+values_in_flash : (y : LayoutView) (i : ℕ) (home : Home) → bank_of home ≡ Flash
+    → values_at y i home ≡ unwrap_or (option_map (λ z. z.offset) (slice_get y.places i)) 0
+values_in_flash y i FlashHome h = refl
+values_in_flash y i FarHome h = refl
+values_in_flash y i DataHome h = cc
+
+record IsKept (s : PlainStorage) (home : Home) : Type 0 where
   inits : List LeafInit
   is_static : s ≡ static inits
-  in_data : home ≡ Data
+  in_data : bank_of home ≡ Data
 
-is_kept : (s : PlainStorage) (home : Bank) → has_initial_bytes s home ≡ true → IsKept s home
-is_kept (static inits) Data h = record { inits = inits; is_static = refl; in_data = refl }
-is_kept (static inits) Flash h = absurd (false≢true h)
+is_kept : (s : PlainStorage) (home : Home) → has_initial_bytes s home ≡ true → IsKept s home
+is_kept (static inits) DataHome h = record { inits = inits; is_static = refl; in_data = refl }
+is_kept (static inits) FlashHome h = absurd (false≢true h)
+is_kept (static inits) FarHome h = absurd (false≢true h)
 is_kept (local f) home h = absurd (false≢true h)
 is_kept (param f) home h = absurd (false≢true h)
 is_kept (register r) home h = absurd (false≢true h)
@@ -200,7 +211,7 @@ called_known p results f slots all (i ∷ code) h b c = called_known p results f
 -- what stands at an address is told so that code can stand: registers, scratch memory and the work bytes are code's own,
 -- and objects in either bank, the stack and initial bytes are told to be such
 pub record HasKinds (p : PlainProgram) (m : Map) (asm : AsmProgram) (l : Located) (kind table : ℕ → Kind) : Type 0 where
-  pub registers : (a : ℕ) → is_core_register a ≡ true → is_hidden a ≡ false → kind a ≡ Own
+  pub registers : (a : ℕ) → is_core_register Small a ≡ true → is_hidden a ≡ false → kind a ≡ Own
   pub objects : (a i : ℕ) (o : PlainObject) (q : Place) → IsByteOf p l Data a i o q → IsAddressable o.storage → kind a ≡ Object
   pub scratch : (f frame at a : ℕ) → slice_get asm.frames.items f ≡ Some frame → slice_get l.frames.items f ≡ Some at
       → at ≤ a → a < at + frame_size frame → kind a ≡ Own
@@ -268,12 +279,12 @@ module _ (laws : PlacedLaws) (p : PlainProgram) (m : Map) (asm : AsmProgram) (l 
   offset_is : (o : ℕ) (z : Place) → slice_get l.places.items o ≡ Some z → place_of l o ≡ z.offset
   offset_is o z there = rw there refl
 
-  names : (o : ℕ) (d : PlainObject) → slice_get p.objects o ≡ Some d → d.home ≡ Data → Names p asm l o (place_of l o) (size d)
+  names : (o : ℕ) (d : PlainObject) → slice_get p.objects o ≡ Some d → bank_of d.home ≡ Data → Names p asm l o (place_of l o) (size d)
   names o d is home =
       let z = place_is o d is in
       subst (λ n. Names p asm l o n (size d)) (sym (offset_is o z.0 z.1)) (an_object o d z.0 is home z.1)
 
-  stands_in : (o : ℕ) (d : PlainObject) → slice_get p.objects o ≡ Some d → d.home ≡ Data → StandsIn d.storage (place_of l o) (size d)
+  stands_in : (o : ℕ) (d : PlainObject) → slice_get p.objects o ≡ Some d → bank_of d.home ≡ Data → StandsIn d.storage (place_of l o) (size d)
   stands_in o d is home =
       let z = place_is o d is in
       subst (λ n. StandsIn d.storage n (size d)) (sym (offset_is o z.0 z.1)) (stand.objects o d z.0 is home z.1)
@@ -285,7 +296,7 @@ module _ (laws : PlacedLaws) (p : PlainProgram) (m : Map) (asm : AsmProgram) (l 
   ends (register first) at n i = let u = i.2 in let v = i.0 in omega (arith, u, v)
 
   -- an object in memory
-  in_memory : (o : ℕ) (d : PlainObject) → slice_get p.objects o ≡ Some d → d.home ≡ Data → IsInMemory (place_of l o) (size d)
+  in_memory : (o : ℕ) (d : PlainObject) → slice_get p.objects o ≡ Some d → bank_of d.home ≡ Data → IsInMemory (place_of l o) (size d)
       → ((a : ℕ) → place_of l o ≤ a → a < place_of l o + size d → kind a ≡ Object) → StandsInMemory e o (size d) (place_of l o)
   in_memory o d is home i kind = record {
     high = i.0;
@@ -294,7 +305,7 @@ module _ (laws : PlacedLaws) (p : PlainProgram) (m : Map) (asm : AsmProgram) (l 
     kind = λ k less. kind (place_of l o + k) (omega arith) (omega (arith, less));
   }
 
-  object_kind : (o : ℕ) (d : PlainObject) → slice_get p.objects o ≡ Some d → d.home ≡ Data
+  object_kind : (o : ℕ) (d : PlainObject) → slice_get p.objects o ≡ Some d → bank_of d.home ≡ Data
       →
       ((a : ℕ) → place_of l o ≤ a → a < place_of l o + size d
       → (z : Place) × ((slice_get l.places.items o ≡ Some z) × (z.offset ≤ a) × (a < z.offset + size d)))
@@ -303,7 +314,7 @@ module _ (laws : PlacedLaws) (p : PlainProgram) (m : Map) (asm : AsmProgram) (l 
       let at = offset_is o z.0 z.1 in
       (z.0, (z.1, omega (arith, at, from), omega (arith, at, below)))
 
-  object_stands : (o : ℕ) (d : PlainObject) → slice_get p.objects o ≡ Some d → d.home ≡ Data
+  object_stands : (o : ℕ) (d : PlainObject) → slice_get p.objects o ≡ Some d → bank_of d.home ≡ Data
       → ObjectStands e o (size d) (place_of l o) d.storage
   object_stands o d is home = by_storage d.storage refl (stands_in o d is home) where
     kind_there : (named : IsAddressable d.storage) → (a : ℕ) → place_of l o ≤ a → a < place_of l o + size d → kind a ≡ Object
@@ -319,19 +330,19 @@ module _ (laws : PlacedLaws) (p : PlainProgram) (m : Map) (asm : AsmProgram) (l 
 
   -- ---- objects in flash
 
-  in_flash : (o : ℕ) (d : PlainObject) → slice_get p.objects o ≡ Some d → d.home ≡ Flash
+  in_flash : (o : ℕ) (d : PlainObject) → slice_get p.objects o ≡ Some d → bank_of d.home ≡ Flash
       → (z : Place) × ((z.offset ≡ place_of l o) × IsInFlash p l o d z)
   in_flash o d is home =
       let z = place_is o d is in
       (z.0, (sym (offset_is o z.0 z.1), record { is_object = is; home = home; is_place = z.1 }))
 
-  flash_ends : (o : ℕ) (d : PlainObject) → slice_get p.objects o ≡ Some d → d.home ≡ Flash
+  flash_ends : (o : ℕ) (d : PlainObject) → slice_get p.objects o ≡ Some d → bank_of d.home ≡ Flash
       → (0 < place_of l o) × (place_of l o + size d ≤ 32768)
   flash_ends o d is home =
       let z = in_flash o d is home in
       subst (λ n. (0 < n) × (n + size d ≤ 32768)) z.1.0 (flash_stand.objects o d z.0 z.1.1)
 
-  table_stands : (o : ℕ) (d : PlainObject) → slice_get p.objects o ≡ Some d → d.home ≡ Flash → StandsInFlash e o (size d) (place_of l o)
+  table_stands : (o : ℕ) (d : PlainObject) → slice_get p.objects o ≡ Some d → bank_of d.home ≡ Flash → StandsInFlash e o (size d) (place_of l o)
   table_stands o d is home =
       let z = in_flash o d is home in
       let at = z.1.0 in
@@ -346,8 +357,8 @@ module _ (laws : PlacedLaws) (p : PlainProgram) (m : Map) (asm : AsmProgram) (l 
             (record { object = is; home = home; place = z.1.1.is_place; from_there = omega (arith, at); within = omega (arith, at, less) });
       }
 
-  tables_apart : (o k : ℕ) (d x : PlainObject) → slice_get p.objects o ≡ Some d → d.home ≡ Flash → slice_get p.objects k ≡ Some x
-      → x.home ≡ Flash → o ≢ k → Apart (place_of l o) (size d) (place_of l k) (size x)
+  tables_apart : (o k : ℕ) (d x : PlainObject) → slice_get p.objects o ≡ Some d → bank_of d.home ≡ Flash → slice_get p.objects k ≡ Some x
+      → bank_of x.home ≡ Flash → o ≢ k → Apart (place_of l o) (size d) (place_of l k) (size x)
   tables_apart o k d x od home ox home' other =
       let y = in_flash o d od home in
       let z = in_flash k x ox home' in
@@ -358,8 +369,8 @@ module _ (laws : PlacedLaws) (p : PlainProgram) (m : Map) (asm : AsmProgram) (l 
 
   -- an object of either bank ends below this address
   ends_low : (o : ℕ) (d : PlainObject) → slice_get p.objects o ≡ Some d → place_of l o + size d ≤ 32768
-  ends_low o d is = by_home d.home refl where
-    by_home : (bank : Bank) → d.home ≡ bank → place_of l o + size d ≤ 32768
+  ends_low o d is = by_home (bank_of d.home) refl where
+    by_home : (bank : Bank) → bank_of d.home ≡ bank → place_of l o + size d ≤ 32768
     by_home Data home = let low = ends d.storage (place_of l o) (size d) (stands_in o d is home) in omega (arith, low)
     by_home Flash home = (flash_ends o d is home).1
 
@@ -546,12 +557,12 @@ module _ (laws : PlacedLaws) (p : PlainProgram) (m : Map) (asm : AsmProgram) (l 
   kept_stand o d is k = values.values o d k.inits (record { is_object = is; is_static = k.is_static })
 
   -- in the data bank the values are those in region `tables`, and in flash those at the place of the object
-  kept_at : (o : ℕ) (d : PlainObject) → d.home ≡ Data → values_of p m asm o d ≡ slice_index y.initials o
-  kept_at o d home = rw home refl
+  kept_at : (o : ℕ) (d : PlainObject) → bank_of d.home ≡ Data → values_of p m asm o d ≡ slice_index y.initials o
+  kept_at o d home = rw (home_in_data d.home home) refl
 
-  flash_at : (o : ℕ) (d : PlainObject) → d.home ≡ Flash → values_of p m asm o d ≡ place_of l o
+  flash_at : (o : ℕ) (d : PlainObject) → bank_of d.home ≡ Flash → values_of p m asm o d ≡ place_of l o
   flash_at o d home =
-      ap (values_at y o) home ∙ ap (λ ps. unwrap_or (option_map (λ z. z.offset) (slice_get ps o)) 0) (sym h.located.places)
+      values_in_flash y o d.home home ∙ ap (λ ps. unwrap_or (option_map (λ z. z.offset) (slice_get ps o)) 0) (sym h.located.places)
 
   initial_room : (o : ℕ) (d : PlainObject) → slice_get p.objects o ≡ Some d → has_initial_bytes d.storage d.home ≡ true
       → slice_index y.initials o + size d ≤ 32768
@@ -667,7 +678,7 @@ module _ (laws : PlacedLaws) (p : PlainProgram) (m : Map) (asm : AsmProgram) (l 
 
   kept_of : (leaf : ObjectLeaf (data_of q) Data) (u : Value) → StartsWith Data leaf u
       → has_initial_bytes leaf.declared.storage leaf.declared.home ≡ true
-  kept_of leaf u s = rw (s.is_static, leaf.home) refl
+  kept_of leaf u s = rw (s.is_static, home_in_data leaf.declared.home leaf.home) refl
 
   initials : InitialsStand q e (place_of l)
   initials = record {

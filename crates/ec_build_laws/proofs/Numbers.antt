@@ -7,7 +7,7 @@ use Rattle.std.specs.Int.{cast_unsigned, w128}
 use Rattle.ec_space.specs.Bytes.{little_endian}
 use Rattle.ec_space.specs.Spaces.{width}
 use Rattle.ec_space.specs.declared.space.SpaceId.{SpaceId}
-use Rattle.ec_space.specs.declared.space.SpaceId.TheVariants.{Flash, Data, Generic}
+use Rattle.ec_space.specs.declared.space.SpaceId.TheVariants.{Flash, FarFlash, Data, Generic}
 use Rattle.ec_fx.specs.Formats.{format_of}
 use Rattle.ec_fx.specs.Ranges.{IsWithin}
 use Rattle.ec_fx.specs.declared.formats.FxKind.{FxKind}
@@ -152,4 +152,5 @@ bytes_are_low (struct index) f a n holds bytes = absurd holds
 pub of_pointer : (space : SpaceId) (f : ℕ → ℕ) (a x : ℕ) → AreBytesOf f a (width space) x → value f a (width space) ≡ x % 256 ^ width space
 of_pointer Flash f a x h = two f a x h
 of_pointer Data f a x h = two f a x h
+of_pointer FarFlash f a x h = three f a x h
 of_pointer Generic f a x h = three f a x h

@@ -7,8 +7,8 @@ use Rattle.ec_space.specs.declared.space.Bank.{Bank}
 use Rattle.ec_space.specs.declared.space.Bank.TheVariants.{Flash as FlashBank, Data as DataBank}
 use Rattle.ec_space.specs.declared.space.Place.{Place}
 use Rattle.ec_space.specs.declared.space.SpaceId.{SpaceId}
-use Rattle.ec_space.specs.declared.space.SpaceId.TheVariants.{Flash, Data, Generic}
-use Rattle.ec_space.specs.Spaces.{holds, width}
+use Rattle.ec_space.specs.declared.space.SpaceId.TheVariants.{Flash, FarFlash, Data, Generic}
+use Rattle.ec_space.specs.Spaces.{bank_of, holds, reaches, width}
 use Rattle.ec_asm.specs.Pieces.{value}
 use Rattle.ec_core.specs.Layout.{size_of_type}
 use Rattle.ec_core.specs.Meaning.{initial_value}
@@ -16,6 +16,7 @@ use Rattle.ec_core.specs.Plain.{PlainStorage, static, local, param, register, Pl
 use Rattle.ec_core.specs.Valid.{IsStatic, IsAddressable}
 use Rattle.ec_core.specs.declared.programs.LeafInit.{LeafInit}
 use Rattle.ec_core.specs.declared.programs.LeafInit.TheVariants.{Number, Null, Address}
+use Rattle.ec_core.proofs.Homes.{home_reached}
 use Rattle.ec_ir.specs.Temporaries.{low_bytes}
 use Rattle.ec_locate.specs.Image.{pointer_to}
 use Rattle.ec_select_operations.specs.Pointers.{home_of, address_number, IsPointerSize}
@@ -27,21 +28,25 @@ use Rattle.ec_build_laws.proofs.Numbers.{AreBytesOf, of_pointer}
 width_is : (space : SpaceId) → IsPointerSize (width space)
 width_is Flash = inl refl
 width_is Data = inl refl
+width_is FarFlash = inr refl
 width_is Generic = inr refl
 
 -- the number in the bytes of an initial value is the one of code
-number_by_bank : (space : SpaceId) (bank : Bank) (p : PlainProgram) (place : ℕ → ℕ) (o offset at : ℕ) → IsTrue (holds space bank)
+number_by_bank : (space : SpaceId) (bank : Bank) (p : PlainProgram) (place : ℕ → ℕ) (o offset at : ℕ) → IsTrue (reaches space bank)
     → home_of p o ≡ bank
     → place o ≡ at → at + offset < 65536
     → pointer_to space (Some (record { bank = bank; offset = at })) offset % 256 ^ width space
     ≡ address_number p place (width space) o offset
 number_by_bank Flash FlashBank p place o offset at in_space home there low = rw there (let n = at + offset in omega arith)
 number_by_bank Data DataBank p place o offset at in_space home there low = rw there (let n = at + offset in omega arith)
+number_by_bank FarFlash FlashBank p place o offset at in_space home there low =
+    rw (home, there) (let n = at + offset in omega (arith, low))
 number_by_bank Generic FlashBank p place o offset at in_space home there low =
     rw (home, there) (let n = at + offset in omega (arith, low))
 number_by_bank Generic DataBank p place o offset at in_space home there low =
     rw (home, there) (let n = at + offset in omega (arith, low))
 number_by_bank Flash DataBank p place o offset at in_space home there low = absurd cc
+number_by_bank FarFlash DataBank p place o offset at in_space home there low = absurd cc
 number_by_bank Data FlashBank p place o offset at in_space home there low = absurd cc
 
 addressable : (s : PlainStorage) → IsStatic s → IsAddressable s
@@ -56,7 +61,7 @@ pub record StandsAt (p : PlainProgram) (place : ℕ → ℕ) (o : ℕ) (declared
   pub is_static : IsStatic declared.storage
   pub there : Place
   pub is_there : q ≡ Some there
-  pub bank : there.bank ≡ declared.home
+  pub bank : there.bank ≡ bank_of declared.home
   pub at : place o ≡ there.offset
   pub room : place o + size_of_type p.structs declared.ty < 65536
 
@@ -64,11 +69,13 @@ pub address_held : (p : PlainProgram) (place : ℕ → ℕ) (space : SpaceId) (o
     (f : ℕ → ℕ) (a : ℕ) (s : StandsAt p place o d q) → IsTrue (holds space d.home) → offset ≤ size_of_type p.structs d.ty
     → AreBytesOf f a (width space) (pointer_to space q offset) → HoldsLeaf p place f a (width space) (initial_value (Address o offset))
 address_held p place space o offset d q f a s in_space within bytes =
-    let home : home_of p o ≡ d.home = rw s.is_object refl in
+    let home : home_of p o ≡ bank_of d.home = rw s.is_object refl in
     let room = s.room in
     let at = s.at in
-    let number = number_by_bank space d.home p place o offset s.there.offset in_space home s.at (omega (arith, room, at, within)) in
-    let one : pointer_to space q offset ≡ pointer_to space (Some (record { bank = d.home; offset = s.there.offset })) offset =
+    let number =
+    number_by_bank space (bank_of d.home) p place o offset s.there.offset (home_reached space d.home in_space) home s.at
+    (omega (arith, room, at, within)) in
+    let one : pointer_to space q offset ≡ pointer_to space (Some (record { bank = bank_of d.home; offset = s.there.offset })) offset =
     rw (s.is_there) (ap (λ b. pointer_to space (Some (record { bank = b; offset = s.there.offset })) offset) s.bank) in (
       of_pointer space f a (pointer_to space q offset) bytes ∙ ap (λ n. n % 256 ^ width space) one ∙ number,
       record {

@@ -12,6 +12,7 @@ use Rattle.ec_avr.specs.Laws.{MachineIsRun}
 use Rattle.ec_avr.specs.Machine.{State, Inputs, Running, machine, IsReset}
 use Rattle.ec_avr.specs.Placed.{stack_bytes}
 use Rattle.ec_avr.specs.Runs.{MachineFault, preceded_by}
+use Rattle.ec_space.specs.declared.Core.TheVariants.{Small}
 use Rattle.ec_asm.specs.Behaves.{noted_run}
 use Rattle.ec_asm.specs.Change.{Env, Stacked, unbased}
 use Rattle.ec_asm.specs.Laws.{StackStaysInside}
@@ -52,9 +53,10 @@ pub record ImageLaws : Type 0 where
   pub run : SelectionsRun
 
 reset_shows : (p : PlainProgram) (m : Map) (asm : AsmProgram) (l : Located) (e : Env) (s : State) (inputs : Inputs)
-    → IsTranslated p m asm l → l.image.bytes.items ≡ e.flash → IsReset l.image.core l.image.bytes.items s → GiveBytes inputs
-    → Shows (unbased e) 2304 s.mem (view_of s inputs)
-reset_shows p m asm l e s inputs h flash reset give = record {
+    → IsTranslated p m asm l → l.image.bytes.items ≡ e.flash → Small ≡ e.core → IsReset l.image.core l.image.bytes.items s → GiveBytes inputs
+    → Shows (unbased e) 2304 s.core s.mem (view_of s inputs)
+reset_shows p m asm l e s inputs h flash core reset give = record {
+  same = reset.same ∙ h.located.core ∙ core;
   flash = reset.flash ∙ flash;
   sized = reset.size ∙ ap data_size h.located.core;
   bytes = reset.bytes;
@@ -68,10 +70,10 @@ reset_shows p m asm l e s inputs h flash reset give = record {
 pub runs_as_operations : LoweredIsMadeOf → SelectionsRun → BeginLaws
     → (p : PlainProgram) (m : Map) (asm : AsmProgram) (l : Located) (e : Env) (s : State) (inputs : Inputs)
     → (h : IsTranslated p m asm l) → IsReset l.image.core l.image.bytes.items s → GiveBytes inputs → l.image.bytes.items ≡ e.flash
-    → Fits e 2304 → AreLaidOut p m h.selected asm l e → RunsFromReset p m l e s inputs
-runs_as_operations made selections laws p m asm l e s inputs h reset give flash fit are =
+    → Small ≡ e.core → Fits e 2304 → AreLaidOut p m h.selected asm l e → RunsFromReset p m l e s inputs
+runs_as_operations made selections laws p m asm l e s inputs h reset give flash core fit are =
     let word = are.laid.code.begin in
-    let b = begins laws e word fit s inputs give (reset_shows p m asm l e s inputs h flash reset give) reset.begin are.sets in
+    let b = begins laws e word fit s inputs give (reset_shows p m asm l e s inputs h flash core reset give) reset.begin are.sets in
     record {
       word = word;
       begins = b;
@@ -82,7 +84,7 @@ runs_as_operations made selections laws p m asm l e s inputs h reset give flash 
 
 pub images_run : ImageLaws → ImagesRun
 images_run laws p m asm l s inputs h reset give =
-    runs_as_operations laws.made laws.run laws.begin p m asm l (placed p m asm l) s inputs h reset give refl
+    runs_as_operations laws.made laws.run laws.begin p m asm l (placed p m asm l) s inputs h reset give refl refl
     (laws.fit p m asm l h.located h.bytes) (laws.laid p m asm l h)
 
 -- the steps that are paid are within the work, with the one of BREAK
@@ -161,7 +163,7 @@ runs_as_source follows is_run on_ports inside p m asm l e s inputs h give fit st
       copies = silent_first b.trace r.shows.before b.silent ∙ r.shows.copies;
       reaches = reached;
       view = r.shows.view;
-      shown = subst (λ n. Shows e n r.shows.main.mem r.shows.view) b.shows.sized r.shows.shown;
+      shown = subst (λ n. Shows e n r.shows.main.core r.shows.main.mem r.shows.view) b.shows.sized r.shows.shown;
       given = r.shows.given;
       initials = r.shows.initials;
       safe =

@@ -5,9 +5,10 @@ use Rattle.std.proofs.Common.{None, refl, sym, ap, ◌∙◌, subst, arith, ◌&
 use Rattle.std.specs.Prelude.{slice_get, if◌then◌else◌}
 use Rattle.std.specs.List.{AllByRecursion}
 use Rattle.std.proofs.lemmas.Bool.{or_left, or_right, and_from}
-use Rattle.ec_space.specs.declared.space.Bank.{Bank}
-use Rattle.ec_space.specs.declared.space.Bank.TheVariants.{Flash, Data}
+use Rattle.ec_space.specs.declared.space.Home.{Home}
+use Rattle.ec_space.specs.declared.space.Home.TheVariants.{Flash as FlashHome, Far as FarHome, Data as DataHome}
 use Rattle.ec_space.specs.declared.space.Place.{Place}
+use Rattle.ec_space.specs.Spaces.{bank_of}
 use Rattle.ec_core.specs.Layout.{PlainLeaf, size_of_type}
 use Rattle.ec_core.specs.Plain.{PlainStruct, PlainStorage, static, local, param, register, PlainObject, PlainProgram}
 use Rattle.ec_core.specs.Valid.{EachFrom, IsStatic, IsInitialValue, AreInitialValues}
@@ -48,14 +49,15 @@ place_there structs fixed (x ∷ os) flash at frame k (suc i) o h =
     frame (k + 1) i o h
 
 -- an object that is no named register is placed in its bank
-region_bank : (home : Bank) (flash at : ℕ) → (in_region home flash at).bank ≡ home
-region_bank Flash flash at = refl
-region_bank Data flash at = refl
+region_bank : (home : Home) (flash at : ℕ) → (in_region home flash at).bank ≡ bank_of home
+region_bank FlashHome flash at = refl
+region_bank FarHome flash at = refl
+region_bank DataHome flash at = refl
 
-kept_bank : (fixed : List Fixed1) (external : Bool) (name : List ℕ) (s : PlainStorage) (home : Bank) (flash at : ℕ)
-    (frame : ℕ → ℕ) → IsStatic s → (place_by (kept_by fixed external name s) home flash at frame).bank ≡ home
+kept_bank : (fixed : List Fixed1) (external : Bool) (name : List ℕ) (s : PlainStorage) (home : Home) (flash at : ℕ)
+    (frame : ℕ → ℕ) → IsStatic s → (place_by (kept_by fixed external name s) home flash at frame).bank ≡ bank_of home
 kept_bank fixed external name (static inits) home flash at frame h = by_place external (fixed_place fixed name) where
-  by_place : (b : Bool) (z : Option ℕ) → (place_by (if b then fixed_or_packed z else Packed) home flash at frame).bank ≡ home
+  by_place : (b : Bool) (z : Option ℕ) → (place_by (if b then fixed_or_packed z else Packed) home flash at frame).bank ≡ bank_of home
   by_place true None = region_bank home flash at
   by_place true (Some there) = refl
   by_place false z = region_bank home flash at
@@ -65,14 +67,14 @@ kept_bank fixed external name (register r) home flash at frame h = absurd h
 
 pub place_bank : (structs : List PlainStruct) (fixed : List Fixed1) (os : List PlainObject) (flash at : ℕ)
     (frame : ℕ → ℕ → ℕ) (k i : ℕ) (o : PlainObject) (q : Place) → slice_get os i ≡ Some o
-    → slice_get (places_from flash at frame k (map (entry_of structs fixed) os)) i ≡ Some q → IsStatic o.storage → q.bank ≡ o.home
+    → slice_get (places_from flash at frame k (map (entry_of structs fixed) os)) i ≡ Some q → IsStatic o.storage → q.bank ≡ bank_of o.home
 place_bank structs fixed [] flash at frame k i o q h there is = absurd cc
 place_bank structs fixed (x ∷ os) flash at frame k zero o q h there is =
     let same : x ≡ o = cc in
     let placed : place_by (kept_by fixed x.external x.name x.storage) x.home flash at (λ f. frame f k) ≡ q = cc in
     ap (λ z. z.bank) (sym placed)
     ∙ kept_bank fixed x.external x.name x.storage x.home flash at (λ f. frame f k) (subst (λ z. IsStatic z.storage) (sym same) is)
-    ∙ ap (λ z. z.home) same
+    ∙ ap (λ z. bank_of z.home) same
 place_bank structs fixed (x ∷ os) flash at frame k (suc i) o q h there is =
     place_bank structs fixed os (flash + flash_size (entry_of structs fixed x)) (at + data_size (entry_of structs fixed x))
     frame (k + 1) i o q h there is

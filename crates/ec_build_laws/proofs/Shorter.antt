@@ -4,9 +4,11 @@ use Rattle.std.proofs.Common.{Option, Some, None, map, refl, sym, ap, ◌∙◌,
 use Rattle.std.specs.Prelude.{nat_lt, if◌then◌else◌, slice_get}
 use Rattle.std.specs.List.{list_all}
 use Rattle.std.proofs.lemmas.Bool.{and_parts, ltb-true, false≢true}
-use Rattle.ec_space.specs.declared.space.Bank.{Bank}
-use Rattle.ec_space.specs.declared.space.Bank.TheVariants.{Flash, Data}
+use Rattle.ec_space.specs.declared.space.Bank.TheVariants.{Data}
+use Rattle.ec_space.specs.declared.space.Home.{Home}
+use Rattle.ec_space.specs.declared.space.Home.TheVariants.{Flash as FlashHome, Far as FarHome, Data as DataHome}
 use Rattle.ec_space.specs.declared.space.Place.{Place}
+use Rattle.ec_space.specs.Spaces.{bank_of}
 use Rattle.ec_isa.specs.declared.instructions.Instr.TheVariants.{Ldi}
 use Rattle.ec_asm.specs.Change.{Env, unbased}
 use Rattle.ec_asm.specs.Items.{At, Stands, HasAt, code_words}
@@ -182,13 +184,16 @@ module _ (laws : StandLaws) (objects : List ℕ) (work : ℕ) (reaches : List Re
 
 -- ---- what Y reaches
 
-pub memory_told : (s : PlainStorage) (home : Bank) → is_in_memory s home ≡ true → (home ≡ Data) × IsAddressable s
-memory_told (static inits) Data h = (refl, tt)
-memory_told (local f) Data h = (refl, tt)
-memory_told (param f) Data h = (refl, tt)
-memory_told (static inits) Flash h = absurd (false≢true h)
-memory_told (local f) Flash h = absurd (false≢true h)
-memory_told (param f) Flash h = absurd (false≢true h)
+pub memory_told : (s : PlainStorage) (home : Home) → is_in_memory s home ≡ true → (bank_of home ≡ Data) × IsAddressable s
+memory_told (static inits) DataHome h = (refl, tt)
+memory_told (local f) DataHome h = (refl, tt)
+memory_told (param f) DataHome h = (refl, tt)
+memory_told (static inits) FlashHome h = absurd (false≢true h)
+memory_told (static inits) FarHome h = absurd (false≢true h)
+memory_told (local f) FlashHome h = absurd (false≢true h)
+memory_told (local f) FarHome h = absurd (false≢true h)
+memory_told (param f) FlashHome h = absurd (false≢true h)
+memory_told (param f) FarHome h = absurd (false≢true h)
 memory_told (register r) home h = absurd (false≢true h)
 
 -- each is that of an object

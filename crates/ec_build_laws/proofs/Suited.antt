@@ -16,7 +16,7 @@ use Rattle.ec_iohw.specs.declared.table.IoTable.{IoTable}
 use Rattle.ec_iohw.specs.declared.table.Pair.{Pair}
 use Rattle.ec_space.specs.Spaces.{width}
 use Rattle.ec_space.specs.declared.space.SpaceId.{SpaceId}
-use Rattle.ec_space.specs.declared.space.SpaceId.TheVariants.{Flash, Data, Generic}
+use Rattle.ec_space.specs.declared.space.SpaceId.TheVariants.{Flash, FarFlash, Data, Generic}
 use Rattle.ec_core.specs.ArithmeticTypes.{type_of}
 use Rattle.ec_core.specs.declared.expressions.BinOp.{BinOp}
 use Rattle.ec_core.specs.Layout.{IsIntegerSize, PlainLeaf, scalar_size}
@@ -91,6 +91,7 @@ fixed_few UnsignedLongAccum s = omega arith
 pointer_few : (s : SpaceId) → width s ≤ 8
 pointer_few Flash = omega arith
 pointer_few Data = omega arith
+pointer_few FarFlash = omega arith
 pointer_few Generic = omega arith
 
 few : (program : PlainProgram) (ty : PlainType) → IsExprType program ty → scalar_size ty ≤ 8

@@ -2,6 +2,7 @@
 use Rattle.std.proofs.Common.{◌≡◌, ◌≢◌, ℕ, ◌<◌, ◌≤◌, Bool, true, false, refl, sym, subst, arith, length}
 use Rattle.std.specs.Prelude.{nat_lt, ◌||◌, if◌then◌else◌}
 use Rattle.std.proofs.lemmas.Bool.{lt-ltb, le-ltb, ltb-true, ltb-false}
+use Rattle.ec_space.specs.declared.Core.TheVariants.{Small}
 use Rattle.ec_asm.specs.Change.{Env, Kind, Own, Object, Port, Stacked, Barred}
 use Rattle.ec_asm.specs.Shows.{Fits, may_be, in_flash}
 use Rattle.ec_asm.specs.declared.items.AsmProgram.{AsmProgram}
@@ -90,10 +91,10 @@ module _ (p : PlainProgram) (m : Map) (asm : AsmProgram) (l : Located) where
   no_port Stacked n = n
   no_port Barred n = λ q. cc
 
-  watched_may_be : (a : ℕ) → may_be (watched_kinds p m asm l a) 2304 a ≡ true
+  watched_may_be : (a : ℕ) → may_be Small (watched_kinds p m asm l a) 2304 a ≡ true
   watched_may_be a = by_tests (nat_lt a 256) (nat_lt a 2304) refl refl where
     by_tests : (b c : Bool) → nat_lt a 256 ≡ b → nat_lt a 2304 ≡ c
-        → may_be (if b then register_kind a else if c then if_barred (memory_kind p m asm l a) else Barred) 2304 a ≡ true
+        → may_be Small (if b then register_kind a else if c then if_barred (memory_kind p m asm l a) else Barred) 2304 a ≡ true
     by_tests true c q r = register_may_be a (ltb-true a 256 q)
     by_tests false true q r =
         memory_may_be (if_barred (memory_kind p m asm l a)) a

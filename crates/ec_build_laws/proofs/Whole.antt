@@ -6,7 +6,7 @@ use Rattle.std.specs.List.{AllByRecursion}
 use Rattle.std.proofs.lemmas.Bool.{ne_eqb}
 use Rattle.std.proofs.lemmas.Option.{slice_get-map}
 use Rattle.ec_runs.specs.Behaviours.{Behaviour, Running as GoesOn, Ended as Ends, Failed, Reached}
-use Rattle.ec_space.specs.Spaces.{holds}
+use Rattle.ec_space.specs.Spaces.{bank_of, holds}
 use Rattle.ec_space.specs.declared.space.Bank.{Bank}
 use Rattle.ec_space.specs.declared.space.Bank.TheVariants.{Data as DataBank}
 use Rattle.ec_space.specs.declared.space.SpaceId.{SpaceId}
@@ -33,6 +33,7 @@ use Rattle.ec_core.specs.ValueTypes.{GiveBytes}
 use Rattle.ec_core.specs.declared.programs.LeafInit.{LeafInit}
 use Rattle.ec_core.specs.declared.values.Undefined.{Undefined}
 use Rattle.ec_core.specs.declared.values.Value.{Value}
+use Rattle.ec_core.proofs.Homes.{home_in_data}
 use Rattle.ec_asm_accesses.specs.Allowed.{IsAllowed, AccessesAreAllowed}
 use Rattle.ec_ir.specs.Meaning.{meaning, run as operations_run, start_state, standing}
 use Rattle.ec_ir.specs.Operations.{data_of}
@@ -106,7 +107,7 @@ module _ (p : PlainProgram) (l : Located) where
   abbrev IsThere : ℕ → SpaceId → Type 0
   IsThere o space = IsSomeAnd (slice_get p.objects o) (λ x. IsTrue (holds space x.home) × IsAddressable x.storage)
 
-  home_byte : (o k at : ℕ) (space : SpaceId) (bank : Bank) → IsThere o space → (b : IsLeafByte p l o k at) → b.object.home ≡ bank
+  home_byte : (o k at : ℕ) (space : SpaceId) (bank : Bank) → IsThere o space → (b : IsLeafByte p l o k at) → bank_of b.object.home ≡ bank
       → IsHomeByte p l o k space bank at
   home_byte o k at space bank there b home =
       let here : IsTrue (holds space b.object.home) × IsAddressable b.object.storage =
@@ -122,14 +123,14 @@ module _ (p : PlainProgram) (l : Located) where
         within = b.within;
       }
 
-  -- a byte that is read is in the object's home, and one that is written in the data bank
+  -- a byte that is read is in the bank of the object's home, and one that is written in the data bank
   read_byte : (o k at : ℕ) (space : SpaceId) → IsThere o space → IsLeafByte p l o k at → IsHomeByte p l o k space (home_of p o) at
   read_byte o k at space there b = home_byte o k at space (home_of p o) there b (rw b.is_object refl)
 
   written_byte : (o k at : ℕ) (space : SpaceId) → IsThere o space → IsKeptInData p o → IsLeafByte p l o k at
       → IsHomeByte p l o k space DataBank at
   written_byte o k at space there kept_there b =
-      home_byte o k at space DataBank there b (subst (λ z. IsSomeAnd z (λ x. x.home ≡ DataBank)) b.is_object kept_there)
+      home_byte o k at space DataBank there b (subst (λ z. IsSomeAnd z (λ x. bank_of x.home ≡ DataBank)) b.is_object kept_there)
 
   -- each access of an event is of a byte of its leaf
   for_event : (event : Event) → IsAtHome p event → WritesData p event
@@ -176,7 +177,7 @@ module _ (laws : WholeLaws) (p : PlainProgram) (m : Map) (asm : AsmProgram) (l :
   r =
       runs_as_source laws.follows laws.machine_run laws.on_ports laws.stack p m asm l e s inputs h give fit
       (λ a is. watched_as p m asm l a Port (are.ports a (ports_of_map laws.port_bytes m h.map a is)) (λ z. cc))
-      (runs_as_operations laws.laid.made laws.selections laws.begin p m asm l e s inputs h reset give refl fit
+      (runs_as_operations laws.laid.made laws.selections laws.begin p m asm l e s inputs h reset give refl refl fit
       (watched_are_laid_out laws.laid p m asm l h))
 
   -- ---- accesses
@@ -245,7 +246,8 @@ module _ (laws : WholeLaws) (p : PlainProgram) (m : Map) (asm : AsmProgram) (l :
       slice_get-map of p.objects leaf.object ∙ ap (option_map of) leaf.is_object in
       let set : leaf_of (of leaf.declared) leaf.number ≡ Some (initial_value init) =
       rw is_static (rw (slice_get-map (λ (z : LeafInit). Some (initial_value z)) inits leaf.number) (rw has refl)) in
-      let is : has_initial_bytes leaf.declared.storage leaf.declared.home ≡ true = rw (is_static, leaf.home) refl in
+      let is : has_initial_bytes leaf.declared.storage leaf.declared.home ≡ true =
+      rw (is_static, home_in_data leaf.declared.home leaf.home) refl in
       let high =
       (is_copied laws.laid p m asm l h (watched_kinds p m asm l) watched_tables
       (watched_has_kinds p m asm l are) leaf.object leaf.declared leaf.is_object is).high in

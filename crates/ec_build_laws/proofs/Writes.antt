@@ -1,19 +1,18 @@
 -- What operations write are objects of the data bank: a store to one that is kept in flash has no meaning.
 use Rattle.std.proofs.Common.{◌≡◌, ℕ, zero, suc, ◌+◌, ◌/◌, ◌%◌, Bool, true, false, List, [], ◌∷◌, Option, Some, None}
-use Rattle.std.proofs.Common.{Result, Ok, Err, refl}
+use Rattle.std.proofs.Common.{Result, Ok, Err, refl, ap}
 use Rattle.std.specs.Prelude.{◌==◌, if◌then◌else◌, slice_get, nat_le, pos, ⊤, IsSomeAnd, option_and_then, option_map}
 use Rattle.std.specs.List.{AllByRecursion}
-use Rattle.ec_space.specs.declared.space.Bank.{Bank}
-use Rattle.ec_space.specs.declared.space.Bank.TheVariants.{Flash as FlashBank, Data as DataBank}
+use Rattle.ec_space.specs.declared.space.Bank.TheVariants.{Data as DataBank}
+use Rattle.ec_space.specs.declared.space.Home.{Home}
 use Rattle.ec_space.specs.declared.space.SpaceId.{SpaceId}
-use Rattle.ec_space.specs.declared.space.SpaceId.TheVariants.{Flash}
-use Rattle.ec_space.specs.Spaces.{holds}
+use Rattle.ec_space.specs.Spaces.{bank_of}
 use Rattle.ec_core.specs.declared.values.Undefined.{Undefined}
 use Rattle.ec_core.specs.declared.values.Undefined.TheVariants.{Unset, BufferIndex, ConstWrite}
 use Rattle.ec_core.specs.declared.values.Value.{Value}
 use Rattle.ec_core.specs.declared.values.Value.TheVariants.{Number, Pointer}
 use Rattle.ec_core.specs.Accesses.{referent_of, operand_of, Access, recorded, leaf_of, is_readable, read_value, read}
-use Rattle.ec_core.specs.Accesses.{first_write, with_leaf}
+use Rattle.ec_core.specs.Accesses.{first_write, with_leaf, is_read_only}
 use Rattle.ec_core.specs.Meaning.{state_of}
 use Rattle.ec_core.specs.Operators.{unary_result, binary_result, conversion_result, unsuited}
 use Rattle.ec_core.specs.Plain.{PlainType, PlainObject, PlainStorage, static, local, param, register, PlainProgram}
@@ -22,6 +21,7 @@ use Rattle.ec_core.specs.PortAccesses.{number_read, bytes_read, bytes_written, b
 use Rattle.ec_core.specs.State.{Inputs, Event, In, Out, Read, Write, told, ObjectState, State, worked, with_event}
 use Rattle.ec_core.specs.State.{with_object, Outcome, got, more, undefined, next, given}
 use Rattle.ec_core.specs.Typing.{int}
+use Rattle.ec_core.proofs.Homes.{home_written}
 use Rattle.ec_ir.specs.Costs.{op_steps}
 use Rattle.ec_ir.specs.Meaning.{Mach, machine, held_as, pointer_in, held_pointer, number_in, held_number, object_access}
 use Rattle.ec_ir.specs.Meaning.{access_at, leaf_from, accessed_type, is_access_of, pointer_access, put_leaf, put, Frame}
@@ -40,7 +40,7 @@ use Rattle.ec_build_laws.proofs.Guarded.{both_append}
 -- ---- events
 
 abbrev pub IsKeptInData : PlainProgram → ℕ → Type 0
-IsKeptInData p o = IsSomeAnd (slice_get p.objects o) (λ d. d.home ≡ DataBank)
+IsKeptInData p o = IsSomeAnd (slice_get p.objects o) (λ d. bank_of d.home ≡ DataBank)
 
 -- what is written is kept in the data bank
 abbrev pub WritesData : PlainProgram → Event → Type 0
@@ -49,9 +49,8 @@ WritesData p (Out port byte) = ⊤
 WritesData p (Read o k space v) = ⊤
 WritesData p (Write o k space v) = IsKeptInData p o
 
-not_flash : (b : Bank) → holds Flash b ≡ false → b ≡ DataBank
-not_flash FlashBank h = absurd cc
-not_flash DataBank h = refl
+not_flash : (home : Home) → is_read_only home ≡ false → bank_of home ≡ DataBank
+not_flash home h = ap bank_of (home_written home h)
 
 -- ---- what comes of a state
 
@@ -131,8 +130,8 @@ module _ (p : PlainProgram) where
 
   keeps_put_leaf : (a : Option Access) (v : Value) (s : State) → IsAccess a → Keeps s (put_leaf a v s)
   keeps_put_leaf None v s is = λ g. g
-  keeps_put_leaf (Some a) v s is = by_home (holds Flash a.declared.home) refl where
-    by_home : (b : Bool) → holds Flash a.declared.home ≡ b → Keeps s (if b then undefined ConstWrite s else first_write (Some a) v s)
+  keeps_put_leaf (Some a) v s is = by_home (is_read_only a.declared.home) refl where
+    by_home : (b : Bool) → is_read_only a.declared.home ≡ b → Keeps s (if b then undefined ConstWrite s else first_write (Some a) v s)
     by_home true h = λ g. g
     by_home false h =
         let kept : IsKeptInData p a.object = rw is (not_flash a.declared.home h) in

@@ -3,8 +3,10 @@ use Rattle.std.specs.Prelude.{ℕ, ◌+◌, ◌==◌, nat_le, nat_lt, Bool, fals
 use Rattle.std.specs.Prelude.{option_map, unwrap_or, slice_get, slice_index}
 use Rattle.ec_space.specs.declared.space.Bank.{Bank}
 use Rattle.ec_space.specs.declared.space.Bank.TheVariants.{Flash, Data}
+use Rattle.ec_space.specs.Spaces.{bank_of}
 use Rattle.ec_space.specs.declared.space.Place.{Place}
 use Rattle.ec_avr.specs.State.{is_core_register}
+use Rattle.ec_space.specs.declared.Core.TheVariants.{Small}
 use Rattle.ec_asm.specs.Change.{Env, Kind, Own, Object, Port, Stacked, Barred}
 use Rattle.ec_asm.specs.declared.items.AsmProgram.{AsmProgram}
 use Rattle.ec_asm_based.specs.Based.{base_set}
@@ -28,7 +30,7 @@ abbrev pub is_of_objects : Bank → List PlainStruct → List PlainObject → Li
 is_of_objects bank structs [] places a = false
 is_of_objects bank structs (o ∷ os) [] a = false
 is_of_objects bank structs (o ∷ os) (q ∷ qs) a =
-    (same_bank o.home bank && is_byte_of q.offset (size_of_type structs o.ty) a) || is_of_objects bank structs os qs a
+    (same_bank (bank_of o.home) bank && is_byte_of q.offset (size_of_type structs o.ty) a) || is_of_objects bank structs os qs a
 
 -- one of the initial bytes of a static object
 abbrev pub is_of_initials : List PlainStruct → List PlainObject → (initials : List ℕ) → ℕ → Bool
@@ -53,7 +55,7 @@ is_hidden a = a == 0x5F || (a == 28 || a == 29)
 -- the other registers are code's own, also those that a program names, since their accesses are no events, and so is the
 -- stack pointer
 abbrev pub register_kind : ℕ → Kind
-register_kind a = if is_hidden a then Barred else if is_core_register a then Own else Port
+register_kind a = if is_hidden a then Barred else if is_core_register Small a then Own else Port
 
 abbrev pub memory_kind : PlainProgram → Map → AsmProgram → Located → ℕ → Kind
 memory_kind p m asm l a =

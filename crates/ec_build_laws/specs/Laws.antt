@@ -3,9 +3,11 @@ use Rattle.std.specs.Prelude.{ℕ, ◌≡◌, ◌≢◌, ◌⊎◌, ◌+◌, ◌
 use Rattle.ec_space.specs.Bytes.{AreBytes}
 use Rattle.ec_space.specs.declared.space.Bank.{Bank}
 use Rattle.ec_space.specs.declared.space.Bank.TheVariants.{Data}
+use Rattle.ec_space.specs.Spaces.{bank_of}
 use Rattle.ec_space.specs.declared.space.Place.{Place}
 use Rattle.ec_avr.specs.State.{is_core_register, is_port}
 use Rattle.ec_isa.specs.declared.instructions.Instr.TheVariants.{Ldi}
+use Rattle.ec_space.specs.declared.Core.TheVariants.{Small}
 use Rattle.ec_asm.specs.Change.{Env, unbased, Own, Object, Port, Stacked}
 use Rattle.ec_asm.specs.Items.{At}
 use Rattle.ec_asm.specs.Shows.{Fits}
@@ -38,7 +40,7 @@ use Rattle.ec_select.specs.Selected.{HasCode}
 pub record IsByteOf (p : PlainProgram) (l : Located) (bank : Bank) (a i : ℕ) (o : PlainObject)
     (q : Place) : Type 0 where
   pub object : slice_get p.objects i ≡ Some o
-  pub home : o.home ≡ bank
+  pub home : bank_of o.home ≡ bank
   pub place : slice_get l.places.items i ≡ Some q
   pub from_there : q.offset ≤ a
   pub within : a < q.offset + size_of_type p.structs o.ty
@@ -53,7 +55,7 @@ pub record IsObjectByte (p : PlainProgram) (l : Located) (bank : Bank) (a : ℕ)
 -- an address that is code's own: that of a register or of the stack pointer, or of a byte of scratch memory or of the
 -- work bytes
 pub data IsOwnByte (asm : AsmProgram) (l : Located) : ℕ → Type 0 where
-  of_register : (a : ℕ) → IsTrue (is_core_register a) → a ≢ 0x5F → IsOwnByte asm l a
+  of_register : (a : ℕ) → IsTrue (is_core_register Small a) → a ≢ 0x5F → IsOwnByte asm l a
   of_scratch : (a f frame at : ℕ) → slice_get asm.frames.items f ≡ Some frame → slice_get l.frames.items f ≡ Some at
       → at ≤ a → a < at + frame_size frame → IsOwnByte asm l a
   of_work : (a : ℕ) → l.work ≤ a → a < l.work + 64 → IsOwnByte asm l a
@@ -62,8 +64,8 @@ pub data IsOwnByte (asm : AsmProgram) (l : Located) : ℕ → Type 0 where
 -- the stack's. All bytes of objects are told to be such, but those of named registers. No other bytes are told to be any of
 -- these
 pub record AreKinds (p : PlainProgram) (m : Map) (asm : AsmProgram) (l : Located) : Type 0 where
-  pub registers : (a : ℕ) → IsTrue (is_core_register a) → is_hidden a ≡ false → kinds p m asm l a ≡ Own
-  pub ports : (a : ℕ) → IsTrue (is_port a) → kinds p m asm l a ≡ Port
+  pub registers : (a : ℕ) → IsTrue (is_core_register Small a) → is_hidden a ≡ false → kinds p m asm l a ≡ Own
+  pub ports : (a : ℕ) → IsTrue (is_port Small a) → kinds p m asm l a ≡ Port
   pub objects : (a i : ℕ) (o : PlainObject) (q : Place) → IsByteOf p l Data a i o q → IsAddressable o.storage
       → kinds p m asm l a ≡ Object
   pub scratch : (f frame at a : ℕ) → slice_get asm.frames.items f ≡ Some frame → slice_get l.frames.items f ≡ Some at
@@ -72,7 +74,7 @@ pub record AreKinds (p : PlainProgram) (m : Map) (asm : AsmProgram) (l : Located
   pub stack : (a : ℕ) → m.stack.first ≤ a → a < end_of m.stack → kinds p m asm l a ≡ Stacked
   pub object_told : (a : ℕ) → kinds p m asm l a ≡ Object → IsObjectByte p l Data a
   pub own_told : (a : ℕ) → kinds p m asm l a ≡ Own → IsOwnByte asm l a
-  pub port_told : (a : ℕ) → kinds p m asm l a ≡ Port → IsTrue (is_port a)
+  pub port_told : (a : ℕ) → kinds p m asm l a ≡ Port → IsTrue (is_port Small a)
   pub stack_told : (a : ℕ) → kinds p m asm l a ≡ Stacked → (m.stack.first ≤ a) × (a < end_of m.stack)
 
 abbrev pub KindsAreTold : Type 0

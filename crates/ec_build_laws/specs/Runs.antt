@@ -55,7 +55,7 @@ pub record Begins (e : Env) (word : ℕ) (s : State) (inputs : Inputs) : Type 0 
   pub first : State
   pub ran : (k : ℕ) → machine (steps + k) inputs s ≡ preceded_by trace (machine k inputs first)
   pub at : first.pc ≡ word
-  pub shows : Shows e 2304 first.mem (view_of first inputs)
+  pub shows : Shows e 2304 first.core first.mem (view_of first inputs)
   pub stacked : (k : ℕ) (before : List Access) (t : State) → k < steps → machine k inputs s ≡ Running before t
       → All (λ at. e.kind at ≡ Stacked) (stack_bytes t)
 
@@ -108,7 +108,7 @@ pub record RunsAsSource (p : PlainProgram) (m : Map) (l : Located) (e : Env) (s 
   pub reaches : Reaches (is_within_work p m.io inputs) (seen_source p m.io l inputs) (noted_run e inputs main)
   pub within : (k : ℕ) → IsWithin (seen_source p m.io l inputs k) (noted_run e inputs main k)
   pub view : View
-  pub shown : Shows e 2304 main.mem view
+  pub shown : Shows e 2304 main.core main.mem view
   pub given : view.inputs ≡ inputs
   pub initials : HasInitials (data_of (lowered p (plain_table m.io))) (place_of l) view
   pub safe : (k : ℕ)

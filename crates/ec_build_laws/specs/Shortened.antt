@@ -1,8 +1,8 @@
 -- The code of a placed program: that of its operations, with what is near in one word.
 use Rattle.std.specs.Prelude.{◌≡◌, ℕ, ◌+◌, ◌≤◌, nat_lt, Bool, true, false, ◌&&◌, if◌then◌else◌, List, [], ◌∷◌, Option, Some, None}
 use Rattle.std.specs.Prelude.{slice_get}
-use Rattle.ec_space.specs.declared.space.Bank.{Bank}
-use Rattle.ec_space.specs.declared.space.Bank.TheVariants.{Flash, Data}
+use Rattle.ec_space.specs.declared.space.Home.{Home}
+use Rattle.ec_space.specs.declared.space.Home.TheVariants.{Flash, Far, Data}
 use Rattle.ec_space.specs.declared.space.Place.{Place}
 use Rattle.ec_asm.specs.Items.{code_words}
 use Rattle.ec_asm.specs.Valid.{ValidAsm}
@@ -16,10 +16,11 @@ use Rattle.ec_core.specs.Plain.{PlainStruct, PlainStorage, static, local, param,
 -- ---- what Y reaches
 
 -- an object in data memory: not in flash, and no named register
-abbrev pub is_in_memory : PlainStorage → Bank → Bool
+abbrev pub is_in_memory : PlainStorage → Home → Bool
 is_in_memory (register first) home = false
 is_in_memory storage Data = true
 is_in_memory storage Flash = false
+is_in_memory storage Far = false
 
 abbrev pub nowhere : Reach
 nowhere = record { first = 0; bytes = 0 }

@@ -97,7 +97,7 @@ pub record ShowsSource (p : PlainProgram) (m : Map) (asm : AsmProgram) (l : Loca
   pub copies : all_but_silent before ≡ all_accesses (placed p m asm l) (spans_of (lowered p (plain_table m.io)))
   pub quiet : ports_of start ≡ []
   pub view : View
-  pub shown : Shows (placed p m asm l) 2304 main.mem view
+  pub shown : Shows (placed p m asm l) 2304 main.core main.mem view
   pub initials : HasInitials (data_of (lowered p (plain_table m.io))) (place_of l) view
   pub reached : (n : ℕ)
       → Comes p l (noted_all (placed p m asm l)) s inputs start n (start_steps p + work p (plain_table m.io) inputs n)

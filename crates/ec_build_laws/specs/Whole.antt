@@ -2,7 +2,7 @@
 use Rattle.std.specs.Prelude.{ℕ, zero, suc, ◌≡◌, ◌+◌, ◌<◌, ◌≤◌, ⊤, IsTrue, Bool, ◌||◌, if◌then◌else◌, ℤ, List, []}
 use Rattle.std.specs.Prelude.{◌∷◌, ◌++◌, Some, slice_get, slice_index}
 use Rattle.std.specs.List.{AllByRecursion}
-use Rattle.ec_space.specs.Spaces.{holds}
+use Rattle.ec_space.specs.Spaces.{bank_of, holds}
 use Rattle.ec_space.specs.declared.space.Bank.{Bank}
 use Rattle.ec_space.specs.declared.space.Bank.TheVariants.{Flash as FlashBank, Data as DataBank}
 use Rattle.ec_space.specs.declared.space.Place.{Place}
@@ -63,18 +63,18 @@ kept p l (a ∷ trace) = kept_of p l a ++ kept p l trace
 
 -- ---- what an event stands for
 
--- the address of a byte of leaf k of object o in a bank, which is the home of the object and in a space
+-- the address of a byte of leaf k of object o in the bank of the object's home, which is in a space
 pub record IsHomeByte (p : PlainProgram) (l : Located) (o k : ℕ) (space : SpaceId) (bank : Bank) (at : ℕ) : Type 0 where
   pub object : PlainObject
   pub leaf : PlainLeaf
   pub is_object : slice_get p.objects o ≡ Some object
   pub is_leaf : slice_get (leaves_of_type p.structs object.ty) k ≡ Some leaf
-  pub home : object.home ≡ bank
+  pub home : bank_of object.home ≡ bank
   pub in_space : IsTrue (holds space object.home)
   pub from_there : place_of l o + leaf.at ≤ at
   pub within : at < place_of l o + leaf.at + scalar_size leaf.ty
 
--- an access of a port is that of the event, and any other is one of a byte of its leaf, in the bank that is the home of
+-- an access of a port is that of the event, and any other is one of a byte of its leaf, in the bank of the home of
 -- its object; this home is in its space
 abbrev pub IsForEvent : PlainProgram → Located → Event → Access → Type 0
 IsForEvent p l (In port byte) a = a ≡ PortIn port byte

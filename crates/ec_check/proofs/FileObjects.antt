@@ -5,7 +5,7 @@ use Rattle.std.proofs.lemmas.Bool.{not-true, false≢true}
 use Rattle.std.proofs.lemmas.List.Elements.{Contains-push}
 use Rattle.ec_iohw.specs.declared.table.IoTable.{IoTable}
 use Rattle.ec_grammar.specs.Trees as t
-use Rattle.ec_space.specs.declared.space.Bank.TheVariants.{Data as DataBank}
+use Rattle.ec_space.specs.declared.space.Home.TheVariants.{Data as DataHome}
 use Rattle.ec_space.specs.declared.space.SpaceId.TheVariants.{Generic}
 use Rattle.ec_core.specs.declared.programs.LeafInit.{LeafInit}
 use Rattle.ec_core.specs.ArithmeticTypes.{arithmetic_of}
@@ -143,7 +143,7 @@ module _ (p : PlainProgram) (io : IoTable) (r : Setting) (n : List ℕ) (o : Reg
         external = true;
         ty = ty;
         space = Generic;
-        home = DataBank;
+        home = DataHome;
         const = o.konst;
         storage = register first;
       } in

@@ -5,7 +5,7 @@ use Rattle.std.specs.List.{AllByRecursion, AllZip}
 use Rattle.std.proofs.lemmas.Bool.{false≢true}
 use Rattle.ec_grammar.specs.Trees as t
 use Rattle.ec_space.specs.declared.space.SpaceId.{SpaceId}
-use Rattle.ec_space.specs.declared.space.SpaceId.TheVariants.{Flash, Data, Generic}
+use Rattle.ec_space.specs.declared.space.SpaceId.TheVariants.{Flash, FarFlash, Data, Generic}
 use Rattle.ec_space.specs.Spaces.{holds, encloses}
 use Rattle.ec_core.specs.declared.programs.LeafInit.{LeafInit}
 use Rattle.ec_core.specs.declared.programs.LeafInit.TheVariants.{Number, Null, Address}
@@ -28,17 +28,25 @@ use Rattle.ec_check.proofs.Meanings.{IsStaticObject, IsStaticName}
 
 pub home_held : (outer space : SpaceId) → IsTrue (encloses outer space) → IsTrue (holds outer (home_of space))
 home_held Flash Flash e = refl
+home_held Flash FarFlash e = absurd (false≢true e)
 home_held Flash Data e = absurd (false≢true e)
 home_held Flash Generic e = absurd (false≢true e)
+home_held FarFlash Flash e = refl
+home_held FarFlash FarFlash e = refl
+home_held FarFlash Data e = absurd (false≢true e)
+home_held FarFlash Generic e = absurd (false≢true e)
 home_held Data Flash e = absurd (false≢true e)
+home_held Data FarFlash e = absurd (false≢true e)
 home_held Data Data e = refl
 home_held Data Generic e = absurd (false≢true e)
 home_held Generic Flash e = refl
+home_held Generic FarFlash e = refl
 home_held Generic Data e = refl
 home_held Generic Generic e = refl
 
 pub own_home : (space : SpaceId) → IsTrue (holds space (home_of space))
 own_home Flash = refl
+own_home FarFlash = refl
 own_home Data = refl
 own_home Generic = refl
 

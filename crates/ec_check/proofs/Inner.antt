@@ -9,9 +9,9 @@ use Rattle.ec_fx.specs.declared.formats.FxKind.TheVariants.{UnsignedFract, Unsig
 use Rattle.ec_fx.specs.declared.formats.FxKind.TheVariants.{UnsignedLongAccum}
 use Rattle.ec_fx.specs.Formats.{format_of}
 use Rattle.ec_iohw.specs.declared.table.IoTable.{IoTable}
-use Rattle.ec_space.specs.declared.space.Bank.TheVariants.{Data}
+use Rattle.ec_space.specs.declared.space.Home.TheVariants.{Data}
 use Rattle.ec_space.specs.declared.space.SpaceId.{SpaceId}
-use Rattle.ec_space.specs.declared.space.SpaceId.TheVariants.{Flash, Data as DataSpace, Generic}
+use Rattle.ec_space.specs.declared.space.SpaceId.TheVariants.{Flash, FarFlash, Data as DataSpace, Generic}
 use Rattle.ec_space.specs.Spaces.{width, holds}
 use Rattle.ec_core.specs.Layout.{IsScalar, size_of_type}
 use Rattle.ec_core.specs.Plain.{PlainType, void, integer, fixed, pointer, array, struct, PlainStruct, PlainStorage, static, local, param}
@@ -64,6 +64,7 @@ fixed_small UnsignedLongAccum = omega arith
 
 width_small : (space : SpaceId) → width space ≤ 32_767
 width_small Flash = omega arith
+width_small FarFlash = omega arith
 width_small DataSpace = omega arith
 width_small Generic = omega arith
 

@@ -5,7 +5,7 @@ use Rattle.std.specs.Str.{bytes_eq}
 use Rattle.std.proofs.lemmas.Bool.{not-false, or_parts, false≢true, true≢false}
 use Rattle.std.proofs.lemmas.List.Elements.{Contains-push}
 use Rattle.ec_grammar.specs.Trees as t
-use Rattle.ec_space.specs.declared.space.Bank.TheVariants.{Data as DataBank}
+use Rattle.ec_space.specs.declared.space.Home.TheVariants.{Data as DataHome}
 use Rattle.ec_space.specs.declared.space.SpaceId.TheVariants.{Generic}
 use Rattle.ec_core.specs.Plain.{PlainType, void, integer, fixed, pointer, array, struct, PlainStruct, PlainObject, register}
 use Rattle.ec_check_names.specs.declared.linkage.Linkage.TheVariants.{External}
@@ -114,7 +114,7 @@ module _ (keep : DeclarationsKeepSuiting) (r : Setting) (name : List ℕ) (o : R
         external = true;
         ty = ty;
         space = Generic;
-        home = DataBank;
+        home = DataHome;
         const = o.konst;
         storage = register first;
       } in

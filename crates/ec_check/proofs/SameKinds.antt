@@ -7,7 +7,7 @@ use Rattle.std.proofs.lemmas.Bool.{and_parts, not-false, false≢true, true≢fa
 use Rattle.std.proofs.lemmas.Bool.Decides.{nat_tests}
 use Rattle.std.proofs.lemmas.Slice.Eq.{bytes_eq-Decides}
 use Rattle.ec_space.specs.declared.space.SpaceId.{SpaceId}
-use Rattle.ec_space.specs.declared.space.SpaceId.TheVariants.{Flash, Data, Generic}
+use Rattle.ec_space.specs.declared.space.SpaceId.TheVariants.{Flash, FarFlash, Data, Generic}
 use Rattle.ec_core.specs.Operators.{same_type}
 use Rattle.ec_core.specs.Plain.{PlainType}
 use Rattle.ec_core.proofs.Sameness.{type_true}
@@ -80,12 +80,19 @@ bools_agree false false e = refl
 
 spaces_agree : (s r : SpaceId) → not (same_space s r) ≡ false → s ≡ r
 spaces_agree Flash Flash e = refl
+spaces_agree Flash FarFlash e = absurd (true≢false e)
 spaces_agree Flash Data e = absurd (true≢false e)
 spaces_agree Flash Generic e = absurd (true≢false e)
+spaces_agree FarFlash Flash e = absurd (true≢false e)
+spaces_agree FarFlash FarFlash e = refl
+spaces_agree FarFlash Data e = absurd (true≢false e)
+spaces_agree FarFlash Generic e = absurd (true≢false e)
 spaces_agree Data Flash e = absurd (true≢false e)
+spaces_agree Data FarFlash e = absurd (true≢false e)
 spaces_agree Data Data e = refl
 spaces_agree Data Generic e = absurd (true≢false e)
 spaces_agree Generic Flash e = absurd (true≢false e)
+spaces_agree Generic FarFlash e = absurd (true≢false e)
 spaces_agree Generic Data e = absurd (true≢false e)
 spaces_agree Generic Generic e = refl
 

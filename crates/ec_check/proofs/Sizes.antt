@@ -8,7 +8,7 @@ use Rattle.ec_fx.specs.declared.formats.FxKind.TheVariants.{ShortFract, Fract, L
 use Rattle.ec_fx.specs.declared.formats.FxKind.TheVariants.{UnsignedShortFract, UnsignedFract, UnsignedLongFract}
 use Rattle.ec_fx.specs.declared.formats.FxKind.TheVariants.{UnsignedShortAccum, UnsignedAccum, UnsignedLongAccum}
 use Rattle.ec_space.specs.declared.space.SpaceId.{SpaceId}
-use Rattle.ec_space.specs.declared.space.SpaceId.TheVariants.{Flash, Data, Generic}
+use Rattle.ec_space.specs.declared.space.SpaceId.TheVariants.{Flash, FarFlash, Data, Generic}
 use Rattle.ec_space.specs.Spaces.{width}
 use Rattle.ec_grammar.specs.Trees as t
 use Rattle.ec_core.specs.Layout.{IsIntegerSize, Layout, repeated, scalar_size, type_layout, struct_layouts, size_of_type}
@@ -47,6 +47,7 @@ fixed_some UnsignedLongAccum = omega arith
 
 width_some : (s : SpaceId) → 1 ≤ width s
 width_some Flash = omega arith
+width_some FarFlash = omega arith
 width_some Data = omega arith
 width_some Generic = omega arith
 

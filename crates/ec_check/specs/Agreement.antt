@@ -3,7 +3,7 @@ use Rattle.std.specs.Prelude.{ℕ, ◌≡◌, ◌<◌, ◌≤◌, Bool, true, fa
 use Rattle.std.specs.Prelude.{slice_get, option_map, AllPairs, Contains}
 use Rattle.std.specs.List.{AllByRecursion}
 use Rattle.ec_iohw.specs.declared.table.IoTable.{IoTable}
-use Rattle.ec_space.specs.declared.space.Bank.TheVariants.{Data as DataBank}
+use Rattle.ec_space.specs.declared.space.Home.TheVariants.{Data as DataHome}
 use Rattle.ec_space.specs.declared.space.SpaceId.{SpaceId}
 use Rattle.ec_space.specs.declared.space.SpaceId.TheVariants.{Generic}
 use Rattle.ec_core.specs.Layout.{struct_layouts}
@@ -44,7 +44,7 @@ pub record IsFileRegister (d : Definition) (first : ℕ) (ty : PlainType) (konst
   pub typed : x.ty ≡ ty
   pub constness : x.const ≡ konst
   pub spaced : x.space ≡ Generic
-  pub home : x.home ≡ DataBank
+  pub home : x.home ≡ DataHome
   pub storage : x.storage ≡ register first
 
 -- a function of the program, whose parameters are objects of these types

@@ -3,7 +3,7 @@ use Rattle.std.specs.Prelude.{ℕ, Bool, false, if◌then◌else◌, nat_lt, Opt
 use Rattle.std.specs.Prelude.{length, map, unwrap_or}
 use Rattle.ec_iohw.specs.declared.table.IoTable.{IoTable}
 use Rattle.ec_iohw.specs.Valid.{ValidIo}
-use Rattle.ec_space.specs.declared.space.Bank.TheVariants.{Data}
+use Rattle.ec_space.specs.declared.space.Home.TheVariants.{Data}
 use Rattle.ec_space.specs.declared.space.SpaceId.TheVariants.{Generic}
 use Rattle.ec_core.specs.Layout.{AreStructs}
 use Rattle.ec_core.specs.Plain.{PlainType, PlainStruct, plain_struct, PlainObject, plain_object, PlainStorage}

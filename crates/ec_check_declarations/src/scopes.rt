@@ -9,7 +9,7 @@ use ec_check_names::{Named, Names, Tags};
 use ec_check_operands::Modes;
 use ec_core::{CType, Obj, Storage, StructDef};
 use ec_iohw::IoTable;
-use ec_space::{Bank, Name, NoMemory, Seq, SpaceId};
+use ec_space::{Home, Name, NoMemory, Seq, SpaceId};
 use std::alloc::Global;
 
 /// What is known at a place of a unit beside names and objects: nothing in a function adds to it.
@@ -124,7 +124,7 @@ fn add_object(
         external: false,
         ty,
         space: SpaceId::Generic,
-        home: Bank::Data,
+        home: Home::Data,
         konst,
         storage,
     })

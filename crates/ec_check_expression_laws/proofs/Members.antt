@@ -11,7 +11,7 @@ use Rattle.ec_fx.specs.declared.formats.FxKind.TheVariants.{UnsignedLongAccum}
 use Rattle.ec_fx.specs.Formats.{format_of}
 use Rattle.ec_iohw.specs.declared.table.IoTable.{IoTable}
 use Rattle.ec_space.specs.declared.space.SpaceId.{SpaceId}
-use Rattle.ec_space.specs.declared.space.SpaceId.TheVariants.{Flash, Data, Generic}
+use Rattle.ec_space.specs.declared.space.SpaceId.TheVariants.{Flash, FarFlash, Data, Generic}
 use Rattle.ec_space.specs.Spaces.{width}
 use Rattle.ec_core.specs.Layout.{AreStructs, size_of_type}
 use Rattle.ec_core.specs.Plain.{PlainType, void, integer, fixed, pointer, array, struct, PlainStruct, PlainProgram}
@@ -86,6 +86,7 @@ few_bytes b false false false e f g h = absurd (false≢true h)
 
 narrow : (s : SpaceId) → width s ≤ 65_535
 narrow Flash = omega arith
+narrow FarFlash = omega arith
 narrow Data = omega arith
 narrow Generic = omega arith
 

@@ -7,7 +7,7 @@ use Rattle.ec_fx.specs.declared.formats.FxKind.TheVariants.{UnsignedFract, Unsig
 use Rattle.ec_fx.specs.declared.formats.FxKind.TheVariants.{UnsignedLongAccum}
 use Rattle.ec_fx.specs.Formats.{format_of}
 use Rattle.ec_space.specs.declared.space.SpaceId.{SpaceId}
-use Rattle.ec_space.specs.declared.space.SpaceId.TheVariants.{Flash, Data, Generic}
+use Rattle.ec_space.specs.declared.space.SpaceId.TheVariants.{Flash, FarFlash, Data, Generic}
 use Rattle.ec_space.specs.Spaces.{width}
 use Rattle.ec_grammar.specs.declared.token.WordKind.{WordKind}
 use Rattle.ec_grammar.specs.declared.token.WordKind.TheVariants as w
@@ -101,6 +101,7 @@ some_bits UnsignedLongAccum = omega arith
 
 some_width : (s : SpaceId) → 1 ≤ width s
 some_width Flash = omega arith
+some_width FarFlash = omega arith
 some_width Data = omega arith
 some_width Generic = omega arith
 

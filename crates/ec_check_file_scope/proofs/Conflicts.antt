@@ -8,7 +8,7 @@ use Rattle.std.proofs.lemmas.Bool.{false≢true}
 use Rattle.std.proofs.lemmas.Bool.Decides.{Decides-eqb, Decides-at, Decides-like, Decides-not, Decides-and, Decides-or, not_from_Decides}
 use Rattle.std.proofs.lemmas.Slice.Eq.{bytes_eq-Decides}
 use Rattle.ec_space.specs.declared.space.SpaceId.{SpaceId}
-use Rattle.ec_space.specs.declared.space.SpaceId.TheVariants.{Flash, Data, Generic}
+use Rattle.ec_space.specs.declared.space.SpaceId.TheVariants.{Flash, FarFlash, Data, Generic}
 use Rattle.ec_core.specs.Laws.{TypesAreTold}
 use Rattle.ec_core.specs.Operators.{same_type}
 use Rattle.ec_core.specs.Plain.{PlainType}
@@ -54,12 +54,19 @@ bools false false = yes refl
 
 spaces : (s r : SpaceId) → Decides (same_space s r) (s ≡ r)
 spaces Flash Flash = yes refl
+spaces Flash FarFlash = no (λ h. cc)
 spaces Flash Data = no (λ h. cc)
 spaces Flash Generic = no (λ h. cc)
+spaces FarFlash Flash = no (λ h. cc)
+spaces FarFlash FarFlash = yes refl
+spaces FarFlash Data = no (λ h. cc)
+spaces FarFlash Generic = no (λ h. cc)
 spaces Data Flash = no (λ h. cc)
+spaces Data FarFlash = no (λ h. cc)
 spaces Data Data = yes refl
 spaces Data Generic = no (λ h. cc)
 spaces Generic Flash = no (λ h. cc)
+spaces Generic FarFlash = no (λ h. cc)
 spaces Generic Data = no (λ h. cc)
 spaces Generic Generic = yes refl
 

@@ -5,7 +5,7 @@ use Rattle.std.specs.Prelude.{option_map}
 use Rattle.std.specs.Prelude.{List, [], ◌∷◌, map, length, slice_get}
 use Rattle.std.specs.Str.{bytes_eq}
 use Rattle.ec_space.specs.declared.space.SpaceId.{SpaceId}
-use Rattle.ec_space.specs.declared.space.SpaceId.TheVariants.{Flash, Data, Generic}
+use Rattle.ec_space.specs.declared.space.SpaceId.TheVariants.{Flash, FarFlash, Data, Generic}
 use Rattle.ec_core.specs.Operators.{same_type}
 use Rattle.ec_core.specs.Plain.{PlainType, plain_type}
 use Rattle.ec_check_names.specs.declared.linkage.Linkage.{Linkage}
@@ -49,6 +49,7 @@ differ (Some a) (Some b) = not (same_type a b)
 
 abbrev pub same_space : SpaceId → SpaceId → Bool
 same_space Flash Flash = true
+same_space FarFlash FarFlash = true
 same_space Data Data = true
 same_space Generic Generic = true
 same_space a b = false

@@ -6,10 +6,10 @@ use Rattle.std.specs.Str.{bytes_eq}
 use Rattle.ec_check_operands.specs.Faults.{Judgement, rule}
 use Rattle.ec_fx.specs.Formats.{format_of}
 use Rattle.ec_grammar.specs.Trees as t
-use Rattle.ec_space.specs.declared.space.Bank.{Bank}
-use Rattle.ec_space.specs.declared.space.Bank.TheVariants.{Flash as FlashBank, Data as DataBank}
+use Rattle.ec_space.specs.declared.space.Home.{Home}
+use Rattle.ec_space.specs.declared.space.Home.TheVariants.{Flash as FlashHome, Far as FarHome, Data as DataHome}
 use Rattle.ec_space.specs.declared.space.SpaceId.{SpaceId}
-use Rattle.ec_space.specs.declared.space.SpaceId.TheVariants.{Flash, Data, Generic}
+use Rattle.ec_space.specs.declared.space.SpaceId.TheVariants.{Flash, FarFlash, Data, Generic}
 use Rattle.ec_core.specs.declared.programs.LeafInit.{LeafInit}
 use Rattle.ec_core.specs.Plain.{PlainType, void, integer, fixed, pointer, array, struct, PlainObject, static, register}
 use Rattle.ec_check_names.specs.declared.linkage.Linkage.{Linkage}
@@ -57,11 +57,12 @@ abbrev pub object_named : Setting → List ℕ → Linkage → ObjectDeclared �
 object_named r n linkage o =
     names.an_object (number_of n r.unit linkage false r.definitions) o.ty o.konst o.space false
 
--- the bank of an object by its space
-abbrev pub home_of : SpaceId → Bank
-home_of Flash = FlashBank
-home_of Data = DataBank
-home_of Generic = DataBank
+-- the home of an object by its space
+abbrev pub home_of : SpaceId → Home
+home_of Flash = FlashHome
+home_of FarFlash = FarHome
+home_of Data = DataHome
+home_of Generic = DataHome
 
 -- the initial values of all leaves: zero where there is no initialiser
 abbrev pub initial_leaves : Known → Option t.Start → Option PlainType → Option (List LeafInit)
@@ -211,7 +212,7 @@ register_made r n o (Some first) (Some ty) =
       external = true;
       ty = ty;
       space = Generic;
-      home = DataBank;
+      home = DataHome;
       const = o.konst;
       storage = register first;
     })

@@ -71,15 +71,19 @@ fn same_space(a: SpaceId, b: SpaceId) -> bool
     match a {
         SpaceId::Flash => match b {
             SpaceId::Flash => true,
-            SpaceId::Data | SpaceId::Generic => false,
+            SpaceId::FarFlash | SpaceId::Data | SpaceId::Generic => false,
+        },
+        SpaceId::FarFlash => match b {
+            SpaceId::FarFlash => true,
+            SpaceId::Flash | SpaceId::Data | SpaceId::Generic => false,
         },
         SpaceId::Data => match b {
             SpaceId::Data => true,
-            SpaceId::Flash | SpaceId::Generic => false,
+            SpaceId::Flash | SpaceId::FarFlash | SpaceId::Generic => false,
         },
         SpaceId::Generic => match b {
             SpaceId::Generic => true,
-            SpaceId::Flash | SpaceId::Data => false,
+            SpaceId::Flash | SpaceId::FarFlash | SpaceId::Data => false,
         },
     }
 }

@@ -40,7 +40,7 @@ use ec_check_names::{
 use ec_check_operands::Faults;
 use ec_core::{CType, LeafInit, Obj, Storage as Kept};
 use ec_grammar::{Identifier, InitDeclarator, RegisterObject, Start};
-use ec_space::{Bank, Name, NoMemory, Seq, SpaceId};
+use ec_space::{Home, Name, NoMemory, Seq, SpaceId};
 use std::alloc::Global;
 
 // ---- names
@@ -185,12 +185,13 @@ fn initial_leaves(
     }
 }
 
-fn home_of(space: SpaceId) -> Bank
+fn home_of(space: SpaceId) -> Home
     ensures { result ≡ home_of space }
 {
     match space {
-        SpaceId::Flash => Bank::Flash,
-        SpaceId::Data | SpaceId::Generic => Bank::Data,
+        SpaceId::Flash => Home::Flash,
+        SpaceId::FarFlash => Home::Far,
+        SpaceId::Data | SpaceId::Generic => Home::Data,
     }
 }
 
@@ -520,7 +521,7 @@ fn register_made(
         external: true,
         ty,
         space: SpaceId::Generic,
-        home: Bank::Data,
+        home: Home::Data,
         konst,
         storage: Kept::Register(first),
     }))

@@ -5,7 +5,7 @@ use Rattle.std.proofs.lemmas.Bool.{and_cases, or_parts, not-false, both_ways}
 use Rattle.ec_fx.specs.declared.numbers.Mode.{Mode}
 use Rattle.ec_iohw.specs.declared.table.IoTable.{IoTable}
 use Rattle.ec_space.specs.declared.space.SpaceId.{SpaceId}
-use Rattle.ec_space.specs.declared.space.SpaceId.TheVariants.{Flash, Data, Generic}
+use Rattle.ec_space.specs.declared.space.SpaceId.TheVariants.{Flash, FarFlash, Data, Generic}
 use Rattle.ec_space.specs.Spaces.{join, encloses}
 use Rattle.ec_core.specs.declared.arithmetic_types.Arithmetic.{Arithmetic}
 use Rattle.ec_core.specs.declared.arithmetic_types.Arithmetic.TheVariants.{Integer, Fixed}
@@ -183,6 +183,7 @@ admitted told op x y v w s c = record {
 
 pub encloses_itself : (s : SpaceId) → encloses s s ≡ true
 encloses_itself Flash = refl
+encloses_itself FarFlash = refl
 encloses_itself Data = refl
 encloses_itself Generic = refl
 

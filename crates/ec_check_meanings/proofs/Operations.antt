@@ -3,7 +3,7 @@ use Rattle.std.proofs.Common.{◌≡◌, ◌∙◌, Bool, true, false, not, ◌|
 use Rattle.std.specs.Prelude.{◌⊎◌, if◌then◌else◌, Option, Some, None}
 use Rattle.std.proofs.lemmas.Bool.{not-false, false≢true}
 use Rattle.ec_space.specs.declared.space.SpaceId.{SpaceId}
-use Rattle.ec_space.specs.declared.space.SpaceId.TheVariants.{Flash, Data, Generic}
+use Rattle.ec_space.specs.declared.space.SpaceId.TheVariants.{Flash, FarFlash, Data, Generic}
 use Rattle.ec_space.specs.Spaces.{Encloses, encloses, join, IsJoin}
 use Rattle.ec_space.specs.SpaceLaws.{Encloses-from_test, test_from_Encloses}
 use Rattle.ec_core.specs.declared.arithmetic_types.Arithmetic.{Arithmetic}
@@ -63,12 +63,19 @@ one_type_last a b h = absurd h
 
 same_spaces : (s r : SpaceId) → encloses s r ≡ true → encloses r s ≡ true → s ≡ r
 same_spaces Flash Flash h g = refl
+same_spaces Flash FarFlash h g = absurd (false≢true h)
 same_spaces Flash Data h g = absurd (false≢true h)
 same_spaces Flash Generic h g = absurd (false≢true h)
+same_spaces FarFlash Flash h g = absurd (false≢true g)
+same_spaces FarFlash FarFlash h g = refl
+same_spaces FarFlash Data h g = absurd (false≢true h)
+same_spaces FarFlash Generic h g = absurd (false≢true h)
 same_spaces Data Flash h g = absurd (false≢true h)
+same_spaces Data FarFlash h g = absurd (false≢true h)
 same_spaces Data Data h g = refl
 same_spaces Data Generic h g = absurd (false≢true h)
 same_spaces Generic Flash h g = absurd (false≢true g)
+same_spaces Generic FarFlash h g = absurd (false≢true g)
 same_spaces Generic Data h g = absurd (false≢true g)
 same_spaces Generic Generic h g = refl
 

@@ -1,7 +1,7 @@
 -- The objects that a body declares, behind those that a program has so far.
 use Rattle.std.specs.Prelude.{ℕ, ◌≡◌, ◌≤◌, false, Some, List, ◌++◌, length, slice_get}
 use Rattle.std.specs.List.{AllByRecursion}
-use Rattle.ec_space.specs.declared.space.Bank.TheVariants.{Data}
+use Rattle.ec_space.specs.declared.space.Home.TheVariants.{Data}
 use Rattle.ec_space.specs.declared.space.SpaceId.TheVariants.{Generic}
 use Rattle.ec_core.specs.Layout.{IsObjectType, size_of_type}
 use Rattle.ec_core.specs.Plain.{PlainType, PlainStruct, PlainObject, local}

@@ -8,9 +8,9 @@ use Rattle.ec_avr.specs.declared.machine.Access.{Access}
 use Rattle.ec_emu.specs.declared.run.EmuEnd.{EmuEnd}
 use Rattle.ec_emu.specs.declared.run.EmuEnd.TheVariants as ends
 use Rattle.ec_emu.specs.Forms.{Form}
-use Rattle.ec_emu.specs.Script.{AreKept, BreaksAt, forms_of}
+use Rattle.ec_emu.specs.Script.{AreKept, BreaksAt, core_of_text, forms_of}
 use Rattle.ec_hex.specs.Denotes.{Denotes}
-use Rattle.ec_space.specs.declared.Core.TheVariants.{Small}
+use Rattle.ec_space.specs.declared.Core.{Core}
 use Rattle.ec_io.specs.Views.{StoreView, SinkCall, store_view}
 use Rattle.ec_commands.specs.Answers.{IsTold, IsLeft}
 use Rattle.ec_commands.specs.Runs.{Gives, AcceptsRun, CanRun, StopsReadingInputs, HasTextFault, StopsLoading, StopsRunning, RunStops, Shows}
@@ -55,18 +55,19 @@ no_reading_stop words disk read written received missed new (TooMany ScriptBytes
     not_past (get disk.files (script_name words)) accepted.lines 65536 accepted.script accepted.script_fits h.0.1
 no_reading_stop words disk read written received missed new _ accepted calm h = h
 
-pub not_broken : (forms : List Form) (line rule : ℕ) → AreKept forms → BreaksAt forms line rule → ⊥
-not_broken forms line rule kept breaks = let e = sym (kept breaks.n breaks.form breaks.at) ∙ breaks.breaks in cc
+pub not_broken : (core : Core) (forms : List Form) (line rule : ℕ) → AreKept core forms → BreaksAt core forms line rule → ⊥
+not_broken core forms line rule kept breaks = let e = sym (kept breaks.n breaks.form breaks.at) ∙ breaks.breaks in cc
 
 no_text_fault : (words : Words) (disk : Disk) (text lines : List ℕ) (stop : CommandError) → (accepted : AcceptsRun words disk.files)
     → text ≡ accepted.text → lines ≡ accepted.lines
     → HasTextFault text lines stop → ⊥
 no_text_fault words disk text lines stop accepted hex script (inl h) =
     h.none accepted.image.0 accepted.image.1.0
-    (subst (λ (t : List ℕ). Denotes Small t accepted.image.0 accepted.image.1.0) (sym hex) accepted.image.1.1)
+    (subst (λ (t : List ℕ). Denotes (core_of_text lines) t accepted.image.0 accepted.image.1.0) (sym hex)
+    (subst (λ (l : List ℕ). Denotes (core_of_text l) accepted.text accepted.image.0 accepted.image.1.0) (sym script) accepted.image.1.1))
 no_text_fault words disk text lines stop accepted hex script (inr h) =
-    not_broken (forms_of Small lines) h.1.line h.1.rule
-    (subst (λ (t : List ℕ). AreKept (forms_of Small t)) (sym script) accepted.kept) h.1.fault
+    not_broken (core_of_text lines) (forms_of lines) h.1.line h.1.rule
+    (subst (λ (l : List ℕ). AreKept (core_of_text l) (forms_of l)) (sym script) accepted.kept) h.1.fault
 
 -- a stop that tells how a run ended
 pub shown_stop : (old new : Option (List ℕ)) (end : EmuEnd) (trace : List Access) (stop : CommandError)

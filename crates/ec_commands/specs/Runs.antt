@@ -5,7 +5,6 @@ use Rattle.std.specs.Fmt.{signed_decimal}
 use Rattle.std.specs.FinMap.{get}
 use Rattle.std.specs.Io.KnownBytes.{Appends}
 use Rattle.ec_space.specs.declared.Core.{Core}
-use Rattle.ec_space.specs.declared.Core.TheVariants.{Small}
 use Rattle.ec_io.specs.Causes.{Rose, Counted}
 use Rattle.ec_io.specs.Disk.{Files, Disk}
 use Rattle.ec_io.specs.Views.{StoreView, SinkCall}
@@ -25,7 +24,7 @@ use Rattle.ec_emu.specs.declared.read.ScriptStop.TheVariants as script_stops
 use Rattle.ec_emu.specs.Emulation.{IsRun as IsRunOf, CutsLast}
 use Rattle.ec_emu.specs.Lines.{port_lines}
 use Rattle.ec_emu.specs.Script as script
-use Rattle.ec_emu.specs.Script.{AreKept, entries, entry_of, forms_of}
+use Rattle.ec_emu.specs.Script.{AreKept, core_of_text, entries, entry_of, forms_of}
 use Rattle.ec_emu.specs.Scripted.{IsScripted}
 use Rattle.ec_commands.specs.declared.stop.Limit.TheVariants.{HexBytes, ScriptBytes}
 use Rattle.ec_commands.specs.declared.stop.CommandError.{CommandError}
@@ -45,15 +44,15 @@ pub record AreInputs (words : Words) (disk : Option Disk) (text lines : List ℕ
   pub script : Told (λ files. get files (script_name words) ≡ Some lines) disk
   pub script_fits : length lines ≤ 65536
 
--- the HEX text denotes an image, of which the machine is in the reset state with this byte everywhere, and the script
--- says these answers
+-- the HEX text denotes an image of the core that the script is for, the machine is in its reset state with this byte
+-- everywhere, and the script says these answers
 pub record IsLoaded (fill : ℕ) (text lines : List ℕ) (machine : State) (answers : List ScriptLine) : Type 0 where
   pub bytes : List ℕ
   pub written : List Bool
-  pub denotes : Denotes Small text bytes written
-  pub reset : machine ≡ reset_with Small bytes fill
-  pub kept : AreKept (forms_of Small lines)
-  pub scripted : map entry_of answers ≡ entries (forms_of Small lines)
+  pub denotes : Denotes (core_of_text lines) text bytes written
+  pub reset : machine ≡ reset_with (core_of_text lines) bytes fill
+  pub kept : AreKept (core_of_text lines) (forms_of lines)
+  pub scripted : map entry_of answers ≡ entries (forms_of lines)
 
 -- `result`, the result in decimal, and LF
 abbrev pub result_line : ℤ → List ℕ
@@ -153,18 +152,19 @@ pub record HasHexFault (core : Core) (text : List ℕ) (stop : CommandError) : T
   pub fault : hex.HasStop core text why
   pub none : (bytes : List ℕ) (written : List Bool) → ¬ (Denotes core text bytes written)
 
--- a line of the script is the first to break a rule
-pub record HasScriptFault (lines : List ℕ) (stop : CommandError) : Type 0 where
+-- a line of the script for a core is the first to break a rule
+pub record HasScriptFault (core : Core) (lines : List ℕ) (stop : CommandError) : Type 0 where
   pub line : ℕ
   pub rule : ℕ
   pub told : stop ≡ stops.ScriptLine line rule
-  pub fault : script.IsNoScript Small lines (script_stops.Line line rule)
+  pub fault : script.IsNoScript core lines (script_stops.Line line rule)
 
 -- why the texts are not loaded: the HEX text has a fault; or it has none, and the script has one
 abbrev pub HasTextFault : List ℕ → List ℕ → CommandError → Type 0
 HasTextFault text lines stop =
-    HasHexFault Small text stop ⊎ (((bytes : List ℕ) × ((written : List Bool) × Denotes Small text bytes written))
-    × HasScriptFault lines stop)
+    HasHexFault (core_of_text lines) text stop
+    ⊎ (((bytes : List ℕ) × ((written : List Bool) × Denotes (core_of_text lines) text bytes written))
+    × HasScriptFault (core_of_text lines) lines stop)
 
 -- why nothing runs
 abbrev pub StopsLoading : Words → StoreView → StoreView → CommandError → Type 0
@@ -191,8 +191,8 @@ pub record AcceptsRun (words : Words) (files : Files) : Type 0 where
   pub lines : List ℕ
   pub script : get files (script_name words) ≡ Some lines
   pub script_fits : length lines ≤ 65536
-  pub image : (bytes : List ℕ) × ((written : List Bool) × Denotes Small text bytes written)
-  pub kept : AreKept (forms_of Small lines)
+  pub image : (bytes : List ℕ) × ((written : List Bool) × Denotes (core_of_text lines) text bytes written)
+  pub kept : AreKept (core_of_text lines) (forms_of lines)
 
 abbrev pub CanRun : Words → Option Disk → Type 0
 CanRun words None = ⊥

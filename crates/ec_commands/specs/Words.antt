@@ -1,7 +1,7 @@
 -- The words of a command line, without the program's name.
 use Rattle.std.specs.Prelude.{ℕ, ℤ}
 use Rattle.ec_space.specs.declared.Core.{Core}
-use Rattle.ec_space.specs.declared.Core.TheVariants.{Small}
+use Rattle.ec_space.specs.declared.Core.TheVariants.{Small, Large}
 use Rattle.ec_commands.specs.declared.words.Compiling.{Compiling}
 use Rattle.ec_commands.specs.declared.words.Compiling.TheVariants.{Build, Exec, Bound, Watch}
 use Rattle.ec_emu_watch.specs.declared.compare.Compare.{Compare}
@@ -90,7 +90,8 @@ pub record IsGen (words : Words) (n : ℕ) : Type 0 where
 
 -- a core by its name
 abbrev pub core_named : List ℕ → Option Core
-core_named name = if bytes_eq name (codes "small") then Some Small else None
+core_named name =
+    if bytes_eq name (codes "small") then Some Small else (if bytes_eq name (codes "large") then Some Large else None)
 
 -- list CORE HEX
 pub record IsList (words : Words) (core : Core) : Type 0 where

@@ -1,9 +1,8 @@
 //! The machine and the script of a run.
 ghost use Rattle.std.specs.Prelude.{◌≡◌, ◌≤◌, ◌<◌, ◌^◌, ◌∷◌, [], ◌⊎◌, ℕ, List, Bool, IfOk, IfErr, length, map};
-ghost use Rattle.ec_space.specs.declared.Core.TheVariants.{Small};
 ghost use Rattle.ec_avr.specs.Machine.{reset_with};
 ghost use Rattle.ec_hex.specs.Denotes.{Denotes};
-ghost use Rattle.ec_emu.specs.Script.{AreKept, entries, entry_of, forms_of};
+ghost use Rattle.ec_emu.specs.Script.{AreKept, core_of_text, entries, entry_of, forms_of};
 ghost use Rattle.ec_commands.specs.Runs.{AreInputs, IsLoaded, hex_stop, HasHexFault, HasScriptFault};
 ghost use Rattle.ec_commands.specs.Runs.{StopsReadingInputs, StopsLoading};
 ghost use Rattle.ec_io.specs.Views.{store_view};
@@ -13,7 +12,7 @@ ghost use Rattle.ec_commands.specs.Words.{hex_name, script_name};
 use crate::input::read;
 use crate::stop::{CommandError, Limit};
 use ec_avr::{Image, Machine};
-use ec_emu::{Script, ScriptStop, read_script};
+use ec_emu::{Script, ScriptStop, read_script, script_core};
 use ec_hex::{HexStop, read_hex};
 use ec_io::Store;
 use ec_space::{Core, Seq};
@@ -90,14 +89,14 @@ pub fn load_image(alloc: Global, core: Core, hex: &Seq<u8>) -> Result<Image, Com
     }
 }
 
-/// The machine after a reset, with the image that a HEX text denotes and `fill` in its registers and its memory.
-fn load_machine(alloc: Global, hex: &Seq<u8>, fill: u8) -> Result<Machine, CommandError>
+/// The machine of a core after a reset, with the image that a HEX text denotes and `fill` in its registers and its memory.
+fn load_machine(alloc: Global, core: Core, hex: &Seq<u8>, fill: u8) -> Result<Machine, CommandError>
     requires { length hex.now.items < 2 ^ 32 }
     ensures found { IfOk result (λ machine. (bytes : List ℕ) × ((written : List Bool)
-        × (Denotes Small hex.now.items bytes written × (machine ≡ reset_with Small bytes fill)))) }
-    ensures stopped { IfErr result (λ stop. (stop ≡ CommandError.NoMemory) ⊎ HasHexFault Small hex.now.items stop) }
+        × (Denotes core hex.now.items bytes written × (machine ≡ reset_with core bytes fill)))) }
+    ensures stopped { IfErr result (λ stop. (stop ≡ CommandError.NoMemory) ⊎ HasHexFault core hex.now.items stop) }
 {
-    let image = match load_image(alloc, Core::Small, hex) {
+    let image = match load_image(alloc, core, hex) {
         Ok(image) => image,
         Err(stop) => return Err(stop),
     };
@@ -107,21 +106,21 @@ fn load_machine(alloc: Global, hex: &Seq<u8>, fill: u8) -> Result<Machine, Comma
     }
 }
 
-/// The script that a text is.
-pub fn load_script(alloc: Global, text: &Seq<u8>) -> Result<Script, CommandError>
+/// The script for a core that a text is.
+pub fn load_script(alloc: Global, core: Core, text: &Seq<u8>) -> Result<Script, CommandError>
     requires { length text.now.items < 2 ^ 32 }
-    ensures kept { IfOk result (λ _. AreKept (forms_of Small text.now.items)) }
-    ensures lines { IfOk result (λ script. map entry_of script.lines.items ≡ entries (forms_of Small text.now.items)) }
-    ensures stopped { IfErr result (λ stop. (stop ≡ CommandError.NoMemory) ⊎ HasScriptFault text.now.items stop) }
+    ensures kept { IfOk result (λ _. AreKept core (forms_of text.now.items)) }
+    ensures lines { IfOk result (λ script. map entry_of script.lines.items ≡ entries (forms_of text.now.items)) }
+    ensures stopped { IfErr result (λ stop. (stop ≡ CommandError.NoMemory) ⊎ HasScriptFault core text.now.items stop) }
 {
-    match read_script(alloc, Core::Small, text) {
+    match read_script(alloc, core, text) {
         Ok(script) => Ok(script),
         Err(ScriptStop::Line { line, rule }) => Err(CommandError::ScriptLine(line, rule)),
         Err(ScriptStop::NoMemory) => Err(CommandError::NoMemory),
     }
 }
 
-/// Reads both files of `run HEX SCRIPT STEPS FILL` and loads what they hold.
+/// Reads both files of `run HEX SCRIPT STEPS FILL` and loads what they hold, for the core that the script names.
 pub fn load<S: Store>(
     alloc: Global,
     words: &Vec<String>,
@@ -145,11 +144,12 @@ pub fn load<S: Store>(
         Ok(inputs) => inputs,
         Err(stop) => return Err(stop),
     };
-    let machine = match load_machine(alloc, &inputs.hex, fill) {
+    let core = script_core(&inputs.script);
+    let machine = match load_machine(alloc, core, &inputs.hex, fill) {
         Ok(machine) => machine,
         Err(stop) => return Err(stop),
     };
-    match load_script(alloc, &inputs.script) {
+    match load_script(alloc, core, &inputs.script) {
         Ok(script) => Ok(Loaded { machine, script }),
         Err(stop) => Err(stop),
     }

@@ -176,6 +176,8 @@ fn core_named(name: &str) -> Option<Core>
 {
     if name == "small" {
         Some(Core::Small)
+    } else if name == "large" {
+        Some(Core::Large)
     } else {
         None
     }

@@ -103,11 +103,11 @@ build_stops words first old new map lines sources (Build stop) inputs h =
 
 pub script_stops : (words : Words) (first : ℕ) (old new : StoreView) (lines : List ℕ) (b : Built) (stop : CommandError)
     → IsExecBuilt words first old.disk lines b
-    → (stop ≡ NoMemory) ⊎ HasScriptFault lines stop → StopsLoadingExec words first old new (Command stop)
+    → (stop ≡ NoMemory) ⊎ HasScriptFault Small lines stop → StopsLoadingExec words first old new (Command stop)
 script_stops words first old new lines b stop from (inl e) = subst (λ s. StopsLoadingExec words first old new (Command s)) (sym e) tt
 script_stops words first old new lines b stop from (inr h) =
     subst (λ s. StopsLoadingExec words first old new (Command s)) (sym h.told)
-    (record { lines = lines; built = b; from = from; fault = subst (λ s. HasScriptFault lines s) h.told h })
+    (record { lines = lines; built = b; from = from; fault = subst (λ s. HasScriptFault Small lines s) h.told h })
 
 pub before_run : (words : Words) (first : ℕ) (old new : StoreView) (stop : CompileStop) → words_from words first ≤ 16
     → StopsLoadingExec words first old new stop → StopsBeforeRun words first old new stop
@@ -157,15 +157,15 @@ same_text : (found : Option (List ℕ)) (x y : List ℕ) → found ≡ Some x �
 same_text found x y p q = cc
 
 script_kept : (words : Words) (first : ℕ) (disk : Option Disk) (map lines : List ℕ) (sources : List (List ℕ)) → AcceptsExec words first disk
-    → Told (AreExecInputs words first map lines sources) disk → AreKept (forms_of Small lines)
+    → Told (AreExecInputs words first map lines sources) disk → AreKept Small (forms_of lines)
 script_kept words first None map lines sources accepted inputs = absurd accepted
 script_kept words first (Some disk) map lines sources accepted inputs =
-    subst (λ (t : List ℕ). AreKept (forms_of Small t))
+    subst (λ (t : List ℕ). AreKept Small (forms_of t))
     (same_text (get disk.files (script_name words)) accepted.lines lines accepted.inputs.script_there inputs.script_there) accepted.kept
 
 pub no_script_fault : (words : Words) (first : ℕ) (disk : Option Disk) (map lines : List ℕ) (sources : List (List ℕ)) (stop : CommandError)
     → AcceptsExec words first disk
-    → Told (AreExecInputs words first map lines sources) disk → (stop ≡ NoMemory) ⊎ HasScriptFault lines stop → commands.status_of stop ≡ 11
+    → Told (AreExecInputs words first map lines sources) disk → (stop ≡ NoMemory) ⊎ HasScriptFault Small lines stop → commands.status_of stop ≡ 11
 no_script_fault words first disk map lines sources stop accepted inputs (inl e) = ap commands.status_of e
 no_script_fault words first disk map lines sources stop accepted inputs (inr h) =
-    absurd (not_broken (forms_of Small lines) h.line h.rule (script_kept words first disk map lines sources accepted inputs) h.fault)
+    absurd (not_broken Small (forms_of lines) h.line h.rule (script_kept words first disk map lines sources accepted inputs) h.fault)

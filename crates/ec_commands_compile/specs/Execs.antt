@@ -43,8 +43,8 @@ pub record IsExecRead (words : Words) (first : ℕ) (disk : Option Disk) (b : Bu
   where
     pub lines : List ℕ
     pub from : IsExecBuilt words first disk lines b
-    pub kept : AreKept (forms_of Small lines)
-    pub scripted : map entry_of answers ≡ entries (forms_of Small lines)
+    pub kept : AreKept Small (forms_of lines)
+    pub scripted : map entry_of answers ≡ entries (forms_of lines)
 
 -- its machine is in the reset state with 165 everywhere, and the script says these answers
 pub record IsExecLoaded (words : Words) (disk : Option Disk) (machine : State) (answers : List ScriptLine) : Type 0
@@ -54,8 +54,8 @@ pub record IsExecLoaded (words : Words) (disk : Option Disk) (machine : State) (
     pub from : IsExecBuilt words 4 disk lines built
     pub reset : machine ≡ reset_with built.located.image.core built.located.image.bytes.items 165
     pub is_reset : IsReset built.located.image.core built.located.image.bytes.items machine
-    pub kept : AreKept (forms_of Small lines)
-    pub scripted : map entry_of answers ≡ entries (forms_of Small lines)
+    pub kept : AreKept Small (forms_of lines)
+    pub scripted : map entry_of answers ≡ entries (forms_of lines)
 
 -- The run of it, with hooks that give such answers, and what was shown of it. Where the source is defined on inputs
 -- that begin with the bytes that were read, the run keeps it
@@ -93,7 +93,7 @@ pub record HasBadScript (words : Words) (first : ℕ) (disk : Option Disk) (stop
   pub lines : List ℕ
   pub built : Built
   pub from : IsExecBuilt words first disk lines built
-  pub fault : HasScriptFault lines stop
+  pub fault : HasScriptFault Small lines stop
 
 -- why nothing runs, where there are at most 16 sources
 abbrev pub StopsLoadingExec : Words → ℕ → StoreView → StoreView → CompileStop → Type 0
@@ -127,7 +127,7 @@ pub record AreExecAccepted (words : Words) (first : ℕ) (files : Files) : Type 
   pub build : AreAccepted words first files
   pub lines : List ℕ
   pub inputs : AreExecInputs words first build.map lines build.sources files
-  pub kept : AreKept (forms_of Small lines)
+  pub kept : AreKept Small (forms_of lines)
 
 -- the store told its files, and they are accepted
 abbrev pub AcceptsExec : Words → ℕ → Option Disk → Type 0

@@ -10,7 +10,7 @@ use Rattle.ec_fx.specs.declared.formats.FxKind.TheVariants.{UnsignedFract, Unsig
 use Rattle.ec_fx.specs.declared.formats.FxKind.TheVariants.{UnsignedLongAccum}
 use Rattle.ec_fx.specs.Formats.{format_of}
 use Rattle.ec_space.specs.declared.space.SpaceId.{SpaceId}
-use Rattle.ec_space.specs.declared.space.SpaceId.TheVariants.{Flash, Data, Generic}
+use Rattle.ec_space.specs.declared.space.SpaceId.TheVariants.{Flash, FarFlash, Data, Generic}
 use Rattle.ec_space.specs.Spaces.{width}
 use Rattle.ec_core.specs.Layout.{PlainLeaf, Layout, empty_layout, followed_by, repeated, scalar_size, scalar_layout, type_layout}
 use Rattle.ec_core.specs.Layout.{members_layout, layouts_from, struct_layouts, size_of_type, leaves_of_type, IsIntegerSize, IsElement}
@@ -68,6 +68,7 @@ kind_small UnsignedLongAccum = record { some = omega arith; most = omega arith }
 
 width_small : (space : SpaceId) → IsSmall (width space)
 width_small Flash = record { some = omega arith; most = omega arith }
+width_small FarFlash = record { some = omega arith; most = omega arith }
 width_small Data = record { some = omega arith; most = omega arith }
 width_small Generic = record { some = omega arith; most = omega arith }
 

@@ -12,7 +12,7 @@ use Rattle.ec_fx.specs.declared.formats.FxKind.TheVariants.{UnsignedFract, Unsig
 use Rattle.ec_fx.specs.declared.formats.FxKind.TheVariants.{UnsignedLongAccum}
 use Rattle.ec_fx.specs.Formats.{format_of}
 use Rattle.ec_space.specs.declared.space.SpaceId.{SpaceId}
-use Rattle.ec_space.specs.declared.space.SpaceId.TheVariants.{Flash, Data, Generic}
+use Rattle.ec_space.specs.declared.space.SpaceId.TheVariants.{Flash, FarFlash, Data, Generic}
 use Rattle.ec_space.specs.Spaces.{width}
 use Rattle.ec_core.specs.declared.types.Member.{Member}
 use Rattle.ec_core.specs.declared.types.StructDef.{StructDef}
@@ -203,6 +203,7 @@ kind_bound UnsignedLongAccum = lit≤ tt
 
 width_bound : (space : SpaceId) → width space ≤ 3
 width_bound Flash = lit≤ tt
+width_bound FarFlash = lit≤ tt
 width_bound Data = lit≤ tt
 width_bound Generic = lit≤ tt
 

@@ -3,6 +3,7 @@ pub mod Conversions
 pub mod Filled
 pub mod Growth
 pub mod HeldNumbers
+pub mod Homes
 pub mod Rows
 pub mod Sameness
 pub mod StructLists

@@ -9,7 +9,7 @@ use Rattle.ec_fx.specs.declared.formats.FxKind.TheVariants.{UnsignedFract, Unsig
 use Rattle.ec_fx.specs.declared.formats.FxKind.TheVariants.{UnsignedLongAccum}
 use Rattle.ec_fx.specs.Formats.{format_of}
 use Rattle.ec_space.specs.declared.space.SpaceId.{SpaceId}
-use Rattle.ec_space.specs.declared.space.SpaceId.TheVariants.{Flash, Data, Generic}
+use Rattle.ec_space.specs.declared.space.SpaceId.TheVariants.{Flash, FarFlash, Data, Generic}
 use Rattle.ec_core.specs.Laws.{TypesAreTold}
 use Rattle.ec_core.specs.Operators.{same_bool, same_space, same_kind, same_type}
 use Rattle.ec_core.specs.Plain.{PlainType, void, integer, fixed, pointer, array, struct}
@@ -32,12 +32,19 @@ bool_true false false e = refl
 
 space_true : (s t : SpaceId) → same_space s t ≡ true → s ≡ t
 space_true Flash Flash e = refl
+space_true Flash FarFlash e = cc
 space_true Flash Data e = cc
 space_true Flash Generic e = cc
+space_true FarFlash Flash e = cc
+space_true FarFlash FarFlash e = refl
+space_true FarFlash Data e = cc
+space_true FarFlash Generic e = cc
 space_true Data Flash e = cc
+space_true Data FarFlash e = cc
 space_true Data Data e = refl
 space_true Data Generic e = cc
 space_true Generic Flash e = cc
+space_true Generic FarFlash e = cc
 space_true Generic Data e = cc
 space_true Generic Generic e = refl
 
@@ -149,6 +156,7 @@ bool_itself false = refl
 
 space_itself : (s : SpaceId) → same_space s s ≡ true
 space_itself Flash = refl
+space_itself FarFlash = refl
 space_itself Data = refl
 space_itself Generic = refl
 

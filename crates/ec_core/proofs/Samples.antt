@@ -9,7 +9,7 @@ use Rattle.ec_iohw.specs.declared.operations.IoOp.TheVariants.{Read as PortRead,
 use Rattle.ec_iohw.specs.declared.table.IoTable.{IoTable}
 use Rattle.ec_iohw.specs.Valid.{ValidIo}
 use Rattle.ec_core.specs.Layout.{IsIntegerSize}
-use Rattle.ec_space.specs.declared.space.Bank.TheVariants.{Data as DataBank}
+use Rattle.ec_space.specs.declared.space.Home.TheVariants.{Data as DataHome}
 use Rattle.ec_space.specs.declared.space.SpaceId.TheVariants.{Flash, Generic}
 use Rattle.ec_runs.specs.Behaviours.{Running, Ended, Failed}
 use Rattle.ec_core.specs.declared.expressions.BinOp.TheVariants.{Add, Sub, Div, Shl, Lt, Eq}
@@ -69,7 +69,7 @@ variable ty storage = record {
   external = false;
   ty = ty;
   space = Generic;
-  home = DataBank;
+  home = DataHome;
   const = false;
   storage = storage;
 }
@@ -324,7 +324,7 @@ overwriting = program (record {
   external = true;
   ty = int;
   space = Generic;
-  home = DataBank;
+  home = DataHome;
   const = true;
   storage = static (TheNumber (pos 1) ∷ []);
 } ∷ [])

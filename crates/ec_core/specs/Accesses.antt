@@ -3,9 +3,9 @@
 use Rattle.std.specs.Prelude.{ℕ, ◌+◌, ◌==◌, Bool, true, false, ◌&&◌, ◌||◌, if◌then◌else◌, List, [], ◌∷◌, length, take}
 use Rattle.std.specs.Prelude.{replicate, Option, Some, None, option_map, option_and_then, unwrap_or, slice_get}
 use Rattle.std.specs.List.{position_from}
-use Rattle.ec_space.specs.declared.space.Bank.TheVariants.{Data as DataBank}
+use Rattle.ec_space.specs.declared.space.Home.{Home}
+use Rattle.ec_space.specs.declared.space.Home.TheVariants.{Flash as FlashHome, Far as FarHome, Data as DataHome}
 use Rattle.ec_space.specs.declared.space.SpaceId.{SpaceId}
-use Rattle.ec_space.specs.declared.space.SpaceId.TheVariants.{Flash}
 use Rattle.ec_space.specs.Spaces.{holds}
 use Rattle.ec_core.specs.declared.values.ObjectPointer.{ObjectPointer}
 use Rattle.ec_core.specs.declared.values.Referent.{Referent}
@@ -33,7 +33,7 @@ is_live_in p x = x.live && x.serial == p.instance
 
 -- what stands beside a pointer without an object; it counts for nothing
 abbrev pub nothing_known : Referent
-nothing_known = record { live = false; size = 0; home = DataBank }
+nothing_known = record { live = false; size = 0; home = DataHome }
 
 -- what is known of the instance that a pointer points into
 abbrev pub referent_of : PlainProgram → PointerValue → State → Referent
@@ -169,9 +169,15 @@ abbrev pub stored : Access → Value → State → State
 stored a v s =
     recorded a.declared.storage (Write a.object a.leaf a.space (told v)) (with_object a.object (with_leaf a.leaf v) s)
 
+-- what is kept in flash is not written
+abbrev pub is_read_only : Home → Bool
+is_read_only FlashHome = true
+is_read_only FarHome = true
+is_read_only DataHome = false
+
 -- const objects and those kept in flash are not written (6.7.3)
 abbrev pub is_fixed : PlainObject → Bool
-is_fixed o = o.const || holds Flash o.home
+is_fixed o = o.const || is_read_only o.home
 
 -- one write of a leaf, whose value is that of the assignment (6.5.16)
 abbrev pub write : Option Access → Value → State → Outcome Value

@@ -4,7 +4,7 @@ use Rattle.std.specs.Prelude.{ℕ, Bool, ℤ, List, [], ◌∷◌, map, Option, 
 use Rattle.ec_fx.specs.declared.formats.FxKind.{FxKind}
 use Rattle.ec_fx.specs.declared.numbers.Mode.{Mode}
 use Rattle.ec_iohw.specs.declared.operations.IoOp.{IoOp}
-use Rattle.ec_space.specs.declared.space.Bank.{Bank}
+use Rattle.ec_space.specs.declared.space.Home.{Home}
 use Rattle.ec_space.specs.declared.space.SpaceId.{SpaceId}
 use Rattle.ec_core.specs.declared.expressions.BinOp.{BinOp}
 use Rattle.ec_core.specs.declared.expressions.UnOp.{UnOp}
@@ -220,7 +220,7 @@ pub record PlainObject : Type 0 where
   pub external : Bool
   pub ty : PlainType
   pub space : SpaceId
-  pub home : Bank
+  pub home : Home
   pub const : Bool
   pub storage : PlainStorage
 

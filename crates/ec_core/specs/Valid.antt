@@ -5,7 +5,7 @@ use Rattle.std.specs.Prelude.{length, AllPairs, Contains, Option, Some, None, sl
 use Rattle.std.specs.List.{AllByRecursion}
 use Rattle.ec_iohw.specs.declared.table.IoTable.{IoTable}
 use Rattle.ec_iohw.specs.Valid.{ValidIo}
-use Rattle.ec_space.specs.declared.space.Bank.TheVariants.{Data as DataBank}
+use Rattle.ec_space.specs.declared.space.Home.TheVariants.{Data as DataHome}
 use Rattle.ec_space.specs.Spaces.{holds}
 use Rattle.ec_core.specs.declared.programs.LeafInit.{LeafInit}
 use Rattle.ec_core.specs.declared.programs.LeafInit.TheVariants.{Number, Null, Address}
@@ -59,13 +59,13 @@ pub record IsRegisterObject (p : PlainProgram) (o : PlainObject) (first : ℕ) :
   pub arithmetic : IsSomeAnd (arithmetic_of o.ty) (λ t. ⊤)
   pub low : 2 ≤ first
   pub high : first + size_of_type p.structs o.ty ≤ 8
-  pub home : o.home ≡ DataBank
+  pub home : o.home ≡ DataHome
 
--- a parameter is scalar; locals, parameters and named registers are kept in the data bank
+-- a parameter is scalar; locals, parameters and named registers have the home data
 abbrev pub IsStored : PlainProgram → PlainObject → PlainStorage → Type 0
 IsStored p o (static inits) = AreInitialValues p (leaves_of_type p.structs o.ty) inits
-IsStored p o (local f) = (f < length p.functions) × (o.home ≡ DataBank)
-IsStored p o (param f) = (f < length p.functions) × (o.home ≡ DataBank) × IsScalar o.ty
+IsStored p o (local f) = (f < length p.functions) × (o.home ≡ DataHome)
+IsStored p o (param f) = (f < length p.functions) × (o.home ≡ DataHome) × IsScalar o.ty
 IsStored p o (register first) = IsRegisterObject p o first
 
 pub record IsObject (p : PlainProgram) (o : PlainObject) : Type 0 where

@@ -1,8 +1,8 @@
 -- The weight of a program in words (our own profile): the sum of the words of its parts, each as often as it stands
 -- there. Twice the weight bounds the bytes of its code.
 use Rattle.std.specs.Prelude.{ℕ, ◌+◌, ◌*◌, List, [], ◌∷◌, Option, Some, None}
-use Rattle.ec_space.specs.declared.space.Bank.{Bank}
-use Rattle.ec_space.specs.declared.space.Bank.TheVariants.{Data, Flash}
+use Rattle.ec_space.specs.declared.space.Home.{Home}
+use Rattle.ec_space.specs.declared.space.Home.TheVariants.{Data, Flash, Far}
 use Rattle.ec_core.specs.Plain.{PlainExpr, expression, PlainNode, number, null, load, address_of, unary, binary}
 use Rattle.ec_core.specs.Plain.{convert, assign, compound, step, logical_not, logical_and, logical_or, conditional}
 use Rattle.ec_core.specs.Plain.{comma, call, io, group, PlainPlace, object, deref, member, OptionPlainExpr, no_expr}
@@ -102,13 +102,14 @@ module _ (table : PlainTable) where
   functions_weight [] = 0
   functions_weight (f ∷ fs) = function_weight f + functions_weight fs
 
--- a static object of the data bank, whose initial values are written when the program starts
+-- a static object of the home data, whose initial values are written when the program starts
 abbrev pub object_words : ℕ
 object_words = 20
 
-abbrev pub object_weight : PlainStorage → Bank → ℕ
+abbrev pub object_weight : PlainStorage → Home → ℕ
 object_weight (static inits) Data = object_words
 object_weight (static inits) Flash = 0
+object_weight (static inits) Far = 0
 object_weight (local f) home = 0
 object_weight (param f) home = 0
 object_weight (register r) home = 0

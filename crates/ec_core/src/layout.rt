@@ -34,7 +34,7 @@ fn pointer_size(space: SpaceId) -> u32
 {
     match space {
         SpaceId::Flash | SpaceId::Data => 2,
-        SpaceId::Generic => 3,
+        SpaceId::FarFlash | SpaceId::Generic => 3,
     }
 }
 

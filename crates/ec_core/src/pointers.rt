@@ -243,7 +243,7 @@ pub fn pointer_truth(p: Option<ObjectPointer>, of: Referent) -> Result<bool, Und
 }
 
 /// The pointer in a space, which keeps object and offset. Undefined are an object that is not live, and
-/// one that is kept in a bank which the space lacks.
+/// one whose home the space lacks.
 pub fn pointer_conversion(
     space: SpaceId,
     p: Option<ObjectPointer>,

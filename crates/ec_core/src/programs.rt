@@ -1,7 +1,7 @@
 //! Programs: structs, objects and functions.
 use crate::statements::Stmt;
 use crate::types::{CType, StructDef};
-use ec_space::{Bank, Name, Seq, SpaceId};
+use ec_space::{Home, Name, Seq, SpaceId};
 
 /// The initial value of a leaf of a static object.
 #[derive(Drop)]
@@ -38,8 +38,8 @@ pub struct Obj {
     pub ty: CType,
     /// The space of its declaration.
     pub space: SpaceId,
-    /// The bank that it is kept in.
-    pub home: Bank,
+    /// What it is kept in, by its declaration.
+    pub home: Home,
     pub konst: bool,
     pub storage: Storage,
 }

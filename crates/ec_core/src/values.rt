@@ -1,5 +1,5 @@
 //! Values of a running program, and the points at which it is undefined.
-use ec_space::Bank;
+use ec_space::Home;
 
 /// Why a program is undefined, in the order of the language's list of such points. The last one stands
 /// outside that list: no valid program meets it.
@@ -67,6 +67,6 @@ pub struct Referent {
     pub live: bool,
     /// In bytes.
     pub size: u32,
-    /// The bank that it is kept in.
-    pub home: Bank,
+    /// What it is kept in.
+    pub home: Home,
 }

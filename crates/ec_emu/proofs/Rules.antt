@@ -17,7 +17,7 @@ use Rattle.ec_emu.proofs.Traces.{slice_get-front, slice_get-seam}
 pub entries-append : (xs ys : List Form) → entries (xs ++ ys) ≡ entries xs ++ entries ys
 entries-append [] ys = refl
 entries-append (Passed ∷ xs) ys = entries-append xs ys
-entries-append (CoreName ∷ xs) ys = entries-append xs ys
+entries-append (CoreName core ∷ xs) ys = entries-append xs ys
 entries-append (Listed port hook bytes ∷ xs) ys =
     ap (λ (more : List Entry). record { port = port; hook = hook; bytes = bytes } ∷ more) (entries-append xs ys)
 entries-append (NoForm ∷ xs) ys = entries-append xs ys
@@ -52,10 +52,10 @@ next_form forms n form at =
     take_more forms n form (slice_get_within forms n form at)
     ∙ ap (λ (f : Form). take n forms ++ f ∷ []) (get_or_from_slice_get forms n form form at)
 
-kept_push : (xs : List Form) (y : Form) → AreKept xs → broken xs y ≡ None → AreKept (xs ++ y ∷ [])
-kept_push xs y kept keeps n form at = either (cases_order n (length xs))
+kept_push : (core : Core) (xs : List Form) (y : Form) → AreKept core xs → broken core xs y ≡ None → AreKept core (xs ++ y ∷ [])
+kept_push core xs y kept keeps n form at = either (cases_order n (length xs))
   where
-    either : (n ≡ length xs) ⊎ ((n < length xs) ⊎ (length xs < n)) → broken (take n (xs ++ y ∷ [])) form ≡ None
+    either : (n ≡ length xs) ⊎ ((n < length xs) ⊎ (length xs < n)) → broken core (take n (xs ++ y ∷ [])) form ≡ None
     either (inl same) =
         let here : y ≡ form = cc (ap (λ (k : ℕ). slice_get (xs ++ y ∷ []) k) same, slice_get-seam xs y [], at) in
         rw (take_at xs (y ∷ []) n (sym same), ← here) keeps
@@ -63,11 +63,11 @@ kept_push xs y kept keeps n form at = either (cases_order n (length xs))
         rw (take-append-le n xs (y ∷ []) (omega (arith, below))) (kept n form (sym (slice_get-front xs (y ∷ []) n below) ∙ at))
     either (inr (inr above)) = absurd (omega (arith, above, slice_get_within (xs ++ y ∷ []) n form at, length-append xs (y ∷ [])))
 
-pub kept_on : (forms : List Form) (n : ℕ) (form : Form) → slice_get forms n ≡ Some form → AreKept (take n forms)
-    → broken (take n forms) form ≡ None
-    → AreKept (take (n + 1) forms)
-kept_on forms n form at kept keeps =
-    subst (λ (fs : List Form). AreKept fs) (sym (next_form forms n form at)) (kept_push (take n forms) form kept keeps)
+pub kept_on : (core : Core) (forms : List Form) (n : ℕ) (form : Form) → slice_get forms n ≡ Some form → AreKept core (take n forms)
+    → broken core (take n forms) form ≡ None
+    → AreKept core (take (n + 1) forms)
+kept_on core forms n form at kept keeps =
+    subst (λ (fs : List Form). AreKept core fs) (sym (next_form forms n form at)) (kept_push core (take n forms) form kept keeps)
 
 -- a line that breaks a rule is not among lines that keep all
 slice_get-take : (forms : List Form) (n m : ℕ) (form : Form) → n < m → slice_get forms n ≡ Some form
@@ -77,42 +77,42 @@ slice_get-take forms n m form below at =
     slice_get-get_or (take m forms) n form (omega (arith, length-take m forms, within, below))
     ∙ ap Some (get_or-take m forms n form below ∙ get_or_from_slice_get forms n form form at)
 
-not_kept : (forms : List Form) (line rule m : ℕ) (b : BreaksAt forms line rule) → b.n < m → AreKept (take m forms) → ⊥
-not_kept forms line rule m b below kept =
-    let keeps : broken (take b.n forms) b.form ≡ None =
-    ap (λ (before : List Form). broken before b.form) (sym (take-take b.n m forms (omega (arith, below))))
+not_kept : (core : Core) (forms : List Form) (line rule m : ℕ) (b : BreaksAt core forms line rule) → b.n < m → AreKept core (take m forms) → ⊥
+not_kept core forms line rule m b below kept =
+    let keeps : broken core (take b.n forms) b.form ≡ None =
+    ap (λ (before : List Form). broken core before b.form) (sym (take-take b.n m forms (omega (arith, below))))
     ∙ kept b.n b.form (slice_get-take forms b.n m b.form below b.at) in
     cc (keeps, b.breaks)
 
-pub no_break : (forms : List Form) (line rule : ℕ) → BreaksAt forms line rule → AreKept forms → ⊥
-no_break forms line rule b kept =
-    not_kept forms line rule (length forms) b (slice_get_within forms b.n b.form b.at)
-    (subst (λ (fs : List Form). AreKept fs) (sym (take_all (length forms) forms (omega arith))) kept)
+pub no_break : (core : Core) (forms : List Form) (line rule : ℕ) → BreaksAt core forms line rule → AreKept core forms → ⊥
+no_break core forms line rule b kept =
+    not_kept core forms line rule (length forms) b (slice_get_within forms b.n b.form b.at)
+    (subst (λ (fs : List Form). AreKept core fs) (sym (take_all (length forms) forms (omega arith))) kept)
 
-pub one_break : (forms : List Form) (line rule other next : ℕ) → BreaksAt forms line rule → BreaksAt forms other next
+pub one_break : (core : Core) (forms : List Form) (line rule other next : ℕ) → BreaksAt core forms line rule → BreaksAt core forms other next
     → (line ≡ other) × (rule ≡ next)
-one_break forms line rule other next a b = either (cases_order a.n b.n)
+one_break core forms line rule other next a b = either (cases_order a.n b.n)
   where
     either : (a.n ≡ b.n) ⊎ ((a.n < b.n) ⊎ (b.n < a.n)) → (line ≡ other) × (rule ≡ next)
     either (inl same) =
         let form : a.form ≡ b.form = cc (ap (λ (n : ℕ). slice_get forms n) same, a.at, b.at) in
         let rules : Some rule ≡ Some next =
-        sym a.breaks ∙ ap (λ (n : ℕ). broken (take n forms) a.form) same ∙ ap (λ (f : Form). broken (take b.n forms) f) form ∙ b.breaks in
+        sym a.breaks ∙ ap (λ (n : ℕ). broken core (take n forms) a.form) same ∙ ap (λ (f : Form). broken core (take b.n forms) f) form ∙ b.breaks in
         (a.place ∙ ap (λ (n : ℕ). n + 1) same ∙ sym b.place, cc rules)
-    either (inr (inl below)) = absurd (not_kept forms line rule b.n a below b.before)
-    either (inr (inr below)) = absurd (not_kept forms other next a.n b below a.before)
+    either (inr (inl below)) = absurd (not_kept core forms line rule b.n a below b.before)
+    either (inr (inr below)) = absurd (not_kept core forms other next a.n b below a.before)
 
-pub only_stop : (core : Core) (text : List ℕ) (line rule : ℕ) → BreaksAt (forms_of core text) line rule → (stop : ScriptStop)
+pub only_stop : (core : Core) (text : List ℕ) (line rule : ℕ) → BreaksAt core (forms_of text) line rule → (stop : ScriptStop)
     → IsNoScript core text stop → stop ≢ NoMemory
     → Line line rule ≡ stop
 only_stop core text line rule b (Line other next) stops some =
-    let same = one_break (forms_of core text) line rule other next b stops in
+    let same = one_break core (forms_of text) line rule other next b stops in
     ap (λ (l : ℕ). Line l rule) same.0 ∙ ap (λ (r : ℕ). Line other r) same.1
 only_stop core text line rule b NoMemory stops some = absurd (some refl)
 
-pub no_stop : (core : Core) (text : List ℕ) → AreKept (forms_of core text) → (stop : ScriptStop) → IsNoScript core text stop
+pub no_stop : (core : Core) (text : List ℕ) → AreKept core (forms_of text) → (stop : ScriptStop) → IsNoScript core text stop
     → stop ≢ NoMemory → ⊥
-no_stop core text kept (Line line rule) stops some = no_break (forms_of core text) line rule stops kept
+no_stop core text kept (Line line rule) stops some = no_break core (forms_of text) line rule stops kept
 no_stop core text kept NoMemory stops some = some refl
 
 -- what is left of a list

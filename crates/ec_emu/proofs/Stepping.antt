@@ -31,9 +31,9 @@ low_port s port e = by_whole (is_whole s) (load_address (instruction_at s s.pc) 
     by_whole false at e = cc
     by_whole true None e = cc
     by_whole true (Some at) e =
-        let is = cond_some (is_port at && nat_lt at (length s.mem.data)) at port e in
-        let test = and_parts (is_port at) (nat_lt at (length s.mem.data)) is.0 in
-        let low = and_parts (nat_lt at 256) (not (is_core_register at)) test.0 in
+        let is = cond_some (is_port s.core at && nat_lt at (length s.mem.data)) at port e in
+        let test = and_parts (is_port s.core at) (nat_lt at (length s.mem.data)) is.0 in
+        let low = and_parts (nat_lt at 256) (not (is_core_register s.core at)) test.0 in
         omega (arith, ltb-true at 256 low.0, is.1)
 
 abbrev ask_with : ℕ → ℕ → ℕ → Ask

@@ -6,13 +6,13 @@ use Rattle.std.specs.Char.{digit_value, is_digit}
 use Rattle.std.specs.List.{slice_split, list_all}
 use Rattle.std.specs.Option.{option_map_or}
 use Rattle.ec_space.specs.declared.Core.{Core}
-use Rattle.ec_space.specs.declared.Core.TheVariants.{Small}
+use Rattle.ec_space.specs.declared.Core.TheVariants.{Small, Large}
 
 pub data Form : Type 0 where
   -- an empty line, or one that begins with `#`
   Passed : Form
-  -- the name of the core
-  CoreName : Form
+  -- the name of a core
+  CoreName : (core : Core) → Form
   -- what a port answers: it is hooked, or answers these bytes in turn
   Listed : (port : ℕ) (hook : Bool) (bytes : List ℕ) → Form
   -- any other line
@@ -66,8 +66,20 @@ port_form _ = NoForm
 
 abbrev pub core_line : Core → List ℕ
 core_line Small = codes "core small"
+core_line Large = codes "core large"
 
-abbrev pub form_of : Core → List ℕ → Form
-form_of core [] = Passed
-form_of core (c ∷ text) =
-    if c == 35 then Passed else (if bytes_eq (c ∷ text) (core_line core) then CoreName else port_form (c ∷ text))
+-- an empty line, or a comment
+abbrev pub counts_not : List ℕ → Bool
+counts_not [] = true
+counts_not (c ∷ text) = c == 35
+
+abbrev pub form_of : List ℕ → Form
+form_of text =
+    if counts_not text then Passed
+    else (if bytes_eq text (core_line Small) then CoreName Small
+    else (if bytes_eq text (core_line Large) then CoreName Large else port_form text))
+
+-- the first line that is neither empty nor a comment, and an empty one where there is none
+abbrev pub first_counting : List (List ℕ) → List ℕ
+first_counting [] = []
+first_counting (line ∷ more) = if counts_not line then first_counting more else line

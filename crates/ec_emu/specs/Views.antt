@@ -5,6 +5,6 @@ use Rattle.ec_emu.specs.declared.read.Form.TheVariants.{Passed, CoreName, Listed
 
 abbrev pub form_view : Form → forms.Form
 form_view Passed = forms.Passed
-form_view CoreName = forms.CoreName
+form_view (CoreName core) = forms.CoreName core
 form_view (Listed line) = forms.Listed line.port line.hook line.bytes.items
 form_view NoForm = forms.NoForm

@@ -17,7 +17,7 @@ mod stop;
 
 pub use ask::{Ask, Ports, Rule};
 pub use hook::{Hook, Hooked};
-pub use read::{ScriptStop, read_script};
+pub use read::{ScriptStop, read_script, script_core};
 pub use run::{EmuEnd, EmuReport, UntilReport, emulate, emulate_until};
 pub use script::{Script, ScriptLine, Scripted};
 pub use stop::{Never, Stop};

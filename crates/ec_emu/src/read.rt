@@ -1,13 +1,15 @@
 //! Reading scripts.
 ghost use Rattle.std.specs.Prelude.{◌≡◌, ◌≢◌, ◌<◌, ◌+◌, ◌^◌, ◌⊎◌, ◌==◌, ◌++◌, ◌∷◌, [], not, ◌||◌, List, position};
-ghost use Rattle.std.specs.Prelude.{length, map, IfOk, IfErr, OnOk, IsErrOf, IsOkUnless, option_map};
+ghost use Rattle.std.specs.Prelude.{length, map, IfOk, IfErr, OnOk, IsErrOf, IsOkUnless, option_map, if◌then◌else◌};
+ghost use Rattle.std.specs.Prelude.{Some, None};
 ghost use Rattle.std.specs.List.{list_all, list_any};
+ghost use Rattle.std.specs.Str.Lines.{lines};
 ghost use Rattle.ec_avr.specs.State.{is_port};
 ghost use Rattle.ec_emu.specs.declared.read.ScriptStop.{ScriptStop};
 ghost use Rattle.ec_emu.specs.declared.read.ScriptStop.TheVariants.{NoMemory as OutOfMemory};
 ghost use Rattle.ec_emu.specs.Forms.{Form as LineForm, byte_of, bytes_of, bytes_behind, is_hook, listed, port_form};
-ghost use Rattle.ec_emu.specs.Forms.{core_line, form_of, words, PutsWord};
-ghost use Rattle.ec_emu.specs.Script.{AreKept, IsNoScript, entries, entry_of, forms_of, broken, is_passed};
+ghost use Rattle.ec_emu.specs.Forms.{core_line, counts_not, first_counting, form_of, words, PutsWord};
+ghost use Rattle.ec_emu.specs.Script.{AreKept, IsNoScript, core_of_text, entries, entry_of, forms_of, broken, is_passed, is_same};
 ghost use Rattle.ec_emu.specs.Views.{form_view};
 
 use crate::script::{Script, ScriptLine};
@@ -20,7 +22,8 @@ use thiserror::Error;
 #[derive(Clone, Copy, Debug, PartialEq, Eq, Error)]
 pub enum ScriptStop {
     /// The first line that breaks a rule, by its number from 1, with the least rule that it breaks:
-    /// 1 for the form of the line, 2 for an address that is no port's, 3 for an address that stood in an earlier line.
+    /// 1 for the form of the line, 2 for an address that is no port's, 3 for an address that stood in an earlier line, 4
+    /// for the name of another core.
     #[error("line {line}: rule {rule}")]
     Line { line: u32, rule: u8 },
     #[error("no memory")]
@@ -40,8 +43,8 @@ impl From<NoMemory> for ScriptStop {
 pub enum Form {
     /// An empty line or a comment.
     Passed,
-    /// The name of the core.
-    CoreName,
+    /// The name of a core.
+    CoreName(Core),
     /// What a port answers.
     Listed(ScriptLine),
     /// Any other line.
@@ -166,25 +169,47 @@ fn core_line(core: Core) -> &'static [u8]
 {
     match core {
         Core::Small => b"core small",
+        Core::Large => b"core large",
     }
+}
+
+/// Whether a line is empty or a comment.
+fn counts_not(text: &[u8]) -> bool
+    ensures { result ≡ counts_not text.now }
+{
+    matches!(text, [] | [b'#', ..])
 }
 
 /// The form of a line.
-fn form_of(alloc: Global, core: Core, text: &[u8]) -> Result<Form, NoMemory>
-    ensures { IfOk result (λ form. form_view form ≡ form_of core text.now) }
+fn form_of(alloc: Global, text: &[u8]) -> Result<Form, NoMemory>
+    ensures { IfOk result (λ form. form_view form ≡ form_of text.now) }
 {
-    match text {
-        [] | [b'#', ..] => Ok(Form::Passed),
-        _ if text == core_line(core) => Ok(Form::CoreName),
-        _ => port_form(alloc, text),
+    if counts_not(text) {
+        Ok(Form::Passed)
+    } else if text == core_line(Core::Small) {
+        Ok(Form::CoreName(Core::Small))
+    } else if text == core_line(Core::Large) {
+        Ok(Form::CoreName(Core::Large))
+    } else {
+        port_form(alloc, text)
     }
 }
 
-/// Whether an address is that of a port: from 0x20 to 0xFF, but not SPL, SPH or SREG.
-fn is_port(address: u8) -> bool
-    ensures { result ≡ is_port address }
+/// Whether an address is that of a port of a core.
+fn is_port(core: Core, address: u8) -> bool
+    ensures { result ≡ is_port core address }
 {
-    0x20 <= address && address != 0x5D && address != 0x5E && address != 0x5F
+    ec_isa::is_port(core, address as u16)
+}
+
+/// Whether two cores are one.
+fn is_same(named: Core, core: Core) -> bool
+    ensures { result ≡ is_same named core }
+{
+    match (named, core) {
+        (Core::Small, Core::Small) | (Core::Large, Core::Large) => true,
+        (Core::Small, Core::Large) | (Core::Large, Core::Small) => false,
+    }
 }
 
 /// Whether lines have one of a port.
@@ -212,18 +237,31 @@ fn put(lines: &mut Seq<ScriptLine>, form: Form) -> Result<(), NoMemory>
     }
 }
 
-/// The least rule that a line breaks after lines that were kept, of which these are the ports' lines. `begun` tells
-/// that one of them was neither empty nor a comment.
-fn broken(lines: &[ScriptLine], begun: bool, form: &Form) -> Option<u8>
+/// The least rule that the name of a core breaks, where the script is for a core.
+fn broken_by_name(core: Core, begun: bool, named: Core) -> Option<u8>
+    ensures { result ≡ (if begun then Some 1 else (if is_same named core then None else Some 4)) }
+{
+    if begun {
+        Some(1)
+    } else if is_same(named, core) {
+        None
+    } else {
+        Some(4)
+    }
+}
+
+/// The least rule that a line of a script for a core breaks after lines that were kept, of which these are the ports'
+/// lines. `begun` tells that one of them was neither empty nor a comment.
+fn broken(core: Core, lines: &[ScriptLine], begun: bool, form: &Form) -> Option<u8>
     ensures { (before : List LineForm) → map entry_of lines.now ≡ entries before
         → begun ≡ not (list_all is_passed before)
-        → result ≡ broken before (form_view form.now) }
+        → result ≡ broken core before (form_view form.now) }
 {
     match form {
         Form::Passed => None,
-        Form::CoreName => if begun { Some(1) } else { None },
+        Form::CoreName(named) => broken_by_name(core, begun, *named),
         Form::Listed(line) => {
-            if !is_port(line.port) {
+            if !is_port(core, line.port) {
                 Some(2)
             } else if has_line(lines, line.port) {
                 Some(3)
@@ -235,17 +273,44 @@ fn broken(lines: &[ScriptLine], begun: bool, form: &Form) -> Option<u8>
     }
 }
 
-/// The script that a text is, or the first rule that it breaks.
+/// The first line of a text that is neither empty nor a comment, and an empty one where there is none.
+fn first_counting<'a>(text: &'a [u8]) -> &'a [u8]
+    ensures { result.now ≡ first_counting (lines text.now) }
+{
+    let mut rest = text;
+    'lines: while !rest.is_empty() {
+        let (line, more) = first_line(rest);
+        if !counts_not(line) {
+            return line;
+        }
+        rest = more;
+    }
+    rest
+}
+
+/// The core that the text of a script is for: the one that its first line names, of those that are neither empty nor
+/// comments, and the small one where that line names none. It takes no memory.
+pub fn script_core(bytes: &Seq<u8>) -> Core
+    ensures { result ≡ core_of_text bytes.now.items }
+{
+    if first_counting(bytes.as_slice()) == core_line(Core::Large) {
+        Core::Large
+    } else {
+        Core::Small
+    }
+}
+
+/// The script for a core that a text is, or the first rule that it breaks.
 ///
 /// Lines end with LF or CRLF, and the last may stand without an end. All are counted.
 pub fn read_script(alloc: Global, core: Core, bytes: &Seq<u8>) -> Result<Script, ScriptStop>
     requires few { length bytes.now.items < 2 ^ 32 }
-    ensures kept { IfOk result (λ _. AreKept (forms_of core bytes.now.items)) }
-    ensures lines { IfOk result (λ script. map entry_of script.lines.items ≡ entries (forms_of core bytes.now.items)) }
+    ensures kept { IfOk result (λ _. AreKept core (forms_of bytes.now.items)) }
+    ensures lines { IfOk result (λ script. map entry_of script.lines.items ≡ entries (forms_of bytes.now.items)) }
     ensures stopped { IfErr result (IsNoScript core bytes.now.items) }
 
     // Where the text is a script, or breaks a rule first, no other answer comes but out of memory.
-    ensures script { AreKept (forms_of core bytes.now.items) → IsOkUnless result ScriptStop.NoMemory }
+    ensures script { AreKept core (forms_of bytes.now.items) → IsOkUnless result ScriptStop.NoMemory }
     ensures stop { (stop : ScriptStop) → IsNoScript core bytes.now.items stop → stop ≢ ScriptStop.NoMemory
         → IsErrOf result stop ⊎ IsErrOf result ScriptStop.NoMemory }
 {
@@ -256,8 +321,8 @@ pub fn read_script(alloc: Global, core: Core, bytes: &Seq<u8>) -> Result<Script,
     'lines: while !rest.is_empty() {
         let (text, more) = first_line(rest);
         line += 1;
-        let form = form_of(alloc, core, text)?;
-        match broken(lines.as_slice(), begun, &form) {
+        let form = form_of(alloc, text)?;
+        match broken(core, lines.as_slice(), begun, &form) {
             Some(rule) => return Err(ScriptStop::Line { line, rule }),
             None => {}
         }

@@ -9,9 +9,10 @@ use Rattle.std.proofs.Math.Seq.{take-append_seam}
 use Rattle.std.proofs.Common.{◌≡◌, ◌+◌, ◌-◌, ◌*◌, ◌/◌, ◌%◌, ◌≤◌, ◌<◌, ℕ, true, false, List, [], ◌∷◌, ◌++◌, length, Some, refl, ap, ◌∙◌}
 use Rattle.std.proofs.Common.{arith, length-append, append_assoc}
 use Rattle.ec_hex.specs.Bytes.{digit, digits_of, bytes_of, total}
-use Rattle.ec_hex.specs.Record.{Data, Reading, Sound, reading_of_bytes, reading_of}
+use Rattle.ec_hex.specs.Record.{Record, Data, Base, Reading, Sound, word_of, reading_of_bytes, reading_of}
 use Rattle.ec_hex.specs.Denotes.{records_of, records_in}
-use Rattle.ec_hex.specs.Text.{checksum, fields, record_line}
+use Rattle.ec_hex.specs.Text.{checksum, fields, word_bytes, record_line}
+use Rattle.ec_hex.specs.declared.line.RecordType.{RecordType}
 use Rattle.ec_hex.specs.declared.line.RecordType.TheVariants as kind
 use Rattle.ec_hex.proofs.Bytes.{total-append}
 
@@ -55,9 +56,9 @@ bytes-append : (xs ys : List ℕ) → AreBytes xs → AreBytes ys → AreBytes (
 bytes-append [] ys h k = k
 bytes-append (x ∷ xs) ys h k = (h.0, bytes-append xs ys h.1 k)
 
--- the bytes of a data record
-abbrev whole : ℕ → List ℕ → List ℕ
-whole at bytes = fields kind.Data at bytes ++ checksum (fields kind.Data at bytes) ∷ []
+-- the bytes of a record
+abbrev whole : RecordType → ℕ → List ℕ → List ℕ
+whole k at bytes = fields k at bytes ++ checksum (fields k at bytes) ∷ []
 
 sum_is_zero : (n : ℕ) → ((n + ((256 - n % 256) % 256)) % 256 == 0) ≡ true
 sum_is_zero n = grind arith
@@ -75,7 +76,7 @@ within n h = grind arith
 join-address : (at : ℕ) → 256 * (at / 256) + at % 256 ≡ at
 join-address at = omega arith
 
-reading_of_bytes-whole : (at : ℕ) (bytes : List ℕ) → at + length bytes ≤ 65536 → reading_of_bytes (whole at bytes) ≡ Sound (Data at bytes)
+reading_of_bytes-whole : (at : ℕ) (bytes : List ℕ) → at + length bytes ≤ 65536 → reading_of_bytes (whole kind.Data at bytes) ≡ Sound (Data at bytes)
 reading_of_bytes-whole at bytes fits =
     rw (
       counted bytes _,
@@ -85,15 +86,32 @@ reading_of_bytes-whole at bytes fits =
       take-append_seam bytes _,
     ) refl
 
-whole_bytes : (at : ℕ) (bytes : List ℕ) → at < 65536 → length bytes < 256 → AreBytes bytes → AreBytes (whole at bytes)
+whole_bytes : (at : ℕ) (bytes : List ℕ) → at < 65536 → length bytes < 256 → AreBytes bytes → AreBytes (whole kind.Data at bytes)
 whole_bytes at bytes low short all =
     bytes-append (fields kind.Data at bytes) (checksum (fields kind.Data at bytes) ∷ [])
     (short, (omega (arith, low), (omega arith, (omega arith, all)))) (omega arith, tt)
 
 reading_of-data : (at : ℕ) (bytes : List ℕ) → at < 65536 → length bytes < 256 → AreBytes bytes → at + length bytes ≤ 65536
-    → reading_of (58 ∷ digits_of (whole at bytes)) ≡ Sound (Data at bytes)
+    → reading_of (58 ∷ digits_of (whole kind.Data at bytes)) ≡ Sound (Data at bytes)
 reading_of-data at bytes low short all fits =
-    rw (bytes_of-digits_of (whole at bytes) (whole_bytes at bytes low short all)) (reading_of_bytes-whole at bytes fits)
+    rw (bytes_of-digits_of (whole kind.Data at bytes) (whole_bytes at bytes low short all)) (reading_of_bytes-whole at bytes fits)
+
+-- the record of a base
+base_of_bytes : (bytes : List ℕ) → length bytes ≡ 2
+    → reading_of_bytes (whole kind.LinearBase 0 bytes) ≡ Sound (Base (65536 * word_of bytes))
+base_of_bytes (high ∷ low ∷ []) two = rw (total-whole (fields kind.LinearBase 0 (high ∷ low ∷ []))) refl
+base_of_bytes [] two = absurd (omega (arith, two))
+base_of_bytes (high ∷ []) two = absurd (omega (arith, two))
+base_of_bytes (high ∷ low ∷ more ∷ rest) two = absurd (omega (arith, two))
+
+reading_of-base : (half : ℕ) → half < 65536
+    → reading_of (58 ∷ digits_of (whole kind.LinearBase 0 (word_bytes half))) ≡ Sound (Base (65536 * half))
+reading_of-base half small =
+    let all : AreBytes (word_bytes half) = (omega (arith, small), (omega arith, tt)) in
+    let bytes = bytes-append (fields kind.LinearBase 0 (word_bytes half)) (checksum (fields kind.LinearBase 0 (word_bytes half)) ∷ [])
+    (omega arith, (omega arith, (omega arith, (omega arith, all)))) (omega arith, tt) in
+    rw (bytes_of-digits_of (whole kind.LinearBase 0 (word_bytes half)) bytes)
+    (base_of_bytes (word_bytes half) refl ∙ ap (λ (n : ℕ). Sound (Base (65536 * n))) (join-address half))
 
 no_newline : (c : ℕ) → 32 ≤ c → (c == 10) ≡ false
 no_newline c h = grind arith
@@ -118,14 +136,26 @@ lines-more c text rest plain =
     ∙ parts-more (c ∷ text) (slice_split (λ b. b == 10) rest) (omega (arith, length-slice_split (λ b. b == 10) rest))
     ∙ ap (λ (line : List ℕ). line ∷ lines rest) (strip-plain c text plain)
 
--- a data record's line puts the record before those of the rest
+-- a record's line puts the record before those of the rest
+records_in-line : (k : RecordType) (at : ℕ) (bytes rest : List ℕ) (what : Record)
+    → reading_of (58 ∷ digits_of (whole k at bytes)) ≡ Sound what
+    → records_in (record_line k at bytes ++ rest) ≡ records_of (Sound what ∷ map reading_of (lines rest))
+records_in-line k at bytes rest what is =
+    ap (λ (text : List (List ℕ)). records_of (map reading_of text))
+    (ap lines (append_assoc (58 ∷ digits_of (whole k at bytes)) (10 ∷ []) rest)
+    ∙ lines-more 58 (digits_of (whole k at bytes)) rest (omega arith, digits_plain (whole k at bytes)))
+    ∙ ap (λ (reading : Reading). records_of (reading ∷ map reading_of (lines rest))) is
+
 pub records_in-data : (at : ℕ) (bytes rest : List ℕ) → at < 65536 → length bytes < 256 → AreBytes bytes → at + length bytes ≤ 65536
     → records_in (record_line kind.Data at bytes ++ rest) ≡ option_map (λ records. Data at bytes ∷ records) (records_in rest)
 records_in-data at bytes rest low short all fits =
-    ap (λ (text : List (List ℕ)). records_of (map reading_of text))
-    (ap lines (append_assoc (58 ∷ digits_of (whole at bytes)) (10 ∷ []) rest)
-    ∙ lines-more 58 (digits_of (whole at bytes)) rest (omega arith, digits_plain (whole at bytes)))
-    ∙ ap (λ (reading : Reading). records_of (reading ∷ map reading_of (lines rest))) (reading_of-data at bytes low short all fits)
+    records_in-line kind.Data at bytes rest (Data at bytes) (reading_of-data at bytes low short all fits)
+
+pub records_in-base : (half : ℕ) (rest : List ℕ) → half < 65536
+    → records_in (record_line kind.LinearBase 0 (word_bytes half) ++ rest)
+    ≡ option_map (λ records. Base (65536 * half) ∷ records) (records_in rest)
+records_in-base half rest small =
+    records_in-line kind.LinearBase 0 (word_bytes half) rest (Base (65536 * half)) (reading_of-base half small)
 
 pub records_in-end : records_in (record_line kind.EndOfFile 0 []) ≡ Some []
 records_in-end = refl

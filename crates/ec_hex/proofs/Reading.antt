@@ -4,23 +4,30 @@ use Rattle.std.specs.List.{AllByRecursion}
 use Rattle.std.proofs.lemmas.List.{same_lists}
 use Rattle.std.proofs.lemmas.List.Elements.{All-from_recursion}
 use Rattle.std.proofs.lemmas.Option.{slice_get-get_or, get_or_from_slice_get}
-use Rattle.std.proofs.Common.{◌≡◌, ◌≢◌, ◌+◌, ◌≤◌, ◌<◌, ℕ, zero, suc, Bool, true, false, List, [], ◌∷◌, ◌++◌, length, get_or, Some, None}
+use Rattle.std.proofs.Common.{◌≡◌, ◌≢◌, ◌+◌, ◌*◌, ◌/◌, ◌%◌, ◌≤◌, ◌<◌, ℕ, zero, suc, Bool, true, false, List, [], ◌∷◌, ◌++◌, length, get_or, Some, None}
 use Rattle.std.proofs.Common.{refl, sym, ap, ◌∙◌, arith, zero-add}
 use Rattle.ec_space.specs.declared.Core.{Core}
-use Rattle.ec_space.specs.declared.Core.TheVariants.{Small}
+use Rattle.ec_space.specs.declared.Core.TheVariants.{Small, Large}
+use Rattle.std.proofs.lemmas.Bool.{eqb-true}
 use Rattle.ec_avr.specs.Flash.{flash_size, IsBlankElsewhere}
-use Rattle.ec_hex.specs.Record.{Record, Data}
+use Rattle.ec_hex.specs.Record.{Record, Data, Base}
 use Rattle.ec_hex.specs.Denotes.{records_in, addressed, data_of, byte_at, HoldsJust, Denotes}
-use Rattle.ec_hex.specs.Text.{contents, run, text_from, hex_text}
-use Rattle.ec_hex.proofs.Lines.{AreBytes, records_in-data, records_in-end}
+use Rattle.ec_hex.specs.Text.{base_line, contents, more_at, record_line, run, text_from, hex_text, word_bytes}
+use Rattle.ec_hex.specs.declared.line.RecordType.TheVariants as kind
+use Rattle.ec_hex.proofs.Lines.{AreBytes, records_in-data, records_in-base, records_in-end}
 use Rattle.ec_hex.proofs.Runs.{length-contents, length-run, length-run_within}
 
--- the data records of a text from an address on
-abbrev data_records : ℕ → ℕ → List (Option ℕ) → List Record
-data_records at out [] = []
-data_records at out (None ∷ cells) = data_records (at + 1) 0 cells
-data_records at zero (Some byte ∷ cells) = Data at (byte ∷ run 15 cells) ∷ data_records (at + 1) 15 cells
-data_records at (suc out) (Some byte ∷ cells) = data_records (at + 1) out cells
+-- the record of the base of an address before others, where another base is in force
+abbrev based : ℕ → ℕ → List Record → List Record
+based base at more = if at / 65536 == base then more else Base (65536 * (at / 65536)) ∷ more
+
+-- the records of a text from an address on
+abbrev data_records : ℕ → ℕ → ℕ → List (Option ℕ) → List Record
+data_records base at out [] = []
+data_records base at out (None ∷ cells) = data_records base (at + 1) 0 cells
+data_records base at zero (Some byte ∷ cells) =
+    based base at (Data (at % 65536) (byte ∷ run (more_at at) cells) ∷ data_records (at / 65536) (at + 1) (more_at at) cells)
+data_records base at (suc out) (Some byte ∷ cells) = data_records base (at + 1) out cells
 
 -- the written bytes beside their addresses
 abbrev shown : ℕ → List (Option ℕ) → List (ℕ × ℕ)
@@ -39,37 +46,75 @@ run_bytes most (None ∷ cells) all = tt
 run_bytes zero (Some byte ∷ cells) all = tt
 run_bytes (suc most) (Some byte ∷ cells) all = (all.0, run_bytes most cells all.1)
 
-records_in-text_from : (at out : ℕ) (cells : List (Option ℕ)) → CellsAreBytes cells → at + length cells ≤ 65536
-    → records_in (text_from at out cells) ≡ Some (data_records at out cells)
-records_in-text_from at out [] all fits = records_in-end
-records_in-text_from at out (None ∷ cells) all fits = records_in-text_from (at + 1) 0 cells all (omega (arith, fits))
-records_in-text_from at zero (Some byte ∷ cells) all fits =
-    records_in-data at (byte ∷ run 15 cells) (text_from (at + 1) 15 cells) (omega (arith, fits)) (omega (arith, length-run 15 cells))
-    (all.0, run_bytes 15 cells all.1) (omega (arith, fits, length-run_within 15 cells))
-    ∙ ap (λ (records : Option (List Record)). option_map (λ more. Data at (byte ∷ run 15 cells) ∷ more) records)
-    (records_in-text_from (at + 1) 15 cells all.1 (omega (arith, fits)))
-records_in-text_from at (suc out) (Some byte ∷ cells) all fits = records_in-text_from (at + 1) out cells all.1 (omega (arith, fits))
+map_same : (o : Option (List Record)) → o ≡ option_map (λ more. more) o
+map_same None = refl
+map_same (Some records) = refl
 
-data_of-records : (at out : ℕ) (cells : List (Option ℕ))
-    → addressed at (run out cells) ++ data_of 0 (data_records at out cells) ≡ shown at cells
-data_of-records at out [] = refl
-data_of-records at out (None ∷ cells) = from_none at cells (data_of-records (at + 1) 0 cells)
+-- the line of a base puts its record before those of the rest
+records_in-based : (base at : ℕ) (rest : List ℕ) → at / 65536 < 65536
+    → records_in (base_line base at ++ rest) ≡ option_map (based base at) (records_in rest)
+records_in-based base at rest small = by_test (at / 65536 == base)
+  where
+    by_test : (b : Bool)
+        → records_in ((if b then [] else record_line kind.LinearBase 0 (word_bytes (at / 65536))) ++ rest)
+        ≡ option_map (λ more. if b then more else Base (65536 * (at / 65536)) ∷ more) (records_in rest)
+    by_test true = map_same (records_in rest)
+    by_test false = records_in-base (at / 65536) rest small
+
+records_in-text_from : (base at out : ℕ) (cells : List (Option ℕ)) → CellsAreBytes cells → at + length cells ≤ 4294967296
+    → records_in (text_from base at out cells) ≡ Some (data_records base at out cells)
+records_in-text_from base at out [] all fits = records_in-end
+records_in-text_from base at out (None ∷ cells) all fits = records_in-text_from base (at + 1) 0 cells all (omega (arith, fits))
+records_in-text_from base at zero (Some byte ∷ cells) all fits =
+    let bytes : List ℕ = run (more_at at) cells in
+    let rest : List ℕ = text_from (at / 65536) (at + 1) (more_at at) cells in
+    let short = length-run (more_at at) cells in
+    records_in-based base at (record_line kind.Data (at % 65536) (byte ∷ bytes) ++ rest) (omega (arith, fits))
+    ∙ ap (λ (records : Option (List Record)). option_map (based base at) records)
+    (records_in-data (at % 65536) (byte ∷ bytes) rest (omega arith) (omega (arith, short))
+    (all.0, run_bytes (more_at at) cells all.1) (omega (arith, short))
+    ∙ ap (λ (records : Option (List Record)). option_map (λ more. Data (at % 65536) (byte ∷ bytes) ∷ more) records)
+    (records_in-text_from (at / 65536) (at + 1) (more_at at) cells all.1 (omega (arith, fits))))
+records_in-text_from base at (suc out) (Some byte ∷ cells) all fits =
+    records_in-text_from base (at + 1) out cells all.1 (omega (arith, fits))
+
+-- a record stands from its address on, whichever base was in force before
+data_of-based : (base at : ℕ) (bytes : List ℕ) (more : List Record)
+    → data_of (65536 * base) (based base at (Data (at % 65536) bytes ∷ more)) ≡ addressed at bytes ++ data_of (65536 * (at / 65536)) more
+data_of-based base at bytes more = by_test (at / 65536 == base) refl
+  where
+    here : 65536 * (at / 65536) + at % 65536 ≡ at
+    here = omega arith
+
+    by_test : (b : Bool) → (at / 65536 == base) ≡ b
+        → data_of (65536 * base) (if b then Data (at % 65536) bytes ∷ more else Base (65536 * (at / 65536)) ∷ Data (at % 65536) bytes ∷ more)
+        ≡ addressed at bytes ++ data_of (65536 * (at / 65536)) more
+    by_test true e =
+        ap (λ (b : ℕ). addressed (65536 * b + at % 65536) bytes ++ data_of (65536 * b) more) (sym (eqb-true (at / 65536) base e))
+        ∙ ap (λ (a : ℕ). addressed a bytes ++ data_of (65536 * (at / 65536)) more) here
+    by_test false e = ap (λ (a : ℕ). addressed a bytes ++ data_of (65536 * (at / 65536)) more) here
+
+data_of-records : (base at out : ℕ) (cells : List (Option ℕ))
+    → addressed at (run out cells) ++ data_of (65536 * base) (data_records base at out cells) ≡ shown at cells
+data_of-records base at out [] = refl
+data_of-records base at out (None ∷ cells) = from_none at cells (data_of-records base (at + 1) 0 cells)
   where
     from_none : (at : ℕ) (cells : List (Option ℕ))
-        → addressed (at + 1) (run 0 cells) ++ data_of 0 (data_records (at + 1) 0 cells) ≡ shown (at + 1) cells
-        → data_of 0 (data_records (at + 1) 0 cells) ≡ shown (at + 1) cells
+        → addressed (at + 1) (run 0 cells) ++ data_of (65536 * base) (data_records base (at + 1) 0 cells) ≡ shown (at + 1) cells
+        → data_of (65536 * base) (data_records base (at + 1) 0 cells) ≡ shown (at + 1) cells
     from_none at [] h = h
     from_none at (None ∷ cells) h = h
     from_none at (Some byte ∷ cells) h = h
-data_of-records at zero (Some byte ∷ cells) =
-    ap (λ (a : ℕ). addressed a (byte ∷ run 15 cells) ++ data_of 0 (data_records (at + 1) 15 cells)) (zero-add at)
-    ∙ ap (λ (more : List (ℕ × ℕ)). (at, byte) ∷ more) (data_of-records (at + 1) 15 cells)
-data_of-records at (suc out) (Some byte ∷ cells) = ap (λ (more : List (ℕ × ℕ)). (at, byte) ∷ more) (data_of-records (at + 1) out cells)
+data_of-records base at zero (Some byte ∷ cells) =
+    data_of-based base at (byte ∷ run (more_at at) cells) (data_records (at / 65536) (at + 1) (more_at at) cells)
+    ∙ ap (λ (more : List (ℕ × ℕ)). (at, byte) ∷ more) (data_of-records (at / 65536) (at + 1) (more_at at) cells)
+data_of-records base at (suc out) (Some byte ∷ cells) =
+    ap (λ (more : List (ℕ × ℕ)). (at, byte) ∷ more) (data_of-records base (at + 1) out cells)
 
-data_of-first : (cells : List (Option ℕ)) → data_of 0 (data_records 0 0 cells) ≡ shown 0 cells
+data_of-first : (cells : List (Option ℕ)) → data_of 0 (data_records 0 0 0 cells) ≡ shown 0 cells
 data_of-first [] = refl
-data_of-first (None ∷ cells) = data_of-records 0 0 (None ∷ cells)
-data_of-first (Some byte ∷ cells) = data_of-records 0 0 (Some byte ∷ cells)
+data_of-first (None ∷ cells) = data_of-records 0 0 0 (None ∷ cells)
+data_of-first (Some byte ∷ cells) = data_of-records 0 0 0 (Some byte ∷ cells)
 
 shown_below : (at size : ℕ) (cells : List (Option ℕ)) → at + length cells ≤ size → AllByRecursion (λ cell. cell.0 < size) (shown at cells)
 shown_below at size [] fits = tt
@@ -131,8 +176,9 @@ cells_are_bytes (byte ∷ bytes) [] all = tt
 cells_are_bytes (byte ∷ bytes) (true ∷ written) all = (all 0, cells_are_bytes bytes written (λ k. all (suc k)))
 cells_are_bytes (byte ∷ bytes) (false ∷ written) all = cells_are_bytes bytes written (λ k. all (suc k))
 
-flash_fits : (core : Core) → flash_size core ≤ 65536
+flash_fits : (core : Core) → flash_size core ≤ 4294967296
 flash_fits Small = omega arith
+flash_fits Large = omega arith
 
 flag_is : (flag : Bool) (byte : ℕ) → flag ≡ is_some (if flag then Some byte else None)
 flag_is true byte = refl
@@ -149,7 +195,7 @@ denotes-hex_text core bytes written sized flagged all blank =
     let same : length written ≡ length bytes = flagged ∙ sym sized in
     let cells : List (Option ℕ) = contents bytes written in
     let long : length cells ≡ flash_size core = length-contents bytes written same ∙ sized in
-    rw (records_in-text_from 0 0 cells (cells_are_bytes bytes written all) (omega (arith, long, flash_fits core)), data_of-first cells)
+    rw (records_in-text_from 0 0 0 cells (cells_are_bytes bytes written all) (omega (arith, long, flash_fits core)), data_of-first cells)
     (record {
       in_flash = All-from_recursion (λ cell. cell.0 < flash_size core) (shown 0 cells)
           (shown_below 0 (flash_size core) cells (omega (arith, long)));

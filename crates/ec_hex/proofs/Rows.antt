@@ -3,7 +3,7 @@ use Rattle.std.specs.Prelude.{ℕ, ◌≡◌, List, [], ◌∷◌, true, false, 
 use Rattle.std.specs.Str.Lines.{lines}
 use Rattle.ec_hex.specs.Record.{Data, EndOfFile, Reading, NoRecord, WrongSum, Sound, reading_of}
 use Rattle.ec_hex.specs.Denotes.{records_in, data_of}
-use Rattle.ec_hex.specs.Text.{hex_text}
+use Rattle.ec_hex.specs.Text.{hex_text, text_from}
 
 -- the data bytes that a text tells beside their addresses
 abbrev data_in : List ℕ → Option (List (ℕ × ℕ))
@@ -71,3 +71,10 @@ no_records = refl
 no_forms : readings (codes ":020000009895D1F\n:020000009895D\n:030000009895D0\n020000009895D1\n:02000000989GD1\n :00000001FF\n:\n")
     ≡ NoRecord ∷ NoRecord ∷ NoRecord ∷ NoRecord ∷ NoRecord ∷ NoRecord ∷ NoRecord ∷ []
 no_forms = refl
+
+-- a record ends at a multiple of 65,536, and the upper half of the next address is told before its record
+over_the_half : text_from 0 65535 0 (Some 1 ∷ Some 2 ∷ []) ≡ codes ":01FFFF000100\n:020000040001F9\n:0100000002FD\n:00000001FF\n"
+over_the_half = refl
+
+half_read : data_in (codes ":01FFFF000100\n:020000040001F9\n:0100000002FD\n:00000001FF\n") ≡ Some ((65535, 1) ∷ (65536, 2) ∷ [])
+half_read = refl

@@ -4,7 +4,9 @@ use Rattle.std.proofs.lemmas.List.{take-append-le, take-append-drop, drop-drop, 
 use Rattle.std.proofs.Common.{◌≡◌, ◌+◌, ◌-◌, ◌≤◌, ◌<◌, ℕ, List, [], ◌++◌, length, take, drop, Some, None, sym, ap, ◌∙◌, subst, refl, arith}
 use Rattle.std.proofs.Common.{append_assoc, append-nil, length-append, length-drop}
 use Rattle.std.proofs.Math.Seq.{take-append_seam}
-use Rattle.std.specs.Prelude.{Option}
+use Rattle.std.specs.Prelude.{Option, Result, Ok, Err}
+use Rattle.ec_io.specs.declared.write.Written.{Written}
+use Rattle.ec_hex.specs.Steps.{WritesOn}
 use Rattle.std.specs.Io.KnownBytes.{Appends}
 
 -- so many bytes of the whole went out, and this is left
@@ -60,3 +62,21 @@ sent-length old now done line whole sent some =
 pub sent-none : (now : Option (List ℕ)) (whole : List ℕ) → Sent now now 0 whole whole
 sent-none None whole = record { out = tt; split = refl }
 sent-none (Some xs) whole = record { out = sym (append-nil xs); split = refl }
+
+-- two lines that go out one after the other
+pub writes-both : (done after : ℕ) (old mid new : Option (List ℕ)) (r : Result ℕ Written) (first second : List ℕ)
+    → (after ≡ done + length first) × Appends old mid first → WritesOn after mid new r second → WritesOn done old new r (first ++ second)
+writes-both done after old mid new (Ok end) first second went then = (
+  omega (arith, went.0, then.0, length-append first second),
+  appends_more old mid new first second went.1 then.1,
+)
+writes-both done after old mid new (Err e) first second went then =
+    let (n, count, within, out) = then in
+    let front : first ++ take n second ≡ take (length first + n) (first ++ second) =
+    sym (take-add (length first) n (first ++ second) ∙ ap (λ (xs : List ℕ). xs ++ take n (drop (length first) (first ++ second)))
+    (take-append_seam first second) ∙ ap (λ (xs : List ℕ). first ++ take n xs) (drop_at first second (length first) refl)) in (
+      length first + n,
+      omega (arith, went.0, count),
+      omega (arith, within, length-append first second),
+      subst (λ xs. Appends old new xs) front (appends_more old mid new first (take n second) went.1 out),
+    )

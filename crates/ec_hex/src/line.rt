@@ -1,7 +1,7 @@
 //! The line of a record.
-ghost use Rattle.std.specs.Prelude.{◌≡◌, ◌<◌, ◌≤◌, ◌+◌, ◌*◌, ◌%◌, ◌++◌, ◌∷◌, [], length};
+ghost use Rattle.std.specs.Prelude.{◌≡◌, ◌<◌, ◌≤◌, ◌+◌, ◌*◌, ◌%◌, ◌^◌, ◌++◌, ◌∷◌, [], length};
 ghost use Rattle.ec_hex.specs.Bytes.{digits_of, total};
-ghost use Rattle.ec_hex.specs.Text.{checksum, code_of, record_line};
+ghost use Rattle.ec_hex.specs.Text.{base_line, checksum, code_of, record_line};
 
 use crate::record::checksum_of;
 use crate::text::digit_of;
@@ -14,6 +14,8 @@ pub enum RecordType {
     Data,
     /// Type 01, the end of the file.
     EndOfFile,
+    /// Type 04, the upper half of the addresses of the data behind it.
+    LinearBase,
 }
 
 // The characters of a line with up to 16 data bytes and its LF.
@@ -79,6 +81,7 @@ fn code(kind: RecordType) -> u8
     match kind {
         RecordType::Data => 0,
         RecordType::EndOfFile => 1,
+        RecordType::LinearBase => 4,
     }
 }
 
@@ -118,4 +121,22 @@ pub fn record_line(kind: RecordType, offset: u16, bytes: &[u8]) -> Line
     line.push_bytes(&[checksum(&head, bytes)]);
     line.push(b'\n');
     line
+}
+
+/// The line that makes the upper half of an address the base of the records behind it. It is empty where that base is in
+/// force.
+pub fn base_line(base: usize, at: usize) -> Line
+    requires { at < 2 ^ 32 }
+    ensures { result ≡ base_line base at }
+{
+    let half = at / 65_536;
+    if half == base {
+        Line::new()
+    } else {
+        record_line(
+            RecordType::LinearBase,
+            0,
+            &[(half / 256) as u8, (half % 256) as u8],
+        )
+    }
 }

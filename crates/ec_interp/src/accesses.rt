@@ -8,7 +8,7 @@ ghost use Rattle.ec_interp.specs.Views.{seen};
 ghost use Rattle.std.specs.Prelude.{◌==◌, ◌&&◌, Some, None, map, option_map, length, slice_get};
 ghost use Rattle.std.specs.Prelude.{IfErr, IfOk, OnOk};
 ghost use Rattle.std.specs.List.{position_from};
-ghost use Rattle.ec_core.specs.Accesses.{access, leaf_at, leaf_of, is_readable, read, write, is_fixed, recorded};
+ghost use Rattle.ec_core.specs.Accesses.{access, leaf_at, leaf_of, is_readable, is_read_only, read, write, is_fixed, recorded};
 ghost use Rattle.ec_core.specs.Accesses.{stored, first_write, initialised, with_leaf};
 ghost use Rattle.ec_core.specs.Expressions.{accessed};
 ghost use Rattle.ec_core.specs.Layout.{plain_leaf, IsObjectType};
@@ -25,7 +25,7 @@ use crate::objects::set_leaf;
 use crate::operators::{is_live_in, referent};
 use crate::state::{Context, ObjectState, RunError, State, at, object, object_state, told};
 use ec_core::{CType, Leaf, Obj, ObjectPointer, PlaceExpr, Program, Storage, Undefined, Value};
-use ec_space::{NoMemory, SpaceId};
+use ec_space::{Home, NoMemory, SpaceId};
 
 /// A leaf that can be accessed.
 #[derive(Clone, Copy)]
@@ -244,11 +244,21 @@ fn store(s: &mut State, o: &Obj, a: Found, v: Value) -> Result<(), NoMemory>
     record_access(s, &o.storage, event)
 }
 
+/// Whether what has a home is kept in flash, which is not written.
+fn is_read_only(home: Home) -> bool
+    ensures { result ≡ is_read_only home }
+{
+    match home {
+        Home::Flash | Home::Far => true,
+        Home::Data => false,
+    }
+}
+
 /// Const objects and those kept in flash are not written.
 fn is_fixed(o: &Obj) -> bool
     ensures { result ≡ is_fixed (plain_object o.now) }
 {
-    o.konst || SpaceId::Flash.holds(o.home)
+    o.konst || is_read_only(o.home)
 }
 
 fn write_at(f: &Context, s: &mut State, a: Found, v: Value) -> Result<Value, RunError>

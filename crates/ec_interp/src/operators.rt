@@ -24,7 +24,7 @@ use ec_core::{
     pointer_comparison, pointer_difference, pointer_truth,
 };
 use ec_fx::Mode;
-use ec_space::Bank;
+use ec_space::Home;
 
 /// An operand: its type and its value.
 #[derive(Clone, Copy)]
@@ -45,7 +45,7 @@ pub fn is_live_in(p: ObjectPointer, x: &ObjectState) -> bool
 const NOTHING_KNOWN: Referent = Referent {
     live: false,
     size: 0,
-    home: Bank::Data,
+    home: Home::Data,
 };
 
 /// What is known of the instance that a pointer points into.

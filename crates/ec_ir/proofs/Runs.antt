@@ -4,13 +4,11 @@ use Rattle.std.proofs.Common.{Result, Ok, Err, refl, ap, arith}
 use Rattle.std.specs.Prelude.{◌==◌, if◌then◌else◌, slice_get, option_map, nat_le, pos}
 use Rattle.ec_runs.specs.Behaviours.{BeginWith, Continues}
 use Rattle.ec_runs.proofs.Runs.{begin_itself, begin_onward}
-use Rattle.ec_space.specs.declared.space.SpaceId.TheVariants.{Flash}
-use Rattle.ec_space.specs.Spaces.{holds}
 use Rattle.ec_core.specs.declared.values.Undefined.{Undefined}
 use Rattle.ec_core.specs.declared.values.Undefined.TheVariants.{Unset, BufferIndex, ConstWrite}
 use Rattle.ec_core.specs.declared.values.Value.{Value}
 use Rattle.ec_core.specs.declared.values.Value.TheVariants.{Number, Pointer}
-use Rattle.ec_core.specs.Accesses.{referent_of, operand_of, Access, recorded, leaf_of, is_readable, read_value, read, first_write}
+use Rattle.ec_core.specs.Accesses.{referent_of, operand_of, Access, recorded, leaf_of, is_readable, is_read_only, read_value, read, first_write}
 use Rattle.ec_core.specs.Meaning.{behaviour_of, state_of}
 use Rattle.ec_core.specs.Operators.{unary_result, binary_result, conversion_result, unsuited}
 use Rattle.ec_core.specs.Pointers.{Pointer as PointerValue, moved}
@@ -117,7 +115,7 @@ adds_read program (Some a) s = value (leaf_of a.state a.leaf)
 
 adds_put_leaf : (a : Option Access) (v : Value) (s : State) → Adds s (put_leaf a v s)
 adds_put_leaf None v s = stays {A = Value} s (put_leaf None v s) refl
-adds_put_leaf (Some a) v s = by_home (holds Flash a.declared.home)
+adds_put_leaf (Some a) v s = by_home (is_read_only a.declared.home)
   where
     by_home : (b : Bool) → Adds s (if b then undefined ConstWrite s else first_write (Some a) v s)
     by_home true = stays {A = Value} s (undefined ConstWrite s) refl

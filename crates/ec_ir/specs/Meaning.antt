@@ -8,13 +8,12 @@ use Rattle.std.specs.Prelude.{Option, Some, None, option_map, option_and_then, u
 use Rattle.std.specs.List.{position_from}
 use Rattle.ec_runs.specs.Behaviours.{Behaviour}
 use Rattle.ec_space.specs.declared.space.SpaceId.{SpaceId}
-use Rattle.ec_space.specs.declared.space.SpaceId.TheVariants.{Flash}
 use Rattle.ec_space.specs.Spaces.{holds}
 use Rattle.ec_core.specs.declared.values.Undefined.{Undefined}
 use Rattle.ec_core.specs.declared.values.Undefined.TheVariants.{Access as NoAccess, BufferIndex, ConstWrite, NoResult}
 use Rattle.ec_core.specs.declared.values.Value.{Value}
 use Rattle.ec_core.specs.declared.values.Value.TheVariants.{Number, Pointer}
-use Rattle.ec_core.specs.Accesses.{referent_of, operand_of, leaf_count, Access, read, first_write}
+use Rattle.ec_core.specs.Accesses.{referent_of, operand_of, leaf_count, Access, read, first_write, is_read_only}
 use Rattle.ec_core.specs.Layout.{scalar_size, leaves_of_type}
 use Rattle.ec_core.specs.Meaning.{initial_object, behaviour_of, state_of}
 use Rattle.ec_core.specs.Operators.{unary_result, binary_result, conversion_result, unsuited}
@@ -143,7 +142,7 @@ pointer_access program space bytes to s =
 -- a leaf gets a value: a const object's too, whose initialisation is a store, but none that is kept in flash
 abbrev pub put_leaf : Option Access → Value → State → Outcome Value
 put_leaf None v s = undefined NoAccess s
-put_leaf (Some a) v s = if holds Flash a.declared.home then undefined ConstWrite s else first_write (Some a) v s
+put_leaf (Some a) v s = if is_read_only a.declared.home then undefined ConstWrite s else first_write (Some a) v s
 
 -- the value of the leaf's type that a temporary holds
 abbrev pub put : PlainProgram → Option Access → Temp → Temps → State → Outcome Value

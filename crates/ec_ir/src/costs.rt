@@ -21,7 +21,7 @@ pub fn scalar_size(ty: &CType) -> u8
         CType::Fx { kind, .. } => kind.format().bits / 8,
         CType::Ptr { space, .. } => match space {
             SpaceId::Flash | SpaceId::Data => 2,
-            SpaceId::Generic => 3,
+            SpaceId::FarFlash | SpaceId::Generic => 3,
         },
         CType::Void | CType::Array { .. } | CType::Struct { .. } => 0,
     }
@@ -32,7 +32,7 @@ fn width(space: SpaceId) -> u8
 {
     match space {
         SpaceId::Flash | SpaceId::Data => 2,
-        SpaceId::Generic => 3,
+        SpaceId::FarFlash | SpaceId::Generic => 3,
     }
 }
 

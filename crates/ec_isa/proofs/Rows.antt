@@ -7,7 +7,7 @@ use Rattle.ec_isa.specs.declared.instructions.Instr.{Instr}
 use Rattle.ec_isa.specs.declared.instructions.Instr.TheVariants.{Nop, Movw, Cpc, Sbc, Add, Cpse, Cp, Sub, Adc, And, Eor, Or, Mov, Mul, Cpi}
 use Rattle.ec_isa.specs.declared.instructions.Instr.TheVariants.{Sbci, Subi, Ori, Andi, Ldi, LddZ, LddY, StdZ, StdY, Lds, Sts, LdZPlus}
 use Rattle.ec_isa.specs.declared.instructions.Instr.TheVariants.{LdMinusZ, LdYPlus, LdMinusY, LdX, LdXPlus, LdMinusX, StZPlus, StMinusZ}
-use Rattle.ec_isa.specs.declared.instructions.Instr.TheVariants.{StYPlus, StMinusY, StX, StXPlus, StMinusX, LpmZ, LpmZPlus, Pop, Push, Com}
+use Rattle.ec_isa.specs.declared.instructions.Instr.TheVariants.{StYPlus, StMinusY, StX, StXPlus, StMinusX, LpmZ, LpmZPlus, Elpm, ElpmInc, Pop, Push, Com}
 use Rattle.ec_isa.specs.declared.instructions.Instr.TheVariants.{Neg, Swap, Inc, Asr, Lsr, Ror, Dec, Bset, Bclr, Ijmp, Icall, Ret, Break}
 use Rattle.ec_isa.specs.declared.instructions.Instr.TheVariants.{Jmp, Call, Adiw, Sbiw, In, Out, Rjmp, Rcall, Brbs, Brbc, Bld, Bst, Sbrc}
 use Rattle.ec_isa.specs.declared.instructions.Instr.TheVariants.{Sbrs}
@@ -313,6 +313,8 @@ reads (StXPlus r) w n h = store_row 13 r w n refl (beside r 26 h.in_range) h.fir
 reads (StMinusX r) w n h = store_row 14 r w n refl (beside r 26 h.in_range) h.first
 reads (LpmZ d) w n h = load_row 4 d w n refl h.in_range h.first
 reads (LpmZPlus d) w n h = load_row 5 d w n refl (beside d 30 h.in_range) h.first
+reads (Elpm d) w n h = load_row 6 d w n refl h.in_range h.first
+reads (ElpmInc d) w n h = load_row 7 d w n refl (beside d 30 h.in_range) h.first
 reads (Pop d) w n h = load_row 15 d w n refl h.in_range h.first
 reads (Push r) w n h = store_row 15 r w n refl h.in_range h.first
 reads (Com d) w n h = one_register_row 0 d w n refl h.in_range h.first

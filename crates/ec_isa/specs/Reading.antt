@@ -9,7 +9,7 @@ use Rattle.ec_isa.specs.declared.instructions.Instr.TheVariants.{Or, Mov, Mul, C
 use Rattle.ec_isa.specs.declared.instructions.Instr.TheVariants.{LddY, StdZ, StdY, Lds, Sts, LdZPlus, LdMinusZ, LdYPlus}
 use Rattle.ec_isa.specs.declared.instructions.Instr.TheVariants.{LdMinusY, LdX, LdXPlus, LdMinusX, StZPlus, StMinusZ}
 use Rattle.ec_isa.specs.declared.instructions.Instr.TheVariants.{StYPlus, StMinusY, StX, StXPlus, StMinusX, LpmZ}
-use Rattle.ec_isa.specs.declared.instructions.Instr.TheVariants.{LpmZPlus, Pop, Push, Com, Neg, Swap, Inc, Asr, Lsr}
+use Rattle.ec_isa.specs.declared.instructions.Instr.TheVariants.{LpmZPlus, Elpm, ElpmInc, Pop, Push, Com, Neg, Swap, Inc, Asr, Lsr}
 use Rattle.ec_isa.specs.declared.instructions.Instr.TheVariants.{Ror, Dec, Bset, Bclr, Ijmp, Icall, Ret, Break, Jmp}
 use Rattle.ec_isa.specs.declared.instructions.Instr.TheVariants.{Call, Adiw, Sbiw, In, Out, Rjmp, Rcall, Brbs, Brbc}
 use Rattle.ec_isa.specs.declared.instructions.Instr.TheVariants.{Bld, Bst, Sbrc, Sbrs}
@@ -101,13 +101,15 @@ load form d next =
     else (if form == 2 then Some (LdMinusZ d)
     else (if form == 4 then Some (LpmZ d)
     else (if form == 5 then Some (LpmZPlus d)
+    else (if form == 6 then Some (Elpm d)
+    else (if form == 7 then Some (ElpmInc d)
     else (if form == 9 then Some (LdYPlus d)
     else (if form == 10 then Some (LdMinusY d)
     else (if form == 12 then Some (LdX d)
     else (if form == 13 then Some (LdXPlus d)
     else (if form == 14 then Some (LdMinusX d)
     else (if form == 15 then Some (Pop d)
-    else None))))))))))
+    else None))))))))))))
 
 abbrev pub store : ℕ → ℕ → ℕ → Option Instr
 store form r next =

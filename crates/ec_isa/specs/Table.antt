@@ -7,7 +7,7 @@ use Rattle.ec_isa.specs.declared.instructions.Instr.TheVariants.{Or, Mov, Mul, C
 use Rattle.ec_isa.specs.declared.instructions.Instr.TheVariants.{LddY, StdZ, StdY, Lds, Sts, LdZPlus, LdMinusZ, LdYPlus}
 use Rattle.ec_isa.specs.declared.instructions.Instr.TheVariants.{LdMinusY, LdX, LdXPlus, LdMinusX, StZPlus, StMinusZ}
 use Rattle.ec_isa.specs.declared.instructions.Instr.TheVariants.{StYPlus, StMinusY, StX, StXPlus, StMinusX, LpmZ}
-use Rattle.ec_isa.specs.declared.instructions.Instr.TheVariants.{LpmZPlus, Pop, Push, Com, Neg, Swap, Inc, Asr, Lsr}
+use Rattle.ec_isa.specs.declared.instructions.Instr.TheVariants.{LpmZPlus, Elpm, ElpmInc, Pop, Push, Com, Neg, Swap, Inc, Asr, Lsr}
 use Rattle.ec_isa.specs.declared.instructions.Instr.TheVariants.{Ror, Dec, Bset, Bclr, Ijmp, Icall, Ret, Break, Jmp}
 use Rattle.ec_isa.specs.declared.instructions.Instr.TheVariants.{Call, Adiw, Sbiw, In, Out, Rjmp, Rcall, Brbs, Brbc}
 use Rattle.ec_isa.specs.declared.instructions.Instr.TheVariants.{Bld, Bst, Sbrc, Sbrs}
@@ -16,7 +16,7 @@ use Rattle.ec_isa.specs.Formats.{register_beside, register_and_address, flag, ad
 use Rattle.ec_isa.specs.Formats.{branch, register_bit}
 
 -- the row of an instruction. Left out are the loads and stores that change X beside R26 and R27, Y beside R28 and R29,
--- Z beside R30 and R31, and LPM Z+ into R30 and R31: the manual leaves undefined what they do
+-- Z beside R30 and R31, and LPM Z+ and ELPM Z+ into R30 and R31: the manual leaves undefined what they do
 abbrev pub row : Instr → Row
 row Nop = bare 0x0000  -- 0000 0000 0000 0000
 row (Movw d r) = register_pairs 0x0100 d r  -- 0000 0001 dddd rrrr
@@ -60,6 +60,8 @@ row (StXPlus r) = register_beside 26 0x920D r  -- 1001 001r rrrr 1101
 row (StMinusX r) = register_beside 26 0x920E r  -- 1001 001r rrrr 1110
 row (LpmZ d) = register 0x9004 d  -- 1001 000d dddd 0100
 row (LpmZPlus d) = register_beside 30 0x9005 d  -- 1001 000d dddd 0101
+row (Elpm d) = register 0x9006 d  -- 1001 000d dddd 0110
+row (ElpmInc d) = register_beside 30 0x9007 d  -- 1001 000d dddd 0111
 row (Pop d) = register 0x900F d  -- 1001 000d dddd 1111
 row (Push r) = register 0x920F r  -- 1001 001r rrrr 1111
 row (Com d) = register 0x9400 d  -- 1001 010d dddd 0000

@@ -1,27 +1,41 @@
 //! What the data addresses are, and where pointers go.
 ghost use Rattle.std.specs.Prelude.{◌≡◌, nat_le, not};
 ghost use Rattle.ec_isa.specs.Addresses.{is_core_register as is_core_register_at, is_port as is_port_at};
+ghost use Rattle.ec_isa.specs.Addresses.{has_rampz as has_rampz_of};
 ghost use Rattle.ec_isa.specs.Addresses.{raised as raised_of, lowered as lowered_of};
 
-/// Whether a data address is that of R0 to R31, SPL, SPH or SREG (data memory map of the ATmega328P).
-pub fn is_core_register(at: u16) -> bool
-    ensures { result ≡ is_core_register_at at }
+use ec_space::Core;
+
+/// Whether a core has the register RAMPZ, which extends Z, and the instruction ELPM, which loads from flash by both.
+pub fn has_rampz(core: Core) -> bool
+    ensures { result ≡ has_rampz_of core }
 {
-    at < 32 || at == 0x5D || at == 0x5E || at == 0x5F
+    match core {
+        Core::Small => false,
+        Core::Large => true,
+    }
+}
+
+/// Whether a data address is that of R0 to R31, SPL, SPH, SREG or, where the core has it, RAMPZ (data memory maps of the
+/// ATmega328P and the ATmega1284P).
+pub fn is_core_register(core: Core, at: u16) -> bool
+    ensures { result ≡ is_core_register_at core at }
+{
+    at < 32 || at == 0x5D || at == 0x5E || at == 0x5F || at == 0x5B && has_rampz(core)
 }
 
 /// Whether a data address is that of a port: it is below 0x0100, and that of none of the core's own registers.
-pub fn is_port(at: u16) -> bool
-    ensures { result ≡ is_port_at at }
+pub fn is_port(core: Core, at: u16) -> bool
+    ensures { result ≡ is_port_at core at }
 {
-    at < 256 && !is_core_register(at)
+    at < 256 && !is_core_register(core, at)
 }
 
 /// Whether memory keeps what is stored at a data address, as it does everywhere but at ports.
-pub fn is_kept(at: u16) -> bool
-    ensures { result ≡ not (is_port_at at) }
+pub fn is_kept(core: Core, at: u16) -> bool
+    ensures { result ≡ not (is_port_at core at) }
 {
-    !is_port(at)
+    !is_port(core, at)
 }
 
 /// Whether a data address lies past those of registers and ports, where the SRAM begins. A push or pop before it is a

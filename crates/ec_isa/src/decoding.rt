@@ -157,6 +157,8 @@ fn load(form: u16, d: u8, next: u16) -> Option<Instr>
         2 => Some(Instr::LdMinusZ { d }),
         4 => Some(Instr::LpmZ { d }),
         5 => Some(Instr::LpmZPlus { d }),
+        6 => Some(Instr::Elpm { d }),
+        7 => Some(Instr::ElpmInc { d }),
         9 => Some(Instr::LdYPlus { d }),
         10 => Some(Instr::LdMinusY { d }),
         12 => Some(Instr::LdX { d }),

@@ -54,6 +54,8 @@ pub(crate) fn words(i: Instr) -> Option<Words>
         Instr::StMinusX { r } => register_beside(26, 0x920E, r),
         Instr::LpmZ { d } => register(0x9004, d),
         Instr::LpmZPlus { d } => register_beside(30, 0x9005, d),
+        Instr::Elpm { d } => register(0x9006, d),
+        Instr::ElpmInc { d } => register_beside(30, 0x9007, d),
         Instr::Pop { d } => register(0x900F, d),
         Instr::Push { r } => register(0x920F, r),
         Instr::Com { d } => register(0x9400, d),

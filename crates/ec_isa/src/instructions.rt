@@ -68,6 +68,10 @@ pub enum Instr {
     StMinusX { r: u8 },
     LpmZ { d: u8 },
     LpmZPlus { d: u8 },
+    /// `ELPM Rd, Z`, which loads from the flash at RAMPZ:Z. Cores with more than 64 KiB of flash have it and the next.
+    Elpm { d: u8 },
+    /// `ELPM Rd, Z+`, after which RAMPZ:Z is one more.
+    ElpmInc { d: u8 },
     Pop { d: u8 },
     Push { r: u8 },
     Com { d: u8 },

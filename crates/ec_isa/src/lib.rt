@@ -13,7 +13,7 @@ pub mod instructions;
 mod words;
 
 pub use addresses::{
-    is_core_register, is_kept, is_past_ports, is_port, lowered, post_increment, raised,
+    has_rampz, is_core_register, is_kept, is_past_ports, is_port, lowered, post_increment, raised,
 };
 pub use decoding::decode;
 pub use encoding::{encode, is_in_table};

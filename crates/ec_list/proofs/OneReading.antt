@@ -4,7 +4,7 @@ use Rattle.std.proofs.Common.{sym, ap, ◌∙◌, subst, arith, length, length-a
 use Rattle.std.specs.Prelude.{◌==◌, slice_get, is_some, unwrap_or, codes, nat_lt, if◌then◌else◌}
 use Rattle.std.specs.List.{AllByRecursion}
 use Rattle.ec_space.specs.declared.Core.{Core}
-use Rattle.ec_space.specs.declared.Core.TheVariants.{Small}
+use Rattle.ec_space.specs.declared.Core.TheVariants.{Small, Large}
 use Rattle.ec_avr.specs.Flash.{flash_size}
 use Rattle.ec_hex.specs.Bytes.{digit}
 use Rattle.ec_list.specs.Texts.{text}
@@ -22,6 +22,7 @@ use Rattle.ec_list.proofs.ExactLines.{line_is}
 
 pub small_flash : (core : Core) → flash_size core ≤ 1048576
 small_flash Small = omega arith
+small_flash Large = omega arith
 
 -- ---- one line
 

@@ -8,8 +8,8 @@ use Rattle.ec_isa.specs.declared.instructions.Instr.TheVariants.{Eor, Or, Mov, M
 use Rattle.ec_isa.specs.declared.instructions.Instr.TheVariants.{LddZ, LddY, StdZ, StdY, Lds, Sts, LdZPlus, LdMinusZ}
 use Rattle.ec_isa.specs.declared.instructions.Instr.TheVariants.{LdYPlus, LdMinusY, LdX, LdXPlus, LdMinusX, StZPlus}
 use Rattle.ec_isa.specs.declared.instructions.Instr.TheVariants.{StMinusZ, StYPlus, StMinusY, StX, StXPlus, StMinusX}
-use Rattle.ec_isa.specs.declared.instructions.Instr.TheVariants.{LpmZ, LpmZPlus, Pop, Push, Com, Neg, Swap, Inc, Asr}
-use Rattle.ec_isa.specs.declared.instructions.Instr.TheVariants.{Lsr, Ror, Dec, Bset, Bclr, Ijmp, Icall, Ret, Break}
+use Rattle.ec_isa.specs.declared.instructions.Instr.TheVariants.{LpmZ, LpmZPlus, Elpm, ElpmInc, Pop, Push, Com, Neg}
+use Rattle.ec_isa.specs.declared.instructions.Instr.TheVariants.{Swap, Inc, Asr, Lsr, Ror, Dec, Bset, Bclr, Ijmp, Icall, Ret, Break}
 use Rattle.ec_isa.specs.declared.instructions.Instr.TheVariants.{Jmp, Call, Adiw, Sbiw, In, Out, Rjmp, Rcall, Brbs}
 use Rattle.ec_isa.specs.declared.instructions.Instr.TheVariants.{Brbc, Bld, Bst, Sbrc, Sbrs}
 use Rattle.ec_isa.specs.Formats.{is_register, is_signed}
@@ -286,6 +286,10 @@ reads (LpmZ d) h =
     let w = register_words 36868 d refl h in row (LpmZ d) w.0 small_zero (at_words (LpmZ d) _ _ h w.1 tt)
 reads (LpmZPlus d) h =
     let w = register_words 36869 d refl (beside d 30 h) in row (LpmZPlus d) w.0 small_zero (at_words (LpmZPlus d) _ _ h w.1 tt)
+reads (Elpm d) h =
+    let w = register_words 36870 d refl h in row (Elpm d) w.0 small_zero (at_words (Elpm d) _ _ h w.1 tt)
+reads (ElpmInc d) h =
+    let w = register_words 36871 d refl (beside d 30 h) in row (ElpmInc d) w.0 small_zero (at_words (ElpmInc d) _ _ h w.1 tt)
 reads (Pop d) h =
     let w = register_words 36879 d refl h in row (Pop d) w.0 small_zero (at_words (Pop d) _ _ h w.1 tt)
 reads (Push r) h =
@@ -414,6 +418,8 @@ sound (StXPlus r) = refl
 sound (StMinusX r) = refl
 sound (LpmZ d) = refl
 sound (LpmZPlus d) = refl
+sound (Elpm d) = refl
+sound (ElpmInc d) = refl
 sound (Pop d) = refl
 sound (Push r) = refl
 sound (Com d) = refl

@@ -8,8 +8,8 @@ use Rattle.ec_isa.specs.declared.instructions.Instr.TheVariants.{Eor, Or, Mov, M
 use Rattle.ec_isa.specs.declared.instructions.Instr.TheVariants.{LddZ, LddY, StdZ, StdY, Lds, Sts, LdZPlus, LdMinusZ}
 use Rattle.ec_isa.specs.declared.instructions.Instr.TheVariants.{LdYPlus, LdMinusY, LdX, LdXPlus, LdMinusX, StZPlus}
 use Rattle.ec_isa.specs.declared.instructions.Instr.TheVariants.{StMinusZ, StYPlus, StMinusY, StX, StXPlus, StMinusX}
-use Rattle.ec_isa.specs.declared.instructions.Instr.TheVariants.{LpmZ, LpmZPlus, Pop, Push, Com, Neg, Swap, Inc, Asr}
-use Rattle.ec_isa.specs.declared.instructions.Instr.TheVariants.{Lsr, Ror, Dec, Bset, Bclr, Ijmp, Icall, Ret, Break}
+use Rattle.ec_isa.specs.declared.instructions.Instr.TheVariants.{LpmZ, LpmZPlus, Elpm, ElpmInc, Pop, Push, Com, Neg}
+use Rattle.ec_isa.specs.declared.instructions.Instr.TheVariants.{Swap, Inc, Asr, Lsr, Ror, Dec, Bset, Bclr, Ijmp, Icall, Ret, Break}
 use Rattle.ec_isa.specs.declared.instructions.Instr.TheVariants.{Jmp, Call, Adiw, Sbiw, In, Out, Rjmp, Rcall, Brbs}
 use Rattle.ec_isa.specs.declared.instructions.Instr.TheVariants.{Brbc, Bld, Bst, Sbrc, Sbrs}
 use Rattle.ec_list.specs.declared.texts.Format.{Format}
@@ -85,6 +85,8 @@ text (StXPlus r) = one formats.One (codes "ST X+, R#") r
 text (StMinusX r) = one formats.One (codes "ST -X, R#") r
 text (LpmZ d) = one formats.One (codes "LPM R#, Z") d
 text (LpmZPlus d) = one formats.One (codes "LPM R#, Z+") d
+text (Elpm d) = one formats.One (codes "ELPM R#, Z") d
+text (ElpmInc d) = one formats.One (codes "ELPM R#, Z+") d
 text (Pop d) = one formats.One (codes "POP R#") d
 text (Push r) = one formats.One (codes "PUSH R#") r
 text (Com d) = one formats.One (codes "COM R#") d

@@ -160,6 +160,8 @@ pub fn text_of(i: Instr) -> Text
         Instr::StMinusX { r } => one(Format::One, b"ST -X, R#", r as u16),
         Instr::LpmZ { d } => one(Format::One, b"LPM R#, Z", d as u16),
         Instr::LpmZPlus { d } => one(Format::One, b"LPM R#, Z+", d as u16),
+        Instr::Elpm { d } => one(Format::One, b"ELPM R#, Z", d as u16),
+        Instr::ElpmInc { d } => one(Format::One, b"ELPM R#, Z+", d as u16),
         Instr::Pop { d } => one(Format::One, b"POP R#", d as u16),
         Instr::Push { r } => one(Format::One, b"PUSH R#", r as u16),
         Instr::Com { d } => one(Format::One, b"COM R#", d as u16),

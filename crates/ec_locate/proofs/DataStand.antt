@@ -7,11 +7,14 @@ use Rattle.std.proofs.lemmas.Bool.{lt-ltb, le-ltb}
 use Rattle.std.proofs.lemmas.List.{length-map}
 use Rattle.std.proofs.lemmas.Option.{slice_get_within, get_or_from_slice_get}
 use Rattle.ec_space.specs.declared.space.Bank.TheVariants.{Data}
+use Rattle.ec_space.specs.declared.space.Home.TheVariants.{Data as DataHome}
 use Rattle.ec_space.specs.declared.space.Place.{Place}
+use Rattle.ec_space.specs.Spaces.{bank_of}
 use Rattle.ec_asm.specs.declared.items.AsmProgram.{AsmProgram}
 use Rattle.ec_check_recursion.specs.Rows.{rows_of_program}
 use Rattle.ec_core.specs.Plain.{PlainObject, PlainStorage, static, local, param, register, PlainProgram}
 use Rattle.ec_core.specs.Valid.{Valid, IsStored}
+use Rattle.ec_core.proofs.Homes.{home_in_data}
 use Rattle.ec_map.specs.Maps.{ValidMap}
 use Rattle.ec_map.specs.Regions.{end_of}
 use Rattle.ec_map.specs.declared.map.Map.{Map}
@@ -84,12 +87,15 @@ module _ (laws : OverlayLaws) (p : PlainProgram) (m : Map) (asm : AsmProgram) (l
       let here = place_at (es p m) m.tables.first m.vars.first (local_at m rows (es p m)) i (entry p m o) (entry_there p m i o is) in
       same_place (slice_get y.places i) q (there (entry p m o).kept o i) (subst (λ ps. slice_get ps i ≡ Some q) located.places at) here
 
-  object_standing : (i : ℕ) (o : PlainObject) (q : Place) → slice_get p.objects i ≡ Some o → o.home ≡ Data
+  object_standing : (i : ℕ) (o : PlainObject) (q : Place) → slice_get p.objects i ≡ Some o → bank_of o.home ≡ Data
       → slice_get l.places.items i ≡ Some q → Standing p m asm i q.offset (size p m o)
   object_standing i o q is home at = by_storage o.storage refl
     where
+      here : o.home ≡ DataHome
+      here = home_in_data o.home home
+
       is_packed : (entry p m o).kept ≡ Packed → Standing p m asm i q.offset (size p m o)
-      is_packed k = in_area i q.offset (size p m o) (packed i q.offset o is (rw (k, home) refl) (offset_is i o q is at ∙ rw (k, home) refl))
+      is_packed k = in_area i q.offset (size p m o) (packed i q.offset o is (rw (k, here) refl) (offset_is i o q is at ∙ rw (k, here) refl))
 
       in_frame : (f : ℕ) → (entry p m o).kept ≡ InFrame f → IsOwnedBy f o.storage → f < length p.functions
           → Standing p m asm i q.offset (size p m o)
@@ -181,7 +187,7 @@ module _ (laws : OverlayLaws) (p : PlainProgram) (m : Map) (asm : AsmProgram) (l
   same_object : (i : ℕ) (o x : PlainObject) → slice_get p.objects i ≡ Some o → slice_get p.objects i ≡ Some x → o ≡ x
   same_object i o x q r = let both : Some o ≡ Some x = sym q ∙ r in cc
 
-  objects : (i : ℕ) (o : PlainObject) (q : Place) → slice_get p.objects i ≡ Some o → o.home ≡ Data
+  objects : (i : ℕ) (o : PlainObject) (q : Place) → slice_get p.objects i ≡ Some o → bank_of o.home ≡ Data
       → slice_get l.places.items i ≡ Some q → StandsIn o.storage q.offset (size p m o)
   objects i o q is home at = by_storage o.storage refl
     where

@@ -2,7 +2,9 @@
 use Rattle.std.proofs.Common.{◌≡◌, ◌≢◌, ◌+◌, ◌≤◌, ℕ, List, Some, refl, sym, ap, ◌∙◌, subst, arith}
 use Rattle.std.specs.Prelude.{slice_get, option_map, unwrap_or}
 use Rattle.ec_space.specs.declared.space.Bank.TheVariants.{Flash, Data}
+use Rattle.ec_space.specs.declared.space.Home.TheVariants.{Data as DataHome}
 use Rattle.ec_space.specs.declared.space.Place.{Place}
+use Rattle.ec_space.specs.Spaces.{bank_of}
 use Rattle.ec_asm.specs.declared.items.AsmProgram.{AsmProgram}
 use Rattle.ec_core.specs.Plain.{PlainObject, PlainStorage, static, local, param, register, PlainProgram}
 use Rattle.ec_core.specs.Valid.{Valid, IsStored}
@@ -15,14 +17,13 @@ use Rattle.ec_locate.specs.Code.{address_of}
 use Rattle.ec_locate.specs.Entries.{flash_sizes, initial_sizes}
 use Rattle.ec_locate.specs.Fixed.{blocks}
 use Rattle.ec_locate.specs.FlashBank.{IsInFlash, FlashStands, FlashStandsApart}
-use Rattle.ec_locate.specs.Image.{values_at}
 use Rattle.ec_locate.specs.Initial.{IsInitialised, values_of}
 use Rattle.ec_locate.specs.Placing.{IsLocated, layout_by, last_of, needs}
 use Rattle.ec_locate.proofs.Addresses.{object_start, address_from}
 use Rattle.ec_locate.proofs.InOrders.{tables_fit, places_free}
 use Rattle.ec_locate.proofs.Objects.{is_object_at}
 use Rattle.ec_locate.proofs.Stood.{Clear, by_order, es, size}
-use Rattle.ec_locate.proofs.Spots.{Spot, spot, spots_apart, Room, room_of}
+use Rattle.ec_locate.proofs.Spots.{values_in_flash, Spot, spot, spots_apart, Room, room_of}
 
 module _ (p : PlainProgram) (m : Map) (asm : AsmProgram) (l : Located) (valid : Valid p m.io) (map_valid : ValidMap m)
     (located : IsLocated p m asm l) where
@@ -35,8 +36,8 @@ module _ (p : PlainProgram) (m : Map) (asm : AsmProgram) (l : Located) (valid : 
   -- all others are kept in the data bank
   is_static : (i : ℕ) (o : PlainObject) (q : Place) → IsInFlash p l i o q → (inits : List LeafInit) × IsInitialised p i o inits
   is_static i o q h = by_storage o.storage refl (is_object_at p m.io valid i o h.is_object).storage where
-    in_flash : o.home ≡ Data → ⊥
-    in_flash data_home = let both : Flash ≡ Data = sym h.home ∙ data_home in cc
+    in_flash : o.home ≡ DataHome → ⊥
+    in_flash data_home = let both : Flash ≡ Data = sym h.home ∙ ap bank_of data_home in cc
 
     by_storage : (s : PlainStorage) → o.storage ≡ s → IsStored p o s → (inits : List LeafInit) × IsInitialised p i o inits
     by_storage (static inits) s stored = (inits, record { is_object = h.is_object; is_static = s })
@@ -47,7 +48,7 @@ module _ (p : PlainProgram) (m : Map) (asm : AsmProgram) (l : Located) (valid : 
   place_is : (i : ℕ) (o : PlainObject) (q : Place) → IsInFlash p l i o q → values_of p m asm i o ≡ q.offset
   place_is i o q h =
       let placed : slice_get (layout_by p m asm).places i ≡ Some q = subst (λ ps. slice_get ps i ≡ Some q) located.places h.is_place in
-      ap (λ b. values_at (layout_by p m asm) i b) h.home ∙ ap (λ z. unwrap_or (option_map (λ r. r.offset) z) 0) placed
+      values_in_flash (layout_by p m asm) i o.home h.home ∙ ap (λ z. unwrap_or (option_map (λ r. r.offset) z) 0) placed
 
   spot_is : (i : ℕ) (o : PlainObject) (q : Place) → IsInFlash p l i o q → Spot p m i o q.offset
   spot_is i o q h = let s = is_static i o q h in subst (Spot p m i o) (place_is i o q h) (spot p m asm i o s.0 s.1)

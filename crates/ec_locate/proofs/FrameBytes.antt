@@ -7,8 +7,9 @@ use Rattle.std.specs.Prelude.{slice_get, slice_index, option_map, sum_by}
 use Rattle.std.proofs.lemmas.List.{length-map, drop_more}
 use Rattle.std.proofs.lemmas.List.Sums.{sum_by-drop_more}
 use Rattle.std.proofs.lemmas.Option.{slice_get-map, slice_get-get_or}
-use Rattle.ec_space.specs.declared.space.Bank.{Bank}
+use Rattle.ec_space.specs.declared.space.Home.{Home}
 use Rattle.ec_space.specs.declared.space.Place.{Place}
+use Rattle.ec_space.specs.Spaces.{bank_of}
 use Rattle.ec_overlay.specs.Objects.{Owned, bytes_in, frame_bytes, bytes_before}
 use Rattle.ec_overlay.proofs.Objects.{before_more, before_all}
 use Rattle.ec_locate.specs.Areas.{IsKeptBelow}
@@ -57,13 +58,13 @@ scratch_is (frame ∷ frames) (suc f) = scratch_is frames f
 
 -- ---- places
 
-pub place_same : (n : ℕ) (k : Kept) (home : Bank) (flash at : ℕ) (a b : ℕ → ℕ) → IsKeptBelow n k → ((f : ℕ) → f < n
+pub place_same : (n : ℕ) (k : Kept) (home : Home) (flash at : ℕ) (a b : ℕ → ℕ) → IsKeptBelow n k → ((f : ℕ) → f < n
     → a f ≡ b f)
     → place_by k home flash at a ≡ place_by k home flash at b
 place_same n (Register first) home flash at a b known same = refl
 place_same n (Fixed there) home flash at a b known same = refl
 place_same n Packed home flash at a b known same = refl
-place_same n (InFrame f) home flash at a b known same = λ j. record { bank = home; offset = same f known j }
+place_same n (InFrame f) home flash at a b known same = λ j. record { bank = bank_of home; offset = same f known j }
 
 -- one place more, where the frames so far agree with where objects stand
 pub placed_step : (n : ℕ) (es : List Entry) (i flash at more_flash more_at : ℕ) (frame : ℕ → ℕ → ℕ) (so_far : ℕ → ℕ)

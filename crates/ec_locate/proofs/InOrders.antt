@@ -3,8 +3,9 @@ use Rattle.std.proofs.Common.{◌≡◌, ◌+◌, ◌≤◌, ℕ, Bool, true, fa
 use Rattle.std.proofs.Common.{refl, subst, arith}
 use Rattle.std.specs.Prelude.{sum_by, if◌then◌else◌, position}
 use Rattle.std.proofs.lemmas.List.Sums.{sum_by-cons}
-use Rattle.ec_space.specs.declared.space.Bank.{Bank}
 use Rattle.ec_space.specs.declared.space.Bank.TheVariants.{Flash, Data}
+use Rattle.ec_space.specs.declared.space.Home.{Home}
+use Rattle.ec_space.specs.declared.space.Home.TheVariants.{Flash as FlashHome, Far as FarHome, Data as DataHome}
 use Rattle.ec_map.specs.declared.map.Map.{Map}
 use Rattle.ec_locate.specs.declared.entries.Entry.{Entry}
 use Rattle.ec_locate.specs.declared.entries.Kept.{Kept}
@@ -37,17 +38,21 @@ behind f x xs at ss to h =
 
 -- ---- data objects
 
-data_step : (k : Kept) (home : Bank) (size flash at : ℕ) (frame : ℕ → ℕ) (ss : List Span) (to : ℕ)
+data_step : (k : Kept) (home : Home) (size flash at : ℕ) (frame : ℕ → ℕ) (ss : List Span) (to : ℕ)
     → InOrder (at + packed_data k home size) ss to
     → InOrder at (add_where (is_packed_in Data k home) (record { from = (place_by k home flash at frame).offset; size = size }) ss) to
-data_step Packed Data size flash at frame ss to h = (omega arith, h)
-data_step Packed Flash size flash at frame ss to h = at_zero at ss to h
-data_step (Register r) Data size flash at frame ss to h = at_zero at ss to h
-data_step (Register r) Flash size flash at frame ss to h = at_zero at ss to h
-data_step (Fixed there) Data size flash at frame ss to h = at_zero at ss to h
-data_step (Fixed there) Flash size flash at frame ss to h = at_zero at ss to h
-data_step (InFrame f) Data size flash at frame ss to h = at_zero at ss to h
-data_step (InFrame f) Flash size flash at frame ss to h = at_zero at ss to h
+data_step Packed DataHome size flash at frame ss to h = (omega arith, h)
+data_step Packed FlashHome size flash at frame ss to h = at_zero at ss to h
+data_step Packed FarHome size flash at frame ss to h = at_zero at ss to h
+data_step (Register r) DataHome size flash at frame ss to h = at_zero at ss to h
+data_step (Register r) FlashHome size flash at frame ss to h = at_zero at ss to h
+data_step (Register r) FarHome size flash at frame ss to h = at_zero at ss to h
+data_step (Fixed there) DataHome size flash at frame ss to h = at_zero at ss to h
+data_step (Fixed there) FlashHome size flash at frame ss to h = at_zero at ss to h
+data_step (Fixed there) FarHome size flash at frame ss to h = at_zero at ss to h
+data_step (InFrame f) DataHome size flash at frame ss to h = at_zero at ss to h
+data_step (InFrame f) FlashHome size flash at frame ss to h = at_zero at ss to h
+data_step (InFrame f) FarHome size flash at frame ss to h = at_zero at ss to h
 
 pub data_in_order : (es : List Entry) (flash at : ℕ) (frame : ℕ → ℕ → ℕ) (i : ℕ) (ss : List Span) (to : ℕ)
     → InOrder (at + data_sizes es) ss to
@@ -59,17 +64,21 @@ data_in_order (e ∷ es) flash at frame i ss to h =
 
 -- ---- flash objects
 
-flash_step : (k : Kept) (home : Bank) (size flash at : ℕ) (frame : ℕ → ℕ) (ss : List Span) (to : ℕ)
+flash_step : (k : Kept) (home : Home) (size flash at : ℕ) (frame : ℕ → ℕ) (ss : List Span) (to : ℕ)
     → InOrder (flash + packed_flash k home size) ss to
     → InOrder flash (add_where (is_packed_in Flash k home) (record { from = (place_by k home flash at frame).offset; size = size }) ss) to
-flash_step Packed Flash size flash at frame ss to h = (omega arith, h)
-flash_step Packed Data size flash at frame ss to h = at_zero flash ss to h
-flash_step (Register r) Data size flash at frame ss to h = at_zero flash ss to h
-flash_step (Register r) Flash size flash at frame ss to h = at_zero flash ss to h
-flash_step (Fixed there) Data size flash at frame ss to h = at_zero flash ss to h
-flash_step (Fixed there) Flash size flash at frame ss to h = at_zero flash ss to h
-flash_step (InFrame f) Data size flash at frame ss to h = at_zero flash ss to h
-flash_step (InFrame f) Flash size flash at frame ss to h = at_zero flash ss to h
+flash_step Packed FlashHome size flash at frame ss to h = (omega arith, h)
+flash_step Packed FarHome size flash at frame ss to h = (omega arith, h)
+flash_step Packed DataHome size flash at frame ss to h = at_zero flash ss to h
+flash_step (Register r) DataHome size flash at frame ss to h = at_zero flash ss to h
+flash_step (Register r) FlashHome size flash at frame ss to h = at_zero flash ss to h
+flash_step (Register r) FarHome size flash at frame ss to h = at_zero flash ss to h
+flash_step (Fixed there) DataHome size flash at frame ss to h = at_zero flash ss to h
+flash_step (Fixed there) FlashHome size flash at frame ss to h = at_zero flash ss to h
+flash_step (Fixed there) FarHome size flash at frame ss to h = at_zero flash ss to h
+flash_step (InFrame f) DataHome size flash at frame ss to h = at_zero flash ss to h
+flash_step (InFrame f) FlashHome size flash at frame ss to h = at_zero flash ss to h
+flash_step (InFrame f) FarHome size flash at frame ss to h = at_zero flash ss to h
 
 pub flash_in_order : (es : List Entry) (flash at : ℕ) (frame : ℕ → ℕ → ℕ) (i : ℕ) (ss : List Span) (to : ℕ)
     → InOrder (flash + flash_sizes es) ss to
@@ -81,13 +90,15 @@ flash_in_order (e ∷ es) flash at frame i ss to h =
 
 -- ---- initial bytes
 
-initial_step : (static : Bool) (home : Bank) (size first at : ℕ) (ss : List Span) (to : ℕ)
+initial_step : (static : Bool) (home : Home) (size first at : ℕ) (ss : List Span) (to : ℕ)
     → InOrder (at + initial_bytes static home size) ss to
     → InOrder at (add_where (has_initial static home) (record { from = initial_at static home first at; size = size }) ss) to
-initial_step true Data size first at ss to h = (omega arith, h)
-initial_step true Flash size first at ss to h = at_zero at ss to h
-initial_step false Data size first at ss to h = at_zero at ss to h
-initial_step false Flash size first at ss to h = at_zero at ss to h
+initial_step true DataHome size first at ss to h = (omega arith, h)
+initial_step true FlashHome size first at ss to h = at_zero at ss to h
+initial_step true FarHome size first at ss to h = at_zero at ss to h
+initial_step false DataHome size first at ss to h = at_zero at ss to h
+initial_step false FlashHome size first at ss to h = at_zero at ss to h
+initial_step false FarHome size first at ss to h = at_zero at ss to h
 
 pub initial_in_order : (es : List Entry) (first at : ℕ) (ss : List Span) (to : ℕ) → InOrder (at + initial_sizes es) ss to
     → InOrder at (initial_spans (initials_from first at es) es ss) to

@@ -6,6 +6,9 @@ use Rattle.std.specs.Prelude.{slice_get, option_map, unwrap_or}
 use Rattle.std.proofs.lemmas.Bool.{leb-true}
 use Rattle.ec_space.specs.declared.space.Bank.{Bank}
 use Rattle.ec_space.specs.declared.space.Bank.TheVariants.{Flash, Data}
+use Rattle.ec_space.specs.declared.space.Home.{Home}
+use Rattle.ec_space.specs.declared.space.Home.TheVariants.{Flash as FlashHome, Far as FarHome, Data as DataHome}
+use Rattle.ec_space.specs.Spaces.{bank_of}
 use Rattle.ec_asm.specs.declared.items.AsmProgram.{AsmProgram}
 use Rattle.ec_check_recursion.specs.Rows.{rows_of_program}
 use Rattle.ec_core.specs.Plain.{PlainObject, PlainProgram}
@@ -19,14 +22,33 @@ use Rattle.ec_locate.specs.declared.entries.Kept.TheVariants.{Packed, Fixed}
 use Rattle.ec_locate.specs.declared.fixed.Block.{Block}
 use Rattle.ec_locate.specs.declared.stop.RegionName.TheVariants as regions
 use Rattle.ec_locate.specs.Apart.{AreFree}
-use Rattle.ec_locate.specs.Entries.{fixed_place, is_static, flash_size, initial_size, flash_sizes, data_sizes, initial_sizes}
+use Rattle.ec_locate.specs.Entries.{fixed_place, is_static, packed_flash, flash_size, initial_size, flash_sizes, data_sizes, initial_sizes}
 use Rattle.ec_locate.specs.Fixed.{blocks}
 use Rattle.ec_locate.specs.Image.{values_at}
 use Rattle.ec_locate.specs.Initial.{IsInitialised, values_of}
-use Rattle.ec_locate.specs.Layout.{place_by, local_at}
+use Rattle.ec_locate.specs.Layout.{LayoutView, in_region, place_by, local_at}
 use Rattle.ec_locate.specs.Placing.{layout_by}
 use Rattle.ec_locate.proofs.Stood.{Clear, turned, es, size, entry, entry_there, Stood, stood, both_stood}
 use Rattle.ec_locate.proofs.Where.{sum_until, sum_within, place_at, initial_there, free_at, apart_where, clear_of}
+
+-- ---- objects of the flash bank, by their homes
+
+pub values_in_flash : (y : LayoutView) (i : ℕ) (home : Home) → bank_of home ≡ Flash
+    → values_at y i home ≡ unwrap_or (option_map (λ q. q.offset) (slice_get y.places i)) 0
+values_in_flash y i FlashHome h = refl
+values_in_flash y i FarHome h = refl
+values_in_flash y i DataHome h = cc
+
+packed_in_flash : (home : Home) (size : ℕ) → bank_of home ≡ Flash → packed_flash Packed home size ≡ size
+packed_in_flash FlashHome size h = refl
+packed_in_flash FarHome size h = refl
+packed_in_flash DataHome size h = cc
+
+region_in_flash : (home : Home) (flash at : ℕ) → bank_of home ≡ Flash
+    → in_region home flash at ≡ record { bank = Flash; offset = flash }
+region_in_flash FlashHome flash at h = refl
+region_in_flash FarHome flash at h = refl
+region_in_flash DataHome flash at h = cc
 
 -- ---- where the initial values of an object stand
 
@@ -37,7 +59,7 @@ module _ (p : PlainProgram) (m : Map) where
         → at ≡ m.tables.first + flash_sizes (es p m) + initial_sizes (take i (es p m)) → Spot i o at
     packed : (at : ℕ) → flash_size (entry p m o) ≡ size p m o → at ≡ m.tables.first + flash_sizes (take i (es p m))
         → Spot i o at
-    fixed : (at : ℕ) → o.home ≡ Flash → o.external ≡ true → is_static o.storage ≡ true
+    fixed : (at : ℕ) → bank_of o.home ≡ Flash → o.external ≡ true → is_static o.storage ≡ true
         → fixed_place m.places.items o.name ≡ Some at → Spot i o at
 
   pub spot : (asm : AsmProgram) (i : ℕ) (o : PlainObject) (inits : List LeafInit) → IsInitialised p i o inits
@@ -55,31 +77,34 @@ module _ (p : PlainProgram) (m : Map) where
           (place_by k o.home (m.tables.first + flash_sizes (take i (es p m))) (m.vars.first + data_sizes (take i (es p m)))
           (λ f. local_at m (rows_of_program p) (es p m) f i)).offset
 
-      in_flash : o.home ≡ Flash → values_of p m asm i o ≡ at_flash (entry p m o).kept
+      in_flash : bank_of o.home ≡ Flash → values_of p m asm i o ≡ at_flash (entry p m o).kept
       in_flash f =
-          ap (λ b. values_at (layout_by p m asm) i b) f
+          values_in_flash (layout_by p m asm) i o.home f
           ∙ ap (λ z. unwrap_or (option_map (λ q. q.offset) z) 0)
           (place_at (es p m) m.tables.first m.vars.first (local_at m (rows_of_program p) (es p m)) i (entry p m o) is_there)
 
-      by_place : o.home ≡ Flash → (z : Option ℕ) → fixed_place m.places.items o.name ≡ z → o.external ≡ true
+      by_place : bank_of o.home ≡ Flash → (z : Option ℕ) → fixed_place m.places.items o.name ≡ z → o.external ≡ true
           → Spot i o (values_of p m asm i o)
       by_place f None z x =
           let k : (entry p m o).kept ≡ Packed = rw (h.is_static, x, z) refl in
-          packed (values_of p m asm i o) (rw (k, f) refl) (in_flash f ∙ rw (k, f) refl)
+          packed (values_of p m asm i o) (rw k (packed_in_flash o.home (size p m o) f))
+          (in_flash f ∙ rw k (ap (λ q. q.offset) (region_in_flash o.home _ _ f)))
       by_place f (Some at) z x =
           let k : (entry p m o).kept ≡ Fixed at = rw (h.is_static, x, z) refl in
           let here : values_of p m asm i o ≡ at = in_flash f ∙ rw k refl in
           subst (λ n. Spot i o n) (sym here) (fixed at f x static_there z)
 
-      by_external : o.home ≡ Flash → (b : Bool) → o.external ≡ b → Spot i o (values_of p m asm i o)
+      by_external : bank_of o.home ≡ Flash → (b : Bool) → o.external ≡ b → Spot i o (values_of p m asm i o)
       by_external f true x = by_place f (fixed_place m.places.items o.name) refl x
       by_external f false x =
           let k : (entry p m o).kept ≡ Packed = rw (h.is_static, x) refl in
-          packed (values_of p m asm i o) (rw (k, f) refl) (in_flash f ∙ rw (k, f) refl)
+          packed (values_of p m asm i o) (rw k (packed_in_flash o.home (size p m o) f))
+          (in_flash f ∙ rw k (ap (λ q. q.offset) (region_in_flash o.home _ _ f)))
 
-      by_home : (b : Bank) → o.home ≡ b → Spot i o (values_of p m asm i o)
-      by_home Flash f = by_external f o.external refl
-      by_home Data f =
+      by_home : (b : Home) → o.home ≡ b → Spot i o (values_of p m asm i o)
+      by_home FlashHome f = by_external (ap bank_of f) o.external refl
+      by_home FarHome f = by_external (ap bank_of f) o.external refl
+      by_home DataHome f =
           initial (values_of p m asm i o) (rw (static_there, f) refl)
           (ap (λ b. values_at (layout_by p m asm) i b) f
           ∙ initial_there (es p m) m.tables.first (m.tables.first + flash_sizes (es p m)) i (entry p m o) is_there

@@ -5,6 +5,7 @@ use Rattle.std.proofs.lemmas.Bool.{cases_lt}
 use Rattle.std.proofs.lemmas.Option.{slice_get-map, slice_get_within, get_or_from_slice_get}
 use Rattle.ec_space.specs.declared.space.Bank.{Bank}
 use Rattle.ec_space.specs.declared.space.Bank.TheVariants.{Flash, Data}
+use Rattle.ec_space.specs.Spaces.{bank_of}
 use Rattle.ec_core.specs.Layout.{size_of_type}
 use Rattle.ec_core.specs.Plain.{PlainObject, PlainProgram}
 use Rattle.ec_core.specs.Valid.{Valid, HaveOwnNames}
@@ -58,7 +59,7 @@ module _ (p : PlainProgram) (m : Map) where
     pub is_block : slice_get (blocks es p.objects m.places.items) found.number ≡ Some (block bank o at)
 
   module _ (valid : Valid p m.io) (free : AreFree m (blocks es p.objects m.places.items)) where
-    pub stood : (bank : Bank) (i : ℕ) (o : PlainObject) (at : ℕ) → slice_get p.objects i ≡ Some o → o.home ≡ bank → o.external ≡ true
+    pub stood : (bank : Bank) (i : ℕ) (o : PlainObject) (at : ℕ) → slice_get p.objects i ≡ Some o → bank_of o.home ≡ bank → o.external ≡ true
         → is_static o.storage ≡ true → fixed_place m.places.items o.name ≡ Some at → Stood bank o at
     stood bank i o at q f x s z =
         let found = found_place m.places.items o.name at z in

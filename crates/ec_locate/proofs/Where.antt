@@ -10,6 +10,7 @@ use Rattle.std.proofs.lemmas.Iterator.Adapters.{position_from-zero}
 use Rattle.std.proofs.lemmas.List.Sums.{sum_by-cons}
 use Rattle.std.proofs.lemmas.Option.{slice_get-map, slice_get_within, get_or_from_slice_get}
 use Rattle.std.proofs.lemmas.Slice.Eq.{bytes_eq-Decides}
+use Rattle.ec_space.specs.Spaces.{bank_of}
 use Rattle.ec_core.specs.Plain.{PlainObject}
 use Rattle.ec_core.specs.Valid.{HaveOwnNames}
 use Rattle.ec_map.specs.declared.map.Fixed1.{Fixed1}
@@ -179,13 +180,13 @@ named_is objects i o name own q x s n =
 
 pub block_there : (es : List Entry) (objects : List PlainObject) (places : List Fixed1) (i : ℕ) (e : Entry) (name : List ℕ) (at : ℕ)
     (f : FoundPlace places name at) → slice_get es i ≡ Some e → object_named objects name ≡ Some i
-    → slice_get (blocks es objects places) f.number ≡ Some (record { bank = e.home; at = at; size = e.size })
+    → slice_get (blocks es objects places) f.number ≡ Some (record { bank = bank_of e.home; at = at; size = e.size })
 block_there es objects places i e name at f is named =
     let found : object_named objects f.place.name.items ≡ Some i = ap (λ n. object_named objects n) f.is_name ∙ named in
-    let block : block_of es objects f.place ≡ record { bank = e.home; at = at; size = e.size } =
+    let block : block_of es objects f.place ≡ record { bank = bank_of e.home; at = at; size = e.size } =
     ap (λ o. block_at f.place.at (option_and_then (slice_get es) o)) found
     ∙ ap (λ o. block_at f.place.at o) is
-    ∙ ap (λ n. let b : Block = record { bank = e.home; at = n; size = e.size } in b) f.is_there in
+    ∙ ap (λ n. let b : Block = record { bank = bank_of e.home; at = n; size = e.size } in b) f.is_there in
     slice_get-map (block_of es objects) places f.number
     ∙ ap (option_map (block_of es objects)) f.is_place
     ∙ ap Some block

@@ -3,6 +3,8 @@ use Rattle.std.specs.Prelude.{ℕ, ◌≡◌, ◌+◌, ◌*◌, ◌≤◌, ⊤, 
 use Rattle.std.specs.Prelude.{length, position}
 use Rattle.ec_space.specs.declared.space.Bank.{Bank}
 use Rattle.ec_space.specs.declared.space.Bank.TheVariants.{Flash, Data}
+use Rattle.ec_space.specs.declared.space.Home.{Home}
+use Rattle.ec_space.specs.declared.space.Home.TheVariants.{Flash as FlashHome, Far as FarHome, Data as DataHome}
 use Rattle.ec_space.specs.declared.space.Place.{Place}
 use Rattle.ec_asm.specs.Items.{code_words}
 use Rattle.ec_asm.specs.declared.items.AsmProgram.{AsmProgram}
@@ -42,9 +44,10 @@ add_where false s ss = ss
 -- ---- what stands in the regions
 
 -- an object of a bank that stands in its region
-abbrev pub is_packed_in : Bank → Kept → Bank → Bool
-is_packed_in Flash Packed Flash = true
-is_packed_in Data Packed Data = true
+abbrev pub is_packed_in : Bank → Kept → Home → Bool
+is_packed_in Flash Packed FlashHome = true
+is_packed_in Flash Packed FarHome = true
+is_packed_in Data Packed DataHome = true
 is_packed_in _ _ _ = false
 
 -- the objects of a bank that stand in its region, before other spans
@@ -54,8 +57,8 @@ objects_in bank (p ∷ ps) [] rest = rest
 objects_in bank (p ∷ ps) (e ∷ es) rest =
     add_where (is_packed_in bank e.kept e.home) (record { from = p.offset; size = e.size }) (objects_in bank ps es rest)
 
-abbrev pub has_initial : (is_static : Bool) → Bank → Bool
-has_initial true Data = true
+abbrev pub has_initial : (is_static : Bool) → Home → Bool
+has_initial true DataHome = true
 has_initial _ _ = false
 
 -- the initial bytes of static data objects

@@ -2,6 +2,7 @@
 use Rattle.std.specs.Prelude.{ℕ, ◌+◌, ◌-◌, ◌%◌, ◌==◌, nat_le, nat_lt, Bool, true, ◌&&◌, if◌then◌else◌, List, [], ◌∷◌}
 use Rattle.std.specs.Prelude.{slice_get, slice_index, slice_set, option_map, unwrap_or}
 use Rattle.ec_isa.specs.Table.{in_table}
+use Rattle.ec_space.specs.declared.Core.TheVariants.{Small}
 use Rattle.ec_asm.specs.Change.{Env, Barred}
 use Rattle.ec_asm.specs.declared.items.AsmItem.{AsmItem}
 use Rattle.ec_asm.specs.declared.items.AsmItem.TheVariants.{Plain, Label, JumpTo, CallTo, BranchTo, LoadPart, LoadObj}
@@ -31,6 +32,7 @@ address_of y last object offset = (start_of y last object + offset) % 65536
 -- what is outside the code, as far as its bytes depend on it
 abbrev pub resolved : List AsmItem → LayoutView → (last : ℕ) → Env
 resolved items y last = record {
+  core = Small;
   flash = [];
   word_of = label_word items;
   address_of = address_of y last;

@@ -1,6 +1,7 @@
 -- What a placed program keeps in the data bank, by the numbers of its items, stands apart.
 use Rattle.std.specs.Prelude.{ℕ, ◌≡◌, ◌≢◌, ◌⊎◌, ◌+◌, ◌<◌, ◌≤◌, Some, length, slice_get, IsSomeAnd}
 use Rattle.ec_space.specs.declared.space.Bank.TheVariants.{Data}
+use Rattle.ec_space.specs.Spaces.{bank_of}
 use Rattle.ec_space.specs.declared.space.Place.{Place}
 use Rattle.ec_asm.specs.Valid.{ValidAsm}
 use Rattle.ec_asm.specs.declared.items.AsmProgram.{AsmProgram}
@@ -26,7 +27,7 @@ IsOwnedBy f (register first) = ⊥
 
 -- a number names so many bytes from a data address on: an object, the scratch memory of a function, or the work bytes
 pub data Names (p : PlainProgram) (asm : AsmProgram) (l : Located) : (number at size : ℕ) → Type 0 where
-  an_object : (i : ℕ) (o : PlainObject) (q : Place) → slice_get p.objects i ≡ Some o → o.home ≡ Data
+  an_object : (i : ℕ) (o : PlainObject) (q : Place) → slice_get p.objects i ≡ Some o → bank_of o.home ≡ Data
       → slice_get l.places.items i ≡ Some q → Names p asm l i q.offset (size_of_type p.structs o.ty)
   scratch : (f frame at : ℕ) → slice_get asm.frames.items f ≡ Some frame → slice_get l.frames.items f ≡ Some at
       → Names p asm l (1024 + f) at (frame_size frame)
@@ -60,7 +61,7 @@ pub record DataStands (p : PlainProgram) (m : Map) (asm : AsmProgram) (l : Locat
   pub apart : (n k at to size many : ℕ) → n ≢ k → CanBeLive p n k → Names p asm l n at size
       → Names p asm l k to many → (at + size ≤ to) ⊎ (to + many ≤ at)
   pub stack : (n at size : ℕ) → Names p asm l n at size → (at + size ≤ m.stack.first) ⊎ (end_of m.stack ≤ at)
-  pub objects : (i : ℕ) (o : PlainObject) (q : Place) → slice_get p.objects i ≡ Some o → o.home ≡ Data
+  pub objects : (i : ℕ) (o : PlainObject) (q : Place) → slice_get p.objects i ≡ Some o → bank_of o.home ≡ Data
       → slice_get l.places.items i ≡ Some q → StandsIn o.storage q.offset (size_of_type p.structs o.ty)
   pub frames : (f frame at : ℕ) → slice_get asm.frames.items f ≡ Some frame → slice_get l.frames.items f ≡ Some at
       → IsInMemory at (frame_size frame)

@@ -3,8 +3,8 @@ use Rattle.std.specs.Prelude.{ℕ, ◌+◌, ◌*◌, Bool, true, false, if◌the
 use Rattle.std.specs.Prelude.{option_map, sum_by, slice_index}
 use Rattle.std.specs.List.{find}
 use Rattle.std.specs.Str.{bytes_eq}
-use Rattle.ec_space.specs.declared.space.Bank.{Bank}
-use Rattle.ec_space.specs.declared.space.Bank.TheVariants.{Flash, Data}
+use Rattle.ec_space.specs.declared.space.Home.{Home}
+use Rattle.ec_space.specs.declared.space.Home.TheVariants.{Flash, Far, Data}
 use Rattle.ec_core.specs.Layout.{size_of_type}
 use Rattle.ec_core.specs.Plain.{PlainStruct, PlainStorage, static, local, param, register, PlainObject, PlainProgram}
 use Rattle.ec_map.specs.declared.map.Fixed1.{Fixed1}
@@ -51,26 +51,27 @@ entries places p = map (entry_of p.structs places) p.objects
 
 -- ---- bytes
 
-abbrev pub packed_flash : Kept → Bank → ℕ → ℕ
+abbrev pub packed_flash : Kept → Home → ℕ → ℕ
 packed_flash Packed Flash size = size
+packed_flash Packed Far size = size
 packed_flash _ _ size = 0
 
-abbrev pub packed_data : Kept → Bank → ℕ → ℕ
+abbrev pub packed_data : Kept → Home → ℕ → ℕ
 packed_data Packed Data size = size
 packed_data _ _ size = 0
 
-abbrev pub initial_bytes : (is_static : Bool) → Bank → ℕ → ℕ
+abbrev pub initial_bytes : (is_static : Bool) → Home → ℕ → ℕ
 initial_bytes true Data size = size
 initial_bytes _ _ size = 0
 
--- the bytes of an object in the region of its bank, 0 where it is kept elsewhere
+-- the bytes of an object in the region of its home, 0 where it is kept elsewhere
 abbrev pub flash_size : Entry → ℕ
 flash_size e = packed_flash e.kept e.home e.size
 
 abbrev pub data_size : Entry → ℕ
 data_size e = packed_data e.kept e.home e.size
 
--- the initial bytes of a static object of the data bank, wherever it is kept
+-- the initial bytes of a static object of the home data, wherever it is kept
 abbrev pub initial_size : Entry → ℕ
 initial_size e = initial_bytes e.is_static e.home e.size
 

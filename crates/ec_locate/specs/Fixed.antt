@@ -7,6 +7,7 @@ use Rattle.std.specs.List.{find}
 use Rattle.std.specs.Str.{bytes_eq}
 use Rattle.ec_space.specs.declared.space.Bank.{Bank}
 use Rattle.ec_space.specs.declared.space.Bank.TheVariants.{Flash, Data}
+use Rattle.ec_space.specs.Spaces.{bank_of}
 use Rattle.ec_core.specs.Plain.{PlainObject}
 use Rattle.ec_map.specs.declared.map.Fixed1.{Fixed1}
 use Rattle.ec_map.specs.declared.map.Map.{Map}
@@ -37,7 +38,7 @@ missing objects places = find (λ p. is_none (object_named objects p.name.items)
 
 abbrev pub block_at : (at : ℕ) → Option Entry → Block
 block_at at None = record { bank = Data; at = at; size = 0 }
-block_at at (Some e) = record { bank = e.home; at = at; size = e.size }
+block_at at (Some e) = record { bank = bank_of e.home; at = at; size = e.size }
 
 abbrev pub block_of : List Entry → List PlainObject → Fixed1 → Block
 block_of es objects p = block_at p.at (option_and_then (slice_get es) (object_named objects p.name.items))

@@ -1,6 +1,7 @@
 -- What a placed program keeps in the flash bank, by the numbers of its objects, stands apart.
 use Rattle.std.specs.Prelude.{ℕ, ◌≡◌, ◌≢◌, ◌⊎◌, ◌+◌, ◌<◌, ◌≤◌, Some, slice_get}
 use Rattle.ec_space.specs.declared.space.Bank.TheVariants.{Flash}
+use Rattle.ec_space.specs.Spaces.{bank_of}
 use Rattle.ec_space.specs.declared.space.Place.{Place}
 use Rattle.ec_asm.specs.Valid.{ValidAsm}
 use Rattle.ec_asm.specs.declared.items.AsmProgram.{AsmProgram}
@@ -16,7 +17,7 @@ use Rattle.ec_locate.specs.declared.placing.Located.{Located}
 -- object i is kept in the flash bank, at a place
 pub record IsInFlash (p : PlainProgram) (l : Located) (i : ℕ) (o : PlainObject) (q : Place) : Type 0 where
   pub is_object : slice_get p.objects i ≡ Some o
-  pub home : o.home ≡ Flash
+  pub home : bank_of o.home ≡ Flash
   pub is_place : slice_get l.places.items i ≡ Some q
 
 -- Different objects stand apart, in the flash of the core `small` but not at address 0. The address of each byte, and of

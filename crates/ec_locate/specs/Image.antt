@@ -3,8 +3,8 @@ use Rattle.std.specs.Prelude.{ℕ, ◌+◌, Bool, true, List, [], ◌∷◌, ◌
 use Rattle.std.specs.Prelude.{option_map, unwrap_or, slice_get, slice_index, false}
 use Rattle.std.specs.Int.{w128, cast_unsigned}
 use Rattle.ec_space.specs.Bytes.{little_endian}
-use Rattle.ec_space.specs.declared.space.Bank.{Bank}
-use Rattle.ec_space.specs.declared.space.Bank.TheVariants.{Flash, Data}
+use Rattle.ec_space.specs.declared.space.Home.{Home}
+use Rattle.ec_space.specs.declared.space.Home.TheVariants.{Flash, Far, Data}
 use Rattle.ec_space.specs.declared.space.Place.{Place}
 use Rattle.ec_space.specs.declared.space.SpaceId.{SpaceId}
 use Rattle.ec_space.specs.declared.space.SpaceId.TheVariants.{Generic}
@@ -64,8 +64,9 @@ with_bytes f at bytes = record {
 }
 
 -- the flash address of the initial values of object i
-abbrev pub values_at : LayoutView → ℕ → Bank → ℕ
+abbrev pub values_at : LayoutView → ℕ → Home → ℕ
 values_at y i Flash = unwrap_or (option_map (λ p. p.offset) (slice_get y.places i)) 0
+values_at y i Far = unwrap_or (option_map (λ p. p.offset) (slice_get y.places i)) 0
 values_at y i Data = slice_index y.initials i
 
 abbrev pub with_values : List PlainStruct → LayoutView → ℕ → PlainObject → PlainStorage → FlashView → FlashView

@@ -1,8 +1,10 @@
 -- Where objects, initial bytes, scratch memory and work bytes stand.
 use Rattle.std.specs.Prelude.{ℕ, ◌+◌, Bool, true, List, [], ◌∷◌, map}
-use Rattle.ec_space.specs.declared.space.Bank.{Bank}
 use Rattle.ec_space.specs.declared.space.Bank.TheVariants.{Flash, Data}
+use Rattle.ec_space.specs.declared.space.Home.{Home}
+use Rattle.ec_space.specs.declared.space.Home.TheVariants.{Flash as FlashHome, Far as FarHome, Data as DataHome}
 use Rattle.ec_space.specs.declared.space.Place.{Place}
+use Rattle.ec_space.specs.Spaces.{bank_of}
 use Rattle.ec_map.specs.declared.map.Map.{Map}
 use Rattle.ec_overlay.specs.Frames.{begin_of, need_of}
 use Rattle.ec_overlay.specs.Objects.{object_at}
@@ -12,16 +14,17 @@ use Rattle.ec_locate.specs.declared.entries.Kept.TheVariants.{Register, Fixed, P
 use Rattle.ec_locate.specs.Entries.{flash_size, data_size, initial_size, flash_sizes, data_sizes, owned_of, local_size}
 use Rattle.ec_locate.specs.Entries.{scratch_size}
 
-abbrev pub in_region : Bank → (flash at : ℕ) → Place
-in_region Flash flash at = record { bank = Flash; offset = flash }
-in_region Data flash at = record { bank = Data; offset = at }
+abbrev pub in_region : Home → (flash at : ℕ) → Place
+in_region FlashHome flash at = record { bank = Flash; offset = flash }
+in_region FarHome flash at = record { bank = Flash; offset = flash }
+in_region DataHome flash at = record { bank = Data; offset = at }
 
 -- the place of an object, where its region goes on at `flash` or at `at`, and the frame of each function at `frame`
-abbrev pub place_by : Kept → Bank → (flash at : ℕ) → (frame : ℕ → ℕ) → Place
+abbrev pub place_by : Kept → Home → (flash at : ℕ) → (frame : ℕ → ℕ) → Place
 place_by (Register first) home flash at frame = record { bank = Data; offset = first }
-place_by (Fixed there) home flash at frame = record { bank = home; offset = there }
+place_by (Fixed there) home flash at frame = record { bank = bank_of home; offset = there }
 place_by Packed home flash at frame = in_region home flash at
-place_by (InFrame f) home flash at frame = record { bank = home; offset = frame f }
+place_by (InFrame f) home flash at frame = record { bank = bank_of home; offset = frame f }
 
 -- free static objects stand one after another in their regions, and a parameter or local, the object with number i, where
 -- it stands in the frame of its function
@@ -31,8 +34,8 @@ places_from flash at frame i (e ∷ es) =
     place_by e.kept e.home flash at (λ f. frame f i)
     ∷ places_from (flash + flash_size e) (at + data_size e) frame (i + 1) es
 
-abbrev pub initial_at : (is_static : Bool) → Bank → (first at : ℕ) → ℕ
-initial_at true Data first at = at
+abbrev pub initial_at : (is_static : Bool) → Home → (first at : ℕ) → ℕ
+initial_at true DataHome first at = at
 initial_at _ _ first at = first
 
 -- initial bytes stand one after another. For an object that has none it is the first byte of the region

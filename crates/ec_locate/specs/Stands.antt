@@ -1,5 +1,6 @@
 -- The code of a placed program stands in its image.
 use Rattle.std.specs.Prelude.{ℕ, if◌then◌else◌, List}
+use Rattle.ec_space.specs.declared.Core.TheVariants.{Small}
 use Rattle.ec_asm.specs.Change.{Env, Kind}
 use Rattle.ec_asm.specs.Placed.{IsPlaced}
 use Rattle.ec_asm.specs.Valid.{ValidAsm, stands_once}
@@ -20,6 +21,7 @@ own_word items l = if stands_once items l then label_word items l else 65536
 -- What stands at an address is for the reader to say
 abbrev pub environment : PlainProgram → Map → AsmProgram → Located → (kind table : ℕ → Kind) → Env
 environment p m asm l kind table = record {
+  core = Small;
   flash = l.image.bytes.items;
   word_of = own_word asm.items.items;
   address_of = address_of (layout_by p m asm) (last_of m);

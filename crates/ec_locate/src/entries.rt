@@ -9,7 +9,7 @@ ghost use Rattle.ec_locate.specs.Entries.{initial_size, flash_sizes, data_sizes,
 
 use ec_core::{Obj, Program, Storage, StructDef, size_of};
 use ec_map::Fixed1;
-use ec_space::{Bank, NoMemory, Seq};
+use ec_space::{Home, NoMemory, Seq};
 use std::alloc::Global;
 
 /// How an object is kept.
@@ -17,9 +17,9 @@ use std::alloc::Global;
 pub enum Kept {
     /// In the registers of the core from this one on.
     Register(u8),
-    /// Where the map puts it, by the address in its home bank.
+    /// Where the map puts it, by the address in its bank.
     Fixed(u32),
-    /// In the region of its home bank.
+    /// In the region of its home.
     Packed,
     /// In the frame of this function, of which it is a parameter or a local.
     InFrame(u16),
@@ -30,7 +30,7 @@ pub enum Kept {
 pub struct Entry {
     /// Its bytes.
     pub size: u32,
-    pub home: Bank,
+    pub home: Home,
     pub is_static: bool,
     pub kept: Kept,
 }
@@ -122,7 +122,7 @@ pub(crate) fn flash_size(entry: Entry) -> u32
     ensures { result ≡ flash_size entry }
 {
     match (entry.kept, entry.home) {
-        (Kept::Packed, Bank::Flash) => entry.size,
+        (Kept::Packed, Home::Flash | Home::Far) => entry.size,
         _ => 0,
     }
 }
@@ -132,18 +132,18 @@ pub(crate) fn data_size(entry: Entry) -> u32
     ensures { result ≡ data_size entry }
 {
     match (entry.kept, entry.home) {
-        (Kept::Packed, Bank::Data) => entry.size,
+        (Kept::Packed, Home::Data) => entry.size,
         _ => 0,
     }
 }
 
-/// The initial bytes of a static object of the data bank.
+/// The initial bytes of a static object of the home data.
 pub(crate) fn initial_size(entry: Entry) -> u32
     ensures { result ≡ initial_size entry }
 {
     match entry.home {
-        Bank::Data => if entry.is_static { entry.size } else { 0 },
-        Bank::Flash => 0,
+        Home::Data => if entry.is_static { entry.size } else { 0 },
+        Home::Flash | Home::Far => 0,
     }
 }
 

@@ -63,7 +63,7 @@ fn block_at(at: u32, entry: Option<Entry>) -> Block
 {
     match entry {
         Some(entry) => Block {
-            bank: entry.home,
+            bank: entry.home.bank(),
             at,
             size: entry.size,
         },

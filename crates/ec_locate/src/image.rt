@@ -19,7 +19,7 @@ use crate::values::{init_at, pointer_to};
 use ec_asm::AsmItem;
 use ec_avr::Image;
 use ec_core::{CType, Leaf, LeafInit, Obj, Program, Storage, StructDef, leaves};
-use ec_space::{Bank, Core, NoMemory, Place, Seq, SpaceId};
+use ec_space::{Core, Home, NoMemory, Place, Seq, SpaceId};
 use std::alloc::Global;
 
 /// The bytes of a scalar type.
@@ -31,7 +31,7 @@ fn scalar_size(ty: &CType) -> u32
         CType::Fx { kind, .. } => u32::from(kind.format().bits) / 8,
         CType::Ptr { space, .. } => match space {
             SpaceId::Flash | SpaceId::Data => 2,
-            SpaceId::Generic => 3,
+            SpaceId::FarFlash | SpaceId::Generic => 3,
         },
         CType::Void | CType::Array { .. } | CType::Struct { .. } => 0,
     }
@@ -124,15 +124,15 @@ fn object_bytes(
 }
 
 /// The flash address of the initial values of an object.
-fn values_at(layout: &Layout, i: usize, home: Bank) -> u32
+fn values_at(layout: &Layout, i: usize, home: Home) -> u32
     ensures { result ≡ values_at (layout_view layout.now) i home }
 {
     match home {
-        Bank::Flash => match layout.places.get(i) {
+        Home::Flash | Home::Far => match layout.places.get(i) {
             Some(place) => place.offset,
             None => 0,
         },
-        Bank::Data => number_at(layout.initials.as_slice(), i),
+        Home::Data => number_at(layout.initials.as_slice(), i),
     }
 }
 

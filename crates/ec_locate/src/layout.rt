@@ -12,7 +12,7 @@ use crate::entries::{Entry, Kept, data_size, data_sizes, flash_size, flash_sizes
 use crate::frames::{Areas, take};
 use ec_map::Map;
 use ec_overlay::frames_are_overlaid;
-use ec_space::{Bank, NoMemory, Place, Seq};
+use ec_space::{Bank, Home, NoMemory, Place, Seq};
 use std::alloc::Global;
 
 /// Where objects, initial bytes, scratch memory and work bytes stand.
@@ -57,18 +57,18 @@ fn place_by(entry: Entry, flash: u32, at: u32, area: u32, ends: &[u64]) -> Place
             offset: u32::from(first),
         },
         Kept::Fixed(there) => Place {
-            bank: entry.home,
+            bank: entry.home.bank(),
             offset: there,
         },
         Kept::Packed => Place {
-            bank: entry.home,
+            bank: entry.home.bank(),
             offset: match entry.home {
-                Bank::Flash => flash,
-                Bank::Data => at,
+                Home::Flash | Home::Far => flash,
+                Home::Data => at,
             },
         },
         Kept::InFrame(function) => Place {
-            bank: entry.home,
+            bank: entry.home.bank(),
             offset: frame_at(area, ends, function),
         },
     }
@@ -110,8 +110,8 @@ fn initial_at(entry: Entry, first: u32, at: u32) -> u32
     ensures { result ≡ initial_at entry.is_static entry.home first at }
 {
     match entry.home {
-        Bank::Data => if entry.is_static { at } else { first },
-        Bank::Flash => first,
+        Home::Data => if entry.is_static { at } else { first },
+        Home::Flash | Home::Far => first,
     }
 }
 

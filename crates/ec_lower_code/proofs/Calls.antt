@@ -5,9 +5,7 @@ use Rattle.std.specs.Prelude.{◌==◌, ◌||◌, IsSomeAnd, slice_get, option_m
 use Rattle.std.specs.List.{AllByRecursion}
 use Rattle.std.proofs.lemmas.Option.{slice_get-map}
 use Rattle.ec_core.specs.declared.values.Value.{Value}
-use Rattle.ec_core.specs.Accesses.{begun, initialised, own_access, frame_ended}
-use Rattle.ec_space.specs.declared.space.SpaceId.TheVariants.{Flash}
-use Rattle.ec_space.specs.Spaces.{holds}
+use Rattle.ec_core.specs.Accesses.{begun, initialised, own_access, frame_ended, is_read_only}
 use Rattle.ec_core.specs.Layout.{scalar_size, IsScalar, PlainLeaf, leaves_of_type}
 use Rattle.ec_core.specs.Plain.{PlainType, void, integer, fixed, pointer, array, struct, PlainExprs, last_expr, next_expr}
 use Rattle.ec_core.specs.Plain.{param, PlainObject, PlainFunction}
@@ -118,7 +116,7 @@ module _ (wd : World) (code : List PlainIr) (stack : List Frame) (g : ℕ) where
       leaf : PlainLeaf
       leaf = record { ty = x.ty; at = 0 }
 
-      home : (holds Flash x.home ≡ false) × IsScalar x.ty
+      home : (is_read_only x.home ≡ false) × IsScalar x.ty
       home = param_home wd.program wd.io wd.valid o g x e st
 
       scalar : IsScalar ty

@@ -3,10 +3,9 @@ use Rattle.std.proofs.Common.{◌≡◌, ◌≢◌, ℕ, zero, suc, ◌+◌, fal
 use Rattle.std.specs.Prelude.{slice_get, option_map, unwrap_or}
 use Rattle.std.specs.List.{AllByRecursion}
 use Rattle.ec_iohw.specs.declared.table.IoTable.{IoTable}
-use Rattle.ec_space.specs.declared.space.Bank.{Bank}
-use Rattle.ec_space.specs.declared.space.Bank.TheVariants.{Data as DataBank}
-use Rattle.ec_space.specs.declared.space.SpaceId.TheVariants.{Flash}
-use Rattle.ec_space.specs.Spaces.{holds}
+use Rattle.ec_space.specs.declared.space.Home.{Home}
+use Rattle.ec_space.specs.declared.space.Home.TheVariants.{Data as DataHome}
+use Rattle.ec_core.specs.Accesses.{is_read_only}
 use Rattle.ec_core.specs.Layout.{IsScalar, leaves_of_type}
 use Rattle.ec_core.specs.Plain.{PlainType, void, integer, fixed, pointer, array, struct, local, param, PlainObject, PlainProgram}
 use Rattle.ec_core.specs.Valid.{IsObject, IsStored, IsScalarOrVoid, Valid, EachFrom}
@@ -25,20 +24,20 @@ each_at P n (y ∷ ys) zero x h e = let g : y ≡ x = cc in subst (P (n + 0)) g 
 each_at P n (y ∷ ys) (suc i) x h e = subst (λ (k : ℕ). P k x) (let z : n + 1 + i ≡ n + suc i = omega arith in z)
     (each_at P (n + 1) ys i x h.1 e)
 
-data_bank : (b : Bank) → b ≡ DataBank → holds Flash b ≡ false
-data_bank b e = ap (holds Flash) e
+data_home : (home : Home) → home ≡ DataHome → is_read_only home ≡ false
+data_home home e = ap is_read_only e
 
 module _ (program : PlainProgram) (table : IoTable) (valid : Valid program table) where
   object_of : (o : ℕ) (d : PlainObject) → slice_get program.objects o ≡ Some d → IsObject program d
   object_of o d e = all_at (IsObject program) program.objects o d valid.objects e
 
   -- locals and parameters are not kept in flash
-  pub local_home : (o f : ℕ) (d : PlainObject) → slice_get program.objects o ≡ Some d → d.storage ≡ local f → holds Flash d.home ≡ false
-  local_home o f d e s = let h = subst (IsStored program d) s (object_of o d e).storage in data_bank d.home h.1
+  pub local_home : (o f : ℕ) (d : PlainObject) → slice_get program.objects o ≡ Some d → d.storage ≡ local f → is_read_only d.home ≡ false
+  local_home o f d e s = let h = subst (IsStored program d) s (object_of o d e).storage in data_home d.home h.1
 
   pub param_home : (o f : ℕ) (d : PlainObject) → slice_get program.objects o ≡ Some d → d.storage ≡ param f
-      → (holds Flash d.home ≡ false) × IsScalar d.ty
-  param_home o f d e s = let h = subst (IsStored program d) s (object_of o d e).storage in (data_bank d.home h.1, h.2)
+      → (is_read_only d.home ≡ false) × IsScalar d.ty
+  param_home o f d e s = let h = subst (IsStored program d) s (object_of o d e).storage in (data_home d.home h.1, h.2)
 
 -- the only leaf of a scalar
 pub scalar_leaf : (program : PlainProgram) (ty : PlainType) → IsScalar ty → slice_get (leaves_of_type program.structs ty) 0 ≡ Some

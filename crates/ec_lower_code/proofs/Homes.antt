@@ -5,13 +5,12 @@ use Rattle.std.specs.Prelude.{◌==◌, if◌then◌else◌, slice_get, option_m
 use Rattle.std.specs.List.{position_from}
 use Rattle.std.proofs.lemmas.Option.{slice_get_within}
 use Rattle.ec_space.specs.declared.space.SpaceId.{SpaceId}
-use Rattle.ec_space.specs.declared.space.SpaceId.TheVariants.{Flash}
 use Rattle.ec_space.specs.Spaces.{holds}
 use Rattle.ec_core.specs.declared.values.Undefined.TheVariants.{Unset, ConstWrite}
 use Rattle.ec_core.specs.declared.values.ObjectPointer.{ObjectPointer}
 use Rattle.ec_core.specs.declared.values.Value.{Value}
 use Rattle.ec_core.specs.Accesses.{is_live_in, is_readable, leaf_at, Access, access, leaf_of, read_value, read, recorded}
-use Rattle.ec_core.specs.Accesses.{with_leaf, leaf_count, first_write}
+use Rattle.ec_core.specs.Accesses.{with_leaf, leaf_count, first_write, is_read_only}
 use Rattle.ec_core.specs.Layout.{PlainLeaf, IsScalar, scalar_size, leaves_of_type}
 use Rattle.ec_core.specs.Operators.{same_type}
 use Rattle.ec_core.specs.Plain.{PlainType, void, PlainObject, PlainProgram}
@@ -171,7 +170,7 @@ module _ (program : PlainProgram) (apart : AreApart program) where
   -- a value that is written to an object that is not kept in flash
   pub put_home : (fs : List ℕ) (via : Option SpaceId) (o offset : ℕ) (ty : PlainType) (t0 : ℕ) (temps : Temps) (s t : State) (a : Access)
       (l : HasLeaf via o offset ty s a) (v : Value) → AreShown program fs program.objects s.objects t.objects → IsScalar ty
-      → HasType program ty v → temps t0 ≡ Some (held_of ty v) → holds Flash l.d.home ≡ false
+      → HasType program ty v → temps t0 ≡ Some (held_of ty v) → is_read_only l.d.home ≡ false
       → put program (object_access program via o offset t) (temp t0 ty) temps t ≡ got (shown v)
       (recorded l.d.storage (Write o l.k (unwrap_or via l.d.space) (told v)) (with_object o (with_leaf l.k (shown v)) t))
   put_home fs via o offset ty t0 temps s t a l v h i vt e f =

@@ -16,7 +16,7 @@ use Rattle.ec_fx.specs.declared.formats.FxKind.TheVariants.{UnsignedShortAccum, 
 use Rattle.ec_fx.specs.Formats.{format_of}
 use Rattle.ec_fx.specs.Ranges.{IsWithin}
 use Rattle.ec_space.specs.declared.space.SpaceId.{SpaceId}
-use Rattle.ec_space.specs.declared.space.SpaceId.TheVariants.{Flash, Data, Generic}
+use Rattle.ec_space.specs.declared.space.SpaceId.TheVariants.{Flash, FarFlash, Data, Generic}
 use Rattle.ec_space.specs.Spaces.{width, holds}
 use Rattle.ec_core.specs.declared.arithmetic_types.IntegerType.{IntegerType}
 use Rattle.ec_core.specs.declared.values.ObjectPointer.{ObjectPointer}
@@ -151,6 +151,7 @@ scalar_bytes (pointer s c t) i = pointer_bytes s
   where
     pointer_bytes : (s : SpaceId) → (1 ≤ width s) × (width s ≤ 8)
     pointer_bytes Flash = (omega arith, omega arith)
+    pointer_bytes FarFlash = (omega arith, omega arith)
     pointer_bytes Data = (omega arith, omega arith)
     pointer_bytes Generic = (omega arith, omega arith)
 scalar_bytes (array t n) i = absurd i

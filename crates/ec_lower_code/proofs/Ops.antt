@@ -4,8 +4,6 @@ use Rattle.std.proofs.Common.{Ok, Err, refl, sym, ap, ◌∙◌, subst, arith, e
 use Rattle.std.specs.Prelude.{⊤, pos, if◌then◌else◌, ◌||◌, slice_get, option_map, unwrap_or}
 use Rattle.ec_fx.specs.declared.numbers.Mode.{Mode}
 use Rattle.ec_space.specs.declared.space.SpaceId.{SpaceId}
-use Rattle.ec_space.specs.declared.space.SpaceId.TheVariants.{Flash}
-use Rattle.ec_space.specs.Spaces.{holds}
 use Rattle.ec_core.specs.declared.expressions.BinOp.{BinOp}
 use Rattle.ec_core.specs.declared.expressions.UnOp.{UnOp}
 use Rattle.ec_core.specs.declared.values.ObjectPointer.{ObjectPointer}
@@ -14,7 +12,7 @@ use Rattle.ec_core.specs.declared.values.Undefined.TheVariants.{Unset, ConstWrit
 use Rattle.ec_core.specs.declared.values.Value.{Value}
 use Rattle.ec_core.specs.declared.values.Value.TheVariants.{Number, Pointer}
 use Rattle.ec_core.specs.Accesses.{referent_of, operand_of, Access, access, leaf_of, is_readable, read_value, read, recorded}
-use Rattle.ec_core.specs.Accesses.{with_leaf, stored, write}
+use Rattle.ec_core.specs.Accesses.{with_leaf, stored, write, is_read_only}
 use Rattle.ec_core.specs.Layout.{scalar_size, IsScalar}
 use Rattle.ec_core.specs.Operators.{unary_result, binary_result, conversion_result, truth_result}
 use Rattle.ec_core.specs.Plain.{PlainType, PlainStorage, static, local, param, register, PlainObject}
@@ -520,7 +518,7 @@ module _ (w : Spot) where
 
     -- a store at a leaf of it
     pub store_comes : {fs : List ℕ} (o offset : ℕ) (ty : PlainType) (t d : ℕ) (s : State) (a : Access) (u : Mach) (v : Value)
-        (rest : List PlainIr) (l : Leaf None o offset ty s a) → IsScalar ty → HasType w.program ty v → holds Flash l.d.home ≡ false
+        (rest : List PlainIr) (l : Leaf None o offset ty s a) → IsScalar ty → HasType w.program ty v → is_read_only l.d.home ≡ false
         → Match w.program fs d s (machine u.temps (stored_in o offset (temp t ty) u)) → u.temps t ≡ Some (held_of ty v)
         → Comes w (here w (store_object o offset (temp t ty) ∷ rest)) u (at (here w rest))
         (machine u.temps (recorded l.d.storage (Write o l.k l.d.space (told v)) (with_object o (with_leaf l.k (shown v))
@@ -539,17 +537,17 @@ module _ (w : Spot) where
         → op_words (store_to site (temp t ty)) + d ≤ e → HasValue ty t e b v s u → (a : Option Access) → access w.program ty sp q s ≡ a
         → Runs w n (store_to site (temp t ty) ∷ rest) u (to_rest rest) (HasValue ty t d b) (write a v s)
     write_runs n t d e b ty site sp q s u v rest i j sc vt le h None f = tt
-    write_runs n t d e b ty site sp q s u v rest i j sc vt le h (Some a) f = by_const a.declared.const (holds Flash a.declared.home) refl
+    write_runs n t d e b ty site sp q s u v rest i j sc vt le h (Some a) f = by_const a.declared.const (is_read_only a.declared.home) refl
         (reached site u.temps ty sp q s a i j f)
       where
-        by_const : (c flash : Bool) → holds Flash a.declared.home ≡ flash → IsReached site u.temps ty s a
+        by_const : (c flash : Bool) → is_read_only a.declared.home ≡ flash → IsReached site u.temps ty s a
             → Runs w n (store_to site (temp t ty) ∷ rest) u (to_rest rest) (HasValue ty t d b) (if c || flash then undefined ConstWrite s
             else got v (stored a v s))
         by_const true flash g to = tt
         by_const false true g to = tt
         by_const false false g to =
             let l = to.leaf in
-            let home : holds Flash l.d.home ≡ false = ap (λ (z : Access). holds Flash z.declared.home) l.is ∙ g in
+            let home : is_read_only l.d.home ≡ false = ap (λ (z : Access). is_read_only z.declared.home) l.is ∙ g in
             let s0 : State = worked (op_steps (store_to site (temp t ty))) u.state in
             let s1 : State = before_store w.program (around w) to.storage s0 in
             let among = λ (g : ℕ) (q : to.storage ≡ Some (param g)). among_more g (around w) in

@@ -2,7 +2,7 @@
 use Rattle.std.proofs.Common.{◌≡◌, ℕ, ◌+◌, ◌*◌, ◌≤◌, Bool, [], ◌∷◌, List, Some, refl, ap, arith}
 use Rattle.std.specs.Prelude.{max, slice_get, option_map}
 use Rattle.ec_space.specs.declared.space.SpaceId.{SpaceId}
-use Rattle.ec_space.specs.declared.space.SpaceId.TheVariants.{Flash, Data, Generic}
+use Rattle.ec_space.specs.declared.space.SpaceId.TheVariants.{Flash, FarFlash, Data, Generic}
 use Rattle.ec_space.specs.Spaces.{width}
 use Rattle.ec_core.specs.declared.expressions.BinOp.{BinOp}
 use Rattle.ec_core.specs.ArithmeticTypes.{type_of}
@@ -22,6 +22,7 @@ use Rattle.ec_lower_code.proofs.Operations.{words_of, update_row, step_row, upda
 
 pub some_width : (space : SpaceId) → 2 ≤ width space
 some_width Flash = omega arith
+some_width FarFlash = omega arith
 some_width Data = omega arith
 some_width Generic = omega arith
 

@@ -2,11 +2,10 @@
 use Rattle.std.proofs.Common.{◌≡◌, ◌≢◌, ℕ, suc, ◌+◌, ◌*◌, ◌≤◌, true, false, ◌&&◌, List, [], ◌∷◌, Option, Some, None, refl, sym, ap}
 use Rattle.std.proofs.Common.{◌∙◌, subst, arith}
 use Rattle.std.specs.Prelude.{⊤, slice_get, option_map, unwrap_or}
-use Rattle.ec_space.specs.declared.space.SpaceId.TheVariants.{Flash}
 use Rattle.ec_space.specs.Spaces.{holds}
 use Rattle.ec_core.specs.declared.values.Value.{Value}
 use Rattle.ec_core.specs.Accesses.{leaf_count, Access, stored, own_access, first_write, initialised, begun, all_ended, ended, renewed}
-use Rattle.ec_core.specs.Accesses.{frame_ended}
+use Rattle.ec_core.specs.Accesses.{frame_ended, is_read_only}
 use Rattle.ec_core.specs.Layout.{scalar_size, IsScalar, PlainLeaf, leaves_of_type}
 use Rattle.ec_core.specs.Plain.{PlainType, void, PlainExpr, PlainExprs, last_expr, next_expr, PlainObject}
 use Rattle.ec_core.specs.State.{State, worked, with_object, Outcome, got, more, undefined, next}
@@ -264,7 +263,7 @@ leaf_cost ty = 5 * scalar_size ty
 -- a leaf that is not kept in flash gets its first value
 pub own_store : (wd : World) {fs : List ℕ} (code : List PlainIr) (stack : List Frame) (n d o k t : ℕ) (x : PlainObject) (leaf : PlainLeaf)
     (ty : PlainType) (v : Value) (s : State) (u : Mach) (rest : List PlainIr) → slice_get wd.program.objects o ≡ Some x
-    → slice_get (leaves_of_type wd.program.structs x.ty) k ≡ Some leaf → leaf.ty ≡ ty → holds Flash x.home ≡ false → IsScalar ty
+    → slice_get (leaves_of_type wd.program.structs x.ty) k ≡ Some leaf → leaf.ty ≡ ty → is_read_only x.home ≡ false → IsScalar ty
     → HasType (homes wd) ty v
     → Match (homes wd) fs d s (machine u.temps (stored_in (spot wd code stack) (apart wd) o leaf.at (temp t ty) u))
     → u.temps t ≡ Some (held_of ty v) → (a : Option Access) → own_access wd.program o k s ≡ a
@@ -274,7 +273,7 @@ own_store wd code stack n d o k t x leaf ty v s u rest f i g home sc vt h held N
 own_store wd {fs = fs} code stack n d o k t x leaf ty v s u rest f i g home sc vt h held (Some a) q =
     let w = spot wd code stack in
     let l = own_found wd o k x leaf ty s a f i g q in
-    let at_home : holds Flash l.0.d.home ≡ false = subst (λ (z : PlainObject). holds Flash z.home ≡ false) (sym l.1) home in
+    let at_home : is_read_only l.0.d.home ≡ false = subst (λ (z : PlainObject). is_read_only z.home ≡ false) (sym l.1) home in
     ends w (to_rest w rest) (λ y s1 u1. Match (homes wd) fs d s1 u1 × (u1.temps ≡ u.temps)) n
     (here w (store_object o leaf.at (temp t ty) ∷ rest)) (here w rest) u _ v (stored a v s) refl
     (store_comes w (apart wd) o leaf.at ty t d s a u v rest l.0 sc vt at_home h held)
@@ -286,7 +285,7 @@ module _ (wd : World) (sc : Scene wd) (ret : Returns wd sc) where
   -- from the value of a leaf on
   init_store : (n d o k : ℕ) (x : PlainObject) (leaf : PlainLeaf) (ty : PlainType) (b : Temps) (v : Value) (s : State) (u : Mach)
       (more_code rest out on : List PlainIr) (go : Value → State → Outcome Exit) → slice_get wd.program.objects o ≡ Some x
-      → slice_get (leaves_of_type wd.program.structs x.ty) k ≡ Some leaf → ty ≡ leaf.ty → holds Flash x.home ≡ false
+      → slice_get (leaves_of_type wd.program.structs x.ty) k ≡ Some leaf → ty ≡ leaf.ty → is_read_only x.home ≡ false
       → Has wd sc ty 0 (d + leaf_cost ty) b v s u
       → ((s1 : State) (u1 : Mach) → Match (homes wd) (around (W wd sc)) d s1 u1 → IsTypedState wd.program s1
       → Way wd sc ret n more_code u1 rest out on d
@@ -325,7 +324,7 @@ module _ (wd : World) (sc : Scene wd) (ret : Returns wd sc) where
   -- the leaves from number i on
   pub init_runs : (d o i : ℕ) (x : PlainObject) (ls : List PlainLeaf) (es : PlainExprs) (l : ℕ) (rest out on : List PlainIr)
       → slice_get wd.program.objects o ≡ Some x → ((j : ℕ) (leaf : PlainLeaf) → slice_get ls j ≡ Some leaf
-      → slice_get (leaves_of_type wd.program.structs x.ty) (i + j) ≡ Some leaf) → holds Flash x.home ≡ false
+      → slice_get (leaves_of_type wd.program.structs x.ty) (i + j) ≡ Some leaf) → is_read_only x.home ≡ false
       → AreLeafValues wd.program wd.io sc.f ls es → CallsOfExprs (IsOther wd.program) es → ValidExprs wd.program wd.io sc.f es
       → Stands sc.code (init_code wd.program (ports wd) ls o es l rest)
       → (s : State) (m : Mach) → Match (homes wd) (around (W wd sc)) d s m → IsTypedState wd.program s

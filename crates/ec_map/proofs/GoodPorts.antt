@@ -11,6 +11,7 @@ use Rattle.std.specs.Option.{option_map_or}
 use Rattle.std.specs.List.{All, list_all, list_any, position, position_or_len, range_with_len}
 use Rattle.std.specs.Str.{bytes_eq}
 use Rattle.toml.specs.Data.{Data, string, integer, float, boolean, datetime, array, table, no_items, item, as_integer}
+use Rattle.ec_space.specs.declared.Core.TheVariants.{Small}
 use Rattle.ec_avr.specs.State.{is_port, is_core_register}
 use Rattle.ec_iohw.specs.Valid.{AreDistinct}
 use Rattle.ec_map.specs.Values.{bounded, number_of, values_at, text_at}
@@ -58,7 +59,7 @@ pub record GoodPort (groups : ℕ) (q : PortView) : Type 0 where
   pub most : q.count ≤ 220
   pub last : q.address + q.width * q.count ≤ 256
   pub group : IfSome q.group (λ group. group < groups)
-  pub ports : (k : ℕ) → k < q.width * q.count → is_port (q.address + k) ≡ true
+  pub ports : (k : ℕ) → k < q.width * q.count → is_port Small (q.address + k) ≡ true
 
 either_true : (a b : Bool) → (a || b) ≡ true → (a ≡ true) ⊎ (b ≡ true)
 either_true true b h = inl refl
@@ -74,11 +75,11 @@ some_bytes : (w c : ℕ) → (w ≡ 1) ⊎ ((w ≡ 2) ⊎ (w ≡ 4)) → 1 ≤ c
 some_bytes w c which l =
     ⊎_elim (λ e. rw e (omega arith)) (λ r. ⊎_elim (λ e. rw e (omega arith)) (λ e. rw e (omega arith)) r) which
 
-last_below : (a n : ℕ) → 1 ≤ n → ((k : ℕ) → k < n → is_port (a + k) ≡ true) → a + n ≤ 256
+last_below : (a n : ℕ) → 1 ≤ n → ((k : ℕ) → k < n → is_port Small (a + k) ≡ true) → a + n ≤ 256
 last_below a n some all =
     let at = a + (n - 1) in
     let port = all (n - 1) (omega arith) in
-    let low = ltb-true at 256 (and_parts (nat_lt at 256) (not (is_core_register at)) port).0 in
+    let low = ltb-true at 256 (and_parts (nat_lt at 256) (not (is_core_register Small at)) port).0 in
     omega (arith, low)
 
 where_within : (b : Bool) (n most : ℕ) → (b ≡ true → n < most) → IfSome (cond b (Some n) None) (λ i. i < most)
@@ -102,7 +103,7 @@ good_port gs d size ports =
     let (least, most) = and_parts (nat_le 1 c) (nat_le c 220) b in
     let which = widths w a in
     let some = leb-true 1 c least in
-    let all = range_all is_port (address_of d) (w * c) ports in
+    let all = range_all (is_port Small) (address_of d) (w * c) ports in
     record {
       width = which;
       some = some;
@@ -122,12 +123,12 @@ good_ports gs (d ∷ ds) size ports =
 
 -- ---- groups
 
-write_port : (x y : Option ℕ) → is_write x y ≡ true → is_port (unwrap_or x 0) ≡ true
+write_port : (x y : Option ℕ) → is_write x y ≡ true → is_port Small (unwrap_or x 0) ≡ true
 write_port None y h = absurd (false≢true h)
 write_port (Some p) None h = absurd (false≢true h)
 write_port (Some p) (Some b) h = h
 
-port_pair : (d : Data) → is_port_pair d ≡ true → is_port (pair_of d).port ≡ true
+port_pair : (d : Data) → is_port_pair d ≡ true → is_port Small (pair_of d).port ≡ true
 port_pair (array no_items) h = absurd (false≢true h)
 port_pair (array (item a no_items)) h = absurd (false≢true h)
 port_pair (array (item a (item b no_items))) h = write_port (number_of 255 a) (number_of 255 b) h
@@ -141,8 +142,8 @@ port_pair (table ms) h = absurd (false≢true h)
 
 pairs_to_ports : (ds : List Data) → list_all is_port_pair ds ≡ true → WritesPorts (map pair_of ds)
 pairs_to_ports ds h =
-    All-map (λ pair. IsTrue (is_port pair.port)) pair_of ds
-    (all_passing (λ d. IsTrue (is_port (pair_of d).port)) is_port_pair port_pair ds h)
+    All-map (λ pair. IsTrue (is_port Small pair.port)) pair_of ds
+    (all_passing (λ d. IsTrue (is_port Small (pair_of d).port)) is_port_pair port_pair ds h)
 
 abbrev pub GoodGroup : GroupView → Type 0
 GoodGroup g = WritesPorts g.acquire × WritesPorts g.release

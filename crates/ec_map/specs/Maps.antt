@@ -5,6 +5,7 @@ use Rattle.std.specs.Ordering.{nat_cmp}
 use Rattle.std.specs.Cmp.Lexicographic.{slice_cmp}
 use Rattle.std.specs.List.Sorted.{IsStrictlySortedBy}
 use Rattle.toml.specs.Data.{Data, at}
+use Rattle.ec_space.specs.declared.Core.TheVariants.{Small}
 use Rattle.ec_avr.specs.State.{is_port}
 use Rattle.ec_iohw.specs.Valid.{ValidIo}
 use Rattle.ec_iohw.specs.declared.table.Pair.{Pair}
@@ -91,10 +92,10 @@ pub record IsMap (m : Map) (d : Data) : Type 0 where
 
 -- all bytes of a port, or of those that follow one another, are ports of the core
 abbrev pub HasPorts : Port → Type 0
-HasPorts p = (k : ℕ) → k < p.width * p.count → IsTrue (is_port (p.address + k))
+HasPorts p = (k : ℕ) → k < p.width * p.count → IsTrue (is_port Small (p.address + k))
 
 abbrev pub WritesPorts : List Pair → Type 0
-WritesPorts pairs = All (λ pair. IsTrue (is_port pair.port)) pairs
+WritesPorts pairs = All (λ pair. IsTrue (is_port Small pair.port)) pairs
 
 -- what is written to acquire and to release a group is written to ports of the core
 abbrev pub HasWrites : PortGroup → Type 0

@@ -7,6 +7,7 @@ use Rattle.std.specs.Option.{option_map_or}
 use Rattle.std.specs.List.{list_all, list_any, range_with_len}
 use Rattle.std.specs.Str.{bytes_eq}
 use Rattle.toml.specs.Data.{Data, Items, no_items, item, get, as_integer, as_array, as_table}
+use Rattle.ec_space.specs.declared.Core.TheVariants.{Small}
 use Rattle.ec_avr.specs.State.{is_port}
 use Rattle.ec_map.specs.Judging.{first_broken}
 use Rattle.ec_map.specs.Values.{array_of, array_at, values_at, keys, entries_at, text_at, number_of, number_at}
@@ -102,7 +103,7 @@ has_size d =
     && (nat_le 1 (count_of d) && nat_le (count_of d) 220)
 
 abbrev pub are_ports : (first many : ℕ) → Bool
-are_ports first many = list_all is_port (range_with_len first many)
+are_ports first many = list_all (is_port Small) (range_with_len first many)
 
 abbrev pub has_ports : Data → Bool
 has_ports d = are_ports (address_of d) (width_of d * count_of d)
@@ -137,7 +138,7 @@ has_lists d = has_pairs (codes "acquire") d && has_pairs (codes "release") d
 
 -- a port address and a byte
 abbrev pub is_write : Option ℕ → Option ℕ → Bool
-is_write (Some port) (Some byte) = is_port port
+is_write (Some port) (Some byte) = is_port Small port
 is_write _ _ = false
 
 abbrev pub is_write_in : Items → Bool

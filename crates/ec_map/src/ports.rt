@@ -4,6 +4,7 @@ ghost use Rattle.std.specs.List.{list_all, list_any, range_with_len};
 ghost use Rattle.std.specs.Str.{bytes_eq};
 ghost use Rattle.toml.specs.View.{view, items_view};
 ghost use Rattle.ec_avr.specs.State.{is_port as is_port_at};
+ghost use Rattle.ec_space.specs.declared.Core.TheVariants.{Small};
 ghost use Rattle.ec_map.specs.Values.{number_of};
 ghost use Rattle.ec_map.specs.Rules.{is_letter, is_word, is_identifier, are_distinct, name_of, has_name, are_named};
 ghost use Rattle.ec_map.specs.Rules.{width_of, count_of, address_of, has_size, are_ports, has_ports, group_named};
@@ -140,7 +141,7 @@ pub(crate) fn has_size(port: &Value) -> bool
 
 /// Whether an address is that of a port of the core: below 256 and not of R0 to R31, SPL, SPH or SREG.
 pub(crate) fn is_port(address: u32) -> bool
-    ensures { result ≡ is_port_at address }
+    ensures { result ≡ is_port_at Small address }
 {
     let is_register = address < 32 || address == 0x5D || address == 0x5E || address == 0x5F;
     address < 256 && !is_register

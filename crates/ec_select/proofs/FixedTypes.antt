@@ -11,7 +11,7 @@ use Rattle.ec_fx.specs.declared.formats.FxKind.TheVariants.{UnsignedShortAccum, 
 use Rattle.ec_fx.specs.Formats.{format_of}
 use Rattle.ec_ir.specs.declared.operations.Temp.{Temp}
 use Rattle.ec_space.specs.declared.space.SpaceId.{SpaceId}
-use Rattle.ec_space.specs.declared.space.SpaceId.TheVariants.{Flash, Data, Generic}
+use Rattle.ec_space.specs.declared.space.SpaceId.TheVariants.{Flash, FarFlash, Data, Generic}
 use Rattle.ec_space.specs.Spaces.{width}
 use Rattle.ec_select_fixed.specs.Types.{IsFixedType}
 use Rattle.ec_select_operations.specs.declared.families.Family.{Family}
@@ -100,6 +100,7 @@ at_most_eight (pointer space const to) h = by_space space where
   by_space : (s : SpaceId) → width s ≤ 8
   by_space Flash = omega arith
   by_space Data = omega arith
+  by_space FarFlash = omega arith
   by_space Generic = omega arith
 at_most_eight (array of len) h = absurd h
 at_most_eight (struct index) h = absurd h

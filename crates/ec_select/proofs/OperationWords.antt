@@ -55,7 +55,7 @@ use Rattle.ec_select_pointers.specs.Form.{PointersHave, TablesAreShort}
 use Rattle.ec_space.specs.declared.space.Bank.{Bank}
 use Rattle.ec_space.specs.declared.space.Bank.TheVariants.{Flash as FlashBank, Data as DataBank}
 use Rattle.ec_space.specs.declared.space.SpaceId.{SpaceId}
-use Rattle.ec_space.specs.declared.space.SpaceId.TheVariants.{Flash, Data, Generic}
+use Rattle.ec_space.specs.declared.space.SpaceId.TheVariants.{Flash, FarFlash, Data, Generic}
 use Rattle.ec_select_products.specs.Laws.{ProductsHaveWords}
 use Rattle.ec_select_products.specs.Products.{product_code}
 use Rattle.ec_select_quotients.specs.Signs.{quotient_code}
@@ -528,6 +528,7 @@ module _ (laws : WordLaws) where
   load_most : (space : SpaceId) (p q : Location) (n : ℕ) → code_words (load_code space p q n) ≤ 9 + 6 * n
   load_most Flash p q n = let x = (laws.pointers 0 0 None p q n).3 in omega (arith, x)
   load_most Data p q n = let x = (laws.pointers 0 0 None p q n).2 in omega (arith, x)
+  load_most FarFlash p q n = let x = (laws.pointers 0 0 None p q n).3 in omega (arith, x)
   load_most Generic p q n = (laws.pointers 0 0 None p q n).4
 
   bank_most : (bank : Bank) (objects : List PlainObject) (o offset : ℕ) (q : Location) (n : ℕ) → 1 ≤ n

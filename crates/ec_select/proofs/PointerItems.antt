@@ -14,7 +14,7 @@ use Rattle.ec_core.specs.Plain.{PlainProgram}
 use Rattle.ec_space.specs.declared.space.Bank.{Bank}
 use Rattle.ec_space.specs.declared.space.Bank.TheVariants.{Flash as FlashBank, Data as DataBank}
 use Rattle.ec_space.specs.declared.space.SpaceId.{SpaceId}
-use Rattle.ec_space.specs.declared.space.SpaceId.TheVariants.{Flash, Data, Generic}
+use Rattle.ec_space.specs.declared.space.SpaceId.TheVariants.{Flash, FarFlash, Data, Generic}
 use Rattle.ec_space.specs.Spaces.{width}
 use Rattle.ec_select_order.specs.declared.relations.Relation.{Relation}
 use Rattle.ec_select_order.specs.declared.relations.Relation.TheVariants.{Less, NotLess, Equal, NotEqual}
@@ -148,6 +148,9 @@ module _ (sizes : Sizes) (laws : PointerItemLaws) where
       access_fits (load_flash_code p q n) (laws.accesses sizes p q n few x y).1 (laws.labels 0 0 None p q n).3
   load_fits Data p q n few x y =
       access_fits (load_data_code p q n) (laws.accesses sizes p q n few x y).0 (laws.labels 0 0 None p q n).2
+  load_fits FarFlash p q n few x y =
+      access_fits (load_flash_code p q n)
+      (laws.accesses sizes p q n few (fewer_places sizes p 2 3 (omega arith) x) y).1 (laws.labels 0 0 None p q n).3
   load_fits Generic p q n few x y =
       access_fits (load_any_code p q n)
       ((laws.accesses sizes p q n few (fewer_places sizes p 2 3 (omega arith) x) y).3 x) (laws.labels 0 0 None p q n).4

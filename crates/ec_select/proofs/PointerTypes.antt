@@ -12,7 +12,7 @@ use Rattle.ec_core.specs.Typing.{AreConvertible}
 use Rattle.ec_ir.specs.Costs.{is_bitwise}
 use Rattle.ec_ir.specs.declared.operations.Temp.{Temp}
 use Rattle.ec_space.specs.declared.space.SpaceId.{SpaceId}
-use Rattle.ec_space.specs.declared.space.SpaceId.TheVariants.{Flash, Data, Generic}
+use Rattle.ec_space.specs.declared.space.SpaceId.TheVariants.{Flash, FarFlash, Data, Generic}
 use Rattle.ec_space.specs.Spaces.{width}
 use Rattle.ec_select_operations.specs.declared.families.Family.{Family}
 use Rattle.ec_select_operations.specs.declared.families.Family.TheVariants.{Combined, Compared, Multiplied, Shifted}
@@ -26,16 +26,19 @@ use Rattle.ec_select_operations.specs.Pointers.{is_pointer, IsPointerSize}
 pub some_width : (s : SpaceId) → 2 ≤ width s
 some_width Flash = omega arith
 some_width Data = omega arith
+some_width FarFlash = omega arith
 some_width Generic = omega arith
 
 pub few_width : (s : SpaceId) → width s ≤ 3
 few_width Flash = omega arith
 few_width Data = omega arith
+few_width FarFlash = omega arith
 few_width Generic = omega arith
 
 pub width_is : (s : SpaceId) (bytes : ℕ) → bytes ≡ width s → IsPointerSize bytes
 width_is Flash bytes e = inl e
 width_is Data bytes e = inl e
+width_is FarFlash bytes e = inr e
 width_is Generic bytes e = inr e
 
 -- ---- operators

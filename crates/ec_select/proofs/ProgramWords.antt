@@ -4,8 +4,8 @@ use Rattle.std.proofs.Common.{ap, arith, length, take, length-append}
 use Rattle.std.specs.Prelude.{if◌then◌else◌, Option, Some, None, slice_get}
 use Rattle.std.specs.List.{AllByRecursion}
 use Rattle.std.proofs.lemmas.List.{take_all}
-use Rattle.ec_space.specs.declared.space.Bank.{Bank}
-use Rattle.ec_space.specs.declared.space.Bank.TheVariants.{Data as DataBank, Flash as FlashBank}
+use Rattle.ec_space.specs.declared.space.Home.{Home}
+use Rattle.ec_space.specs.declared.space.Home.TheVariants.{Data as DataHome, Flash as FlashHome, Far as FarHome}
 use Rattle.ec_asm.specs.declared.items.AsmItem.TheVariants.{Label}
 use Rattle.ec_asm.specs.Items.{chain, code_words}
 use Rattle.ec_core.specs.Layout.{size_of_type}
@@ -36,9 +36,10 @@ use Rattle.ec_select.proofs.Setting.{all_at, has_room}
 
 -- ---- spans
 
-weighed : (s : PlainStorage) (home : Bank) → (if has_initial_bytes s home then 20 else 0) ≤ object_weight s home
-weighed (static inits) DataBank = omega arith
-weighed (static inits) FlashBank = omega arith
+weighed : (s : PlainStorage) (home : Home) → (if has_initial_bytes s home then 20 else 0) ≤ object_weight s home
+weighed (static inits) DataHome = omega arith
+weighed (static inits) FlashHome = omega arith
+weighed (static inits) FarHome = omega arith
 weighed (local f) home = omega arith
 weighed (param f) home = omega arith
 weighed (register r) home = omega arith

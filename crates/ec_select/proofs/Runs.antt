@@ -8,8 +8,10 @@ use Rattle.std.specs.List.{AllPairs}
 use Rattle.std.proofs.lemmas.Bool.{false≢true}
 use Rattle.std.proofs.lemmas.List.Sums.{sum_by-append}
 use Rattle.std.proofs.lemmas.Option.{slice_get-map, slice_get_within}
-use Rattle.ec_space.specs.declared.space.Bank.{Bank}
-use Rattle.ec_space.specs.declared.space.Bank.TheVariants.{Data as DataBank, Flash as FlashBank}
+use Rattle.ec_space.specs.declared.space.Bank.TheVariants.{Data as DataBank}
+use Rattle.ec_space.specs.declared.space.Home.{Home}
+use Rattle.ec_space.specs.declared.space.Home.TheVariants.{Data as DataHome, Flash as FlashHome, Far as FarHome}
+use Rattle.ec_space.specs.Spaces.{bank_of}
 use Rattle.ec_asm.specs.declared.items.AsmItem.{AsmItem}
 use Rattle.ec_asm.specs.declared.items.AsmProgram.{AsmProgram}
 use Rattle.ec_asm.specs.Change.{Env, Kind, Object}
@@ -27,6 +29,7 @@ use Rattle.ec_core.specs.Meaning.{initial_object}
 use Rattle.ec_core.specs.Plain.{PlainStorage, static, local, param, register, PlainObject, PlainProgram, PlainStruct}
 use Rattle.ec_core.specs.State.{Inputs, ObjectState}
 use Rattle.ec_core.specs.Valid.{IsObject}
+use Rattle.ec_core.proofs.Homes.{home_in_data}
 use Rattle.ec_ir.specs.Meaning.{start_state, standing}
 use Rattle.ec_ir.specs.Operations.{PlainIrFunction, PlainIrProgram, data_of}
 use Rattle.ec_ir.specs.Valid.{ValidIr}
@@ -89,14 +92,15 @@ piece_at parts e body (suc n) pc end f h l =
 
 -- ---- static objects
 
-static_home : (s : PlainStorage) (home : Bank) → has_initial_bytes s home ≡ true → home ≡ DataBank
-static_home (static inits) DataBank h = refl
-static_home (static inits) FlashBank h = absurd (false≢true h)
+static_home : (s : PlainStorage) (home : Home) → has_initial_bytes s home ≡ true → bank_of home ≡ DataBank
+static_home (static inits) DataHome h = refl
+static_home (static inits) FlashHome h = absurd (false≢true h)
+static_home (static inits) FarHome h = absurd (false≢true h)
 static_home (local f) home h = absurd (false≢true h)
 static_home (param f) home h = absurd (false≢true h)
 static_home (register r) home h = absurd (false≢true h)
 
-static_stands : (e : Env) (o n at : ℕ) (s : PlainStorage) (home : Bank) → has_initial_bytes s home ≡ true
+static_stands : (e : Env) (o n at : ℕ) (s : PlainStorage) (home : Home) → has_initial_bytes s home ≡ true
     → ObjectStands e o n at s → StandsInMemory e o n at
 static_stands e o n at (static inits) home h k = k
 static_stands e o n at (local f) home h k = absurd (false≢true h)
@@ -104,7 +108,7 @@ static_stands e o n at (param f) home h k = absurd (false≢true h)
 static_stands e o n at (register r) home h k = absurd (false≢true h)
 
 -- static objects can be live together with all others
-static_meets : (p : PlainIrProgram) (s t : PlainStorage) (home : Bank) → has_initial_bytes s home ≡ true → CanBeLiveTogether p s t
+static_meets : (p : PlainIrProgram) (s t : PlainStorage) (home : Home) → has_initial_bytes s home ≡ true → CanBeLiveTogether p s t
 static_meets p (static inits) t home h f g q r = absurd cc
 static_meets p (local i) t home h f g q r = absurd (false≢true h)
 static_meets p (param i) t home h f g q r = absurd (false≢true h)
@@ -278,8 +282,8 @@ module _ (laws : RunLaws) (p : PlainIrProgram) (asm : AsmProgram) (e : Env) (pla
       let is : standing (initial_object (leaf_count (data_of p) l.declared.ty) l.declared.storage) ≡ x = cc in
       let set : leaf_of (standing (initial_object (leaf_count (data_of p) l.declared.ty) l.declared.storage)) l.number ≡ Some u =
       subst (λ (y : ObjectState). leaf_of y l.number ≡ Some u) (sym is) r in
-      by_storage l.declared.storage l.declared.home l.home set where
-        by_storage : (s : PlainStorage) (home : Bank) → home ≡ DataBank
+      by_storage l.declared.storage l.declared.home (home_in_data l.declared.home l.home) set where
+        by_storage : (s : PlainStorage) (home : Home) → home ≡ DataHome
             → leaf_of (standing (initial_object (leaf_count (data_of p) l.declared.ty) s)) l.number ≡ Some u
             → has_initial_bytes s home ≡ true
         by_storage (static inits) home d set = rw d refl
@@ -329,7 +333,7 @@ module _ (laws : RunLaws) (p : PlainIrProgram) (asm : AsmProgram) (e : Env) (pla
         room = laid.stack.room;
       }
 
-  pub runs : (s : State) (v : View) (inputs : Inputs) → Shows e size s.mem v → ((port : ℕ) → v.inputs port ≡ inputs port)
+  pub runs : (s : State) (v : View) (inputs : Inputs) → Shows e size s.core s.mem v → ((port : ℕ) → v.inputs port ≡ inputs port)
       → s.pc ≡ laid.code.begin → RunsAsOperations p place e v s inputs
   runs s v inputs shows feeds pc =
       let begun = subst (λ (n : ℕ). CanStart p e place function_label (spans_of p) low n) (sym pc) can_start in

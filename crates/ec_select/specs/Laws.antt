@@ -55,5 +55,5 @@ abbrev pub SelectionsRun : Type 0
 SelectionsRun =
     (p : PlainIrProgram) (asm : AsmProgram) (e : Env) (place scratch : ℕ → ℕ) (size low : ℕ) (s : State) (v : View)
     (inputs : Inputs) → ValidIr p → HasCode p → IsSelection p asm → Fits e size → size < 65536
-    → Shows e size s.mem v → ((port : ℕ) → v.inputs port ≡ inputs port)
+    → Shows e size s.core s.mem v → ((port : ℕ) → v.inputs port ≡ inputs port)
     → (laid : IsLaidOut p asm e place scratch low) → s.pc ≡ laid.code.begin → RunsAsOperations p place e v s inputs

@@ -1,8 +1,8 @@
 -- The code of a whole program: the code before main, and behind it that of each function.
 use Rattle.std.specs.Prelude.{ℕ, ◌+◌, Bool, true, false, List, [], ◌∷◌, ◌++◌, Option, Some, None, length, slice_get}
 use Rattle.std.specs.Prelude.{if◌then◌else◌}
-use Rattle.ec_space.specs.declared.space.Bank.{Bank}
-use Rattle.ec_space.specs.declared.space.Bank.TheVariants.{Data as DataBank}
+use Rattle.ec_space.specs.declared.space.Home.{Home}
+use Rattle.ec_space.specs.declared.space.Home.TheVariants.{Data as DataHome}
 use Rattle.ec_asm.specs.declared.items.AsmItem.{AsmItem}
 use Rattle.ec_asm.specs.declared.items.AsmItem.TheVariants.{Label}
 use Rattle.ec_asm.specs.Items.{chain}
@@ -18,9 +18,9 @@ use Rattle.ec_select.specs.Labels.{homes_of, entry_label, function_label, first_
 
 -- ---- the code before main
 
--- a static object of the data bank has initial bytes
-abbrev pub has_initial_bytes : PlainStorage → Bank → Bool
-has_initial_bytes (static inits) DataBank = true
+-- a static object of the home data has initial bytes
+abbrev pub has_initial_bytes : PlainStorage → Home → Bool
+has_initial_bytes (static inits) DataHome = true
 has_initial_bytes storage home = false
 
 -- object o is set from the initial bytes that have the number 2,048 + o

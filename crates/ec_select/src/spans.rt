@@ -8,15 +8,15 @@ ghost use Rattle.ec_select.specs.Program.{has_initial_bytes, span_of, spans_of};
 use ec_core::{Obj, Storage, size_of};
 use ec_ir::IrProgram;
 use ec_select_startup::Span;
-use ec_space::{Bank, NoMemory, Seq};
+use ec_space::{Home, NoMemory, Seq};
 use std::alloc::Global;
 
-/// Whether an object is static and kept in the data bank.
+/// Whether an object is static and has the home data.
 fn has_initial_bytes(obj: &Obj) -> bool
     ensures { result ≡ has_initial_bytes (plain_storage obj.now.storage) obj.now.home }
 {
     match (&obj.storage, obj.home) {
-        (Storage::Static(_), Bank::Data) => true,
+        (Storage::Static(_), Home::Data) => true,
         _ => false,
     }
 }

@@ -8,6 +8,7 @@ use Rattle.std.proofs.lemmas.Bool.{cases_eq, eqb-true}
 use Rattle.ec_space.specs.declared.space.Bank.{Bank}
 use Rattle.ec_space.specs.declared.space.Bank.TheVariants.{Flash as FlashBank, Data as DataBank}
 use Rattle.ec_space.specs.declared.space.SpaceId.{SpaceId}
+use Rattle.ec_space.specs.Spaces.{bank_of}
 use Rattle.ec_avr.specs.declared.machine.Access.{Access as MachineAccess}
 use Rattle.ec_avr.specs.declared.machine.Access.TheVariants.{Read as ByteRead, Write as ByteWrite}
 use Rattle.ec_asm.specs.declared.pieces.Location.{Location}
@@ -58,7 +59,7 @@ accesses-more p place (z ∷ xs) x =
 
 -- the leaf that begins at an offset
 abbrev pub leaf_with : (p : PlainProgram) (bank : Bank) (o offset bytes : ℕ) (h : HasScalarAt p o offset bytes)
-    → h.declared.home ≡ bank → ObjectLeaf p bank
+    → bank_of h.declared.home ≡ bank → ObjectLeaf p bank
 leaf_with p bank o offset bytes h q = record {
   object = o;
   number = h.number;
@@ -319,12 +320,12 @@ item_of P (z ∷ xs) zero x all q = (let g : Some z ≡ Some x = q in let i : z 
 item_of P (z ∷ xs) (suc k) x all q = item_of P xs k x all.1 q
 
 -- accesses of an object of the flash bank are noted
-kind_of_table : (p : PlainProgram) (d : PlainObject) (storage : PlainStorage) → d.home ≡ FlashBank → IsStored p d storage
+kind_of_table : (p : PlainProgram) (d : PlainObject) (storage : PlainStorage) → bank_of d.home ≡ FlashBank → IsStored p d storage
     → kind_in storage ≡ Object
 kind_of_table p d (static inits) q s = refl
 kind_of_table p d (local f) q s = refl
 kind_of_table p d (param f) q s = refl
-kind_of_table p d (register first) q s = absurd (let z : FlashBank ≡ DataBank = sym q ∙ s.home in cc)
+kind_of_table p d (register first) q s = absurd (let z : FlashBank ≡ DataBank = sym q ∙ ap bank_of s.home in cc)
 
 -- the leaf that begins at an offset, where one is found
 pub record IsLeafFrom (xs : List PlainLeaf) (offset k : ℕ) : Type 0 where
@@ -508,7 +509,7 @@ module _ (p : PlainProgram) (e : Env) (slots : ℕ) (home : Temp → Location) (
       let a : slice_get p.objects l.object ≡ Some k.declared = subst (λ o. slice_get p.objects o ≡ Some k.declared) q k.is_object in
       let b : Some k.declared ≡ Some l.declared = sym a ∙ l.is_object in
       let d : k.declared ≡ l.declared = cc in
-      let h : FlashBank ≡ DataBank = sym k.home ∙ ap (λ (x : PlainObject). x.home) d ∙ l.home in
+      let h : FlashBank ≡ DataBank = sym k.home ∙ ap (λ (x : PlainObject). bank_of x.home) d ∙ l.home in
       cc
 
   -- the state after a write of a leaf

@@ -8,8 +8,8 @@ use Rattle.std.proofs.lemmas.Bool.{eqb-true, eq-eqb, leb-true, and_parts, or_lef
 use Rattle.ec_space.specs.declared.space.Bank.{Bank}
 use Rattle.ec_space.specs.declared.space.Bank.TheVariants.{Flash as FlashBank, Data as DataBank}
 use Rattle.ec_space.specs.declared.space.SpaceId.{SpaceId}
-use Rattle.ec_space.specs.declared.space.SpaceId.TheVariants.{Flash, Data, Generic}
-use Rattle.ec_space.specs.Spaces.{width}
+use Rattle.ec_space.specs.declared.space.SpaceId.TheVariants.{Flash, FarFlash, Data, Generic}
+use Rattle.ec_space.specs.Spaces.{bank_of, width}
 use Rattle.ec_asm.specs.declared.items.AsmItem.{AsmItem}
 use Rattle.ec_asm.specs.declared.pieces.Location.{Location}
 use Rattle.ec_asm.specs.View.{View}
@@ -102,6 +102,7 @@ is_tag n bank = by_test (n == 3)
 width_is : (space : SpaceId) → IsPointerSize (width space)
 width_is Flash = inl refl
 width_is Data = inl refl
+width_is FarFlash = inr refl
 width_is Generic = inr refl
 
 pointer_size : (space : SpaceId) (n : ℕ) → n ≡ width space → IsPointerSize n
@@ -550,7 +551,7 @@ module _ (p : PlainProgram) (functions : List PlainIrFunction) (e : Env) (slots 
       space : SpaceId
       space = has.declared.space
 
-      leaf : (bank : Bank) → has.declared.home ≡ bank → ObjectLeaf p bank
+      leaf : (bank : Bank) → bank_of has.declared.home ≡ bank → ObjectLeaf p bank
       leaf bank q = leaf_with p bank o offset t.bytes has q
 
       code : Bank → List AsmItem
@@ -568,7 +569,7 @@ module _ (p : PlainProgram) (functions : List PlainIrFunction) (e : Env) (slots 
       stays : (b : ℕ) → b ≢ t.at → need b ≤ without t.at need b
       stays b d = without_other t.at b need d
 
-      matches : (bank : Bank) (q : has.declared.home ≡ bank) (x : ObjectState) (u : Value) → slice_get m.state.objects o ≡ Some x
+      matches : (bank : Bank) (q : bank_of has.declared.home ≡ bank) (x : ObjectState) (u : Value) → slice_get m.state.objects o ≡ Some x
           → leaf_of x has.number ≡ Some u
           → M need (machine (with_temp t u m.temps) (after_read p e slots home base place y bank (leaf bank q) space u s))
           (block e (code bank) v)
@@ -586,7 +587,7 @@ module _ (p : PlainProgram) (functions : List PlainIrFunction) (e : Env) (slots 
           (load_matches p e slots home base place y l space t need (without t.at need) m v (op_steps i) u it refl h stays
           (h.leaves_hold l x u w j))
 
-      at_value : (bank : Bank) (q : has.declared.home ≡ bank) (x : ObjectState) (u : Value) → slice_get m.state.objects o ≡ Some x
+      at_value : (bank : Bank) (q : bank_of has.declared.home ≡ bank) (x : ObjectState) (u : Value) → slice_get m.state.objects o ≡ Some x
           → leaf_of x has.number ≡ Some u
           → G (suc n) m.state.work pc v (load_on n rest t m u (after_read p e slots home base place y bank (leaf bank q) space u s))
       at_value bank q x u w j =
@@ -605,12 +606,12 @@ module _ (p : PlainProgram) (functions : List PlainIrFunction) (e : Env) (slots 
           let a : object_access p None o offset s ≡ None = rw (has.is_object, q) refl in
           subst (λ z. G (suc n) m.state.work pc v (next (read p z s) (load_on n rest t m))) (sym a) tt
       at_object (Some x) q =
-          let l = leaf has.declared.home refl in
-          let a : object_access p None o offset s ≡ Some (access_to p e slots home base place y has.declared.home l space x) =
+          let l = leaf (bank_of has.declared.home) refl in
+          let a : object_access p None o offset s ≡ Some (access_to p e slots home base place y (bank_of has.declared.home) l space x) =
           rw (has.is_object, q, has.found) refl in
           subst (λ z. G (suc n) m.state.work pc v (next (read p z s) (load_on n rest t m))) (sym a)
-          (from_read p e slots home base place y has.declared.home l space x s (load_on n rest t m) (suc n) m.state.work pc v
-          (λ u j. at_value has.declared.home refl x u q j))
+          (from_read p e slots home base place y (bank_of has.declared.home) l space x s (load_on n rest t m) (suc n) m.state.work pc v
+          (λ u j. at_value (bank_of has.declared.home) refl x u q j))
 
   -- where what is kept has been settled
   store_named : (o offset : ℕ) (t : Temp) (rest : List PlainIr) (n pc : ℕ) (m : Mach) (v : View) → HasHome slots t
@@ -666,7 +667,7 @@ module _ (p : PlainProgram) (functions : List PlainIrFunction) (e : Env) (slots 
           subst (λ z. G (suc n) m.state.work pc v (next (put p z t m.temps s) (store_on n rest m))) (sym a)
           (from_no_access p e slots home base place y t m.temps s (store_on n rest m) (suc n) m.state.work pc v)
       at_object (Some x) q =
-          let bank = has.declared.home in
+          let bank = bank_of has.declared.home in
           let l = leaf_with p bank o offset t.bytes has refl in
           let a : object_access p None o offset s ≡ Some (access_to p e slots home base place y bank l space x) =
           rw (has.is_object, q, has.found) refl in

@@ -4,6 +4,7 @@ use Rattle.std.proofs.Common.{Ok, refl, sym, ◌∙◌, subst, arith}
 use Rattle.std.specs.Prelude.{if◌then◌else◌, slice_get}
 use Rattle.ec_space.specs.declared.space.Bank.{Bank}
 use Rattle.ec_space.specs.declared.space.Bank.TheVariants.{Flash as FlashBank, Data as DataBank}
+use Rattle.ec_space.specs.Spaces.{bank_of}
 use Rattle.ec_asm.specs.declared.pieces.Location.{Location}
 use Rattle.ec_asm.specs.View.{View}
 use Rattle.ec_asm.specs.Change.{Env, Object}
@@ -48,7 +49,7 @@ stands_in_memory e o n a (local f) k x = x
 stands_in_memory e o n a (param f) k x = x
 stands_in_memory e o n a (register first) k x = absurd k
 
-pub home_of_object : (p : PlainProgram) (o : ℕ) (d : PlainObject) → slice_get p.objects o ≡ Some d → home_of p o ≡ d.home
+pub home_of_object : (p : PlainProgram) (o : ℕ) (d : PlainObject) → slice_get p.objects o ≡ Some d → home_of p o ≡ bank_of d.home
 home_of_object p o d q = rw q refl
 
 -- ---- the bytes of a pointer
@@ -151,9 +152,9 @@ module _ (p : PlainProgram) (e : Env) (slots : ℕ) (home : Temp → Location) (
 
   pub room_of : (o : ℕ) (d : PlainObject) → slice_get p.objects o ≡ Some d → IsAddressable d.storage
       → HasRoom o (size_of_type p.structs d.ty)
-  room_of o d is k = by_home d.home refl
+  room_of o d is k = by_home (bank_of d.home) refl
     where
-      by_home : (bank : Bank) → d.home ≡ bank → HasRoom o (size_of_type p.structs d.ty)
+      by_home : (bank : Bank) → bank_of d.home ≡ bank → HasRoom o (size_of_type p.structs d.ty)
       by_home FlashBank q = let s = y.tables_stand.each o d is q in record { end = s.end; at = s.at }
       by_home DataBank q =
           let s = stands_in_memory e o (size_of_type p.structs d.ty) (place o) d.storage k (y.objects_stand o d is q) in

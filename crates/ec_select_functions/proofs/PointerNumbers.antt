@@ -15,9 +15,10 @@ use Rattle.std.proofs.lemmas.Bool.Decides.{nat_tests}
 use Rattle.std.proofs.lemmas.Nat.{div-add-mod', mul-le, mul-mod_first, mul-mod_second}
 use Rattle.ec_space.specs.declared.space.Bank.{Bank}
 use Rattle.ec_space.specs.declared.space.Bank.TheVariants.{Flash as FlashBank, Data as DataBank}
+use Rattle.ec_space.specs.declared.space.Home.TheVariants.{Data as DataHome}
 use Rattle.ec_space.specs.declared.space.SpaceId.{SpaceId}
-use Rattle.ec_space.specs.declared.space.SpaceId.TheVariants.{Flash, Data, Generic}
-use Rattle.ec_space.specs.Spaces.{holds, width}
+use Rattle.ec_space.specs.declared.space.SpaceId.TheVariants.{Flash, FarFlash, Data, Generic}
+use Rattle.ec_space.specs.Spaces.{bank_of, holds, reaches, width}
 use Rattle.ec_asm.specs.Change.{Env}
 use Rattle.ec_core.specs.declared.expressions.BinOp.{BinOp}
 use Rattle.ec_core.specs.declared.expressions.BinOp.TheVariants.{Lt, Gt, Le, Ge, Eq, Ne}
@@ -36,6 +37,7 @@ use Rattle.ec_core.specs.Pointers.{in_elements, elements_between, difference_of_
 use Rattle.ec_core.specs.Pointers.{ordered, as_truth, compared_pointers, comparison_of_pointers, pointer_in_space}
 use Rattle.ec_core.specs.State.{State, ObjectState}
 use Rattle.ec_core.specs.Valid.{IsObject, IsAddressable}
+use Rattle.ec_core.proofs.Homes.{home_reached}
 use Rattle.ec_ir.specs.Temporaries.{is_in_space, low_bytes, number_of_bytes}
 use Rattle.ec_select_bytes.specs.Values.{fill_of}
 use Rattle.ec_select_order.specs.declared.relations.Relation.TheVariants.{Less as IsBelow, NotLess, Equal as IsSame}
@@ -66,7 +68,7 @@ pub record HavePlaces (p : PlainProgram) (place : ℕ → ℕ) : Type 0 where
 abbrev pub AreApartIn : (p : PlainProgram) (place : ℕ → ℕ) → State → Type 0
 AreApartIn p place s =
     (o k : ℕ) (d f : PlainObject) (x z : ObjectState) → slice_get p.objects o ≡ Some d → slice_get p.objects k ≡ Some f
-    → slice_get s.objects o ≡ Some x → slice_get s.objects k ≡ Some z → x.live ≡ true → z.live ≡ true → d.home ≡ f.home → o ≢ k
+    → slice_get s.objects o ≡ Some x → slice_get s.objects k ≡ Some z → x.live ≡ true → z.live ≡ true → bank_of d.home ≡ bank_of f.home → o ≢ k
     → Apart (place o) (size_of_type p.structs d.ty) (place k) (size_of_type p.structs f.ty)
 
 item_of : {A : Type 0} (P : A → Type 0) (xs : List A) (k : ℕ) (x : A) → AllByRecursion P xs → slice_get xs k ≡ Some x → P x
@@ -82,23 +84,23 @@ in_memory e o n place (param f) a h = h
 in_memory e o n place (register first) a h = absurd a
 
 pub objects_have_places : (p : PlainProgram) (e : Env) (place : ℕ → ℕ)
-    → ((k : ℕ) (d : PlainObject) → slice_get p.objects k ≡ Some d → d.home ≡ DataBank
+    → ((k : ℕ) (d : PlainObject) → slice_get p.objects k ≡ Some d → bank_of d.home ≡ DataBank
     → ObjectStands e k (size_of_type p.structs d.ty) (place k) d.storage)
     → TablesStand p e place → AllByRecursion (IsObject p) p.objects → HavePlaces p place
 objects_have_places p e place each t valid = record {
   some = λ k d q. (item_of (IsObject p) p.objects k d valid q).some;
   small = λ k d q. (item_of (IsObject p) p.objects k d valid q).small;
-  low = λ k d q a. low_in k d q a d.home refl;
-  high = λ k d q a. high_in k d q a d.home refl;
+  low = λ k d q a. low_in k d q a (bank_of d.home) refl;
+  high = λ k d q a. high_in k d q a (bank_of d.home) refl;
 }
   where
-    low_in : (k : ℕ) (d : PlainObject) → slice_get p.objects k ≡ Some d → IsAddressable d.storage → (b : Bank) → d.home ≡ b → 0 < place k
+    low_in : (k : ℕ) (d : PlainObject) → slice_get p.objects k ≡ Some d → IsAddressable d.storage → (b : Bank) → bank_of d.home ≡ b → 0 < place k
     low_in k d q a FlashBank h = (t.each k d q h).some
     low_in k d q a DataBank h =
         let w = (in_memory e k (size_of_type p.structs d.ty) (place k) d.storage a (each k d q h)).high in
         omega arith
 
-    high_in : (k : ℕ) (d : PlainObject) → slice_get p.objects k ≡ Some d → IsAddressable d.storage → (b : Bank) → d.home ≡ b
+    high_in : (k : ℕ) (d : PlainObject) → slice_get p.objects k ≡ Some d → IsAddressable d.storage → (b : Bank) → bank_of d.home ≡ b
         → place k + size_of_type p.structs d.ty < 65536
     high_in k d q a FlashBank h = (t.each k d q h).end
     high_in k d q a DataBank h = (in_memory e k (size_of_type p.structs d.ty) (place k) d.storage a (each k d q h)).end
@@ -123,8 +125,8 @@ abbrev pub IsIntoSpace : PlainProgram → SpaceId → PointerValue → Type 0
 IsIntoSpace p space None = ⊤
 IsIntoSpace p space (Some q) = is_in_space p space q ≡ true
 
-pub home_is : (p : PlainProgram) (q : ObjectPointer) → (h : IsPointed p q) → home_of p q.object ≡ h.declared.home
-home_is p q h = ap (λ o. unwrap_or (option_map (λ (d : PlainObject). d.home) o) DataBank) h.is_object
+pub home_is : (p : PlainProgram) (q : ObjectPointer) → (h : IsPointed p q) → home_of p q.object ≡ bank_of h.declared.home
+home_is p q h = ap (λ o. unwrap_or (option_map (λ (d : PlainObject). bank_of d.home) o) DataBank) h.is_object
 
 tag_small : (b : Bank) → tag_of b < 256
 tag_small FlashBank = omega arith
@@ -182,16 +184,16 @@ known p q i s = by_state (slice_get s.objects q.object)
           size = size_of_type p.structs o.ty;
           home =
               o.home;
-        }) x) (slice_get p.objects q.object)) (record { live = false; size = 0; home = DataBank }))
+        }) x) (slice_get p.objects q.object)) (record { live = false; size = 0; home = DataHome }))
     by_state x = subst (λ (w : Option PlainObject). Known p q i
         (unwrap_or (option_and_then (λ (o : PlainObject). option_map
         (λ (x : ObjectState). record { live = is_live_in q x; size = size_of_type p.structs o.ty; home = o.home })
-        x) w) (record { live = false; size = 0; home = DataBank }))) (sym i.is_object) (known_in x)
+        x) w) (record { live = false; size = 0; home = DataHome }))) (sym i.is_object) (known_in x)
       where
         known_in : (x : Option ObjectState)
             → Known p q i (unwrap_or (option_map (λ (x : ObjectState). record
             { live = is_live_in q x; size = size_of_type p.structs i.declared.ty; home = i.declared.home }) x)
-            (record { live = false; size = 0; home = DataBank }))
+            (record { live = false; size = 0; home = DataHome }))
         known_in None h = absurd cc
         known_in (Some x) h = (refl, refl)
 
@@ -205,23 +207,23 @@ is_live : (p : PlainProgram) (q : ObjectPointer) → IsPointed p q → (s : Stat
 is_live p q i s =
     subst (λ (w : Option PlainObject). (unwrap_or {T = Referent} (option_and_then (λ (o : PlainObject). option_map
     (λ (x : ObjectState). record { live = is_live_in q x; size = size_of_type p.structs o.ty; home = o.home })
-    (slice_get s.objects q.object)) w) (record { live = false; size = 0; home = DataBank })).live ≡ true → IsLive q s)
+    (slice_get s.objects q.object)) w) (record { live = false; size = 0; home = DataHome })).live ≡ true → IsLive q s)
     (sym i.is_object) (in_state (slice_get s.objects q.object) refl)
   where
     in_state : (z : Option ObjectState) → slice_get s.objects q.object ≡ z
         → (unwrap_or {T = Referent} (option_map
         (λ (x : ObjectState). record { live = is_live_in q x; size = size_of_type p.structs i.declared.ty; home = i.declared.home }) z)
-        (record { live = false; size = 0; home = DataBank })).live ≡ true → IsLive q s
+        (record { live = false; size = 0; home = DataHome })).live ≡ true → IsLive q s
     in_state None e h = absurd cc
     in_state (Some x) e h = record { state = x; is_state = e; live = (and_parts x.live (x.serial == q.instance) h).0 }
 
--- a pointer into a space points into an object of a bank that the space has
+-- a pointer into a space points into an object of a bank that the space reaches
 pub held_by_space : (p : PlainProgram) (space : SpaceId) (q : ObjectPointer) → IsPointed p q → is_in_space p space q ≡ true
-    → holds space (home_of p q.object) ≡ true
+    → reaches space (home_of p q.object) ≡ true
 held_by_space p space q i h =
     let inside : is_in_space p space q ≡ holds space i.declared.home =
     ap (λ o. unwrap_or (option_map (λ (d : PlainObject). holds space d.home) o) false) i.is_object in
-    ap (holds space) (home_is p q i) ∙ sym inside ∙ h
+    ap (reaches space) (home_is p q i) ∙ home_reached space i.declared.home (sym inside ∙ h)
 
 -- ---- equality
 
@@ -269,18 +271,19 @@ module _ (p : PlainProgram) (place : ℕ → ℕ) (h : HavePlaces p place) where
           (sym (home_is p q i) ∙ u ∙ sym w ∙ home_is p r j) other)
           (h.some q.object i.declared i.is_object) (h.some r.object j.declared j.is_object) i.within j.within ends)
 
-      two_banks : (s : SpaceId) → holds s FlashBank ≡ true → holds s DataBank ≡ true
+      two_banks : (s : SpaceId) → reaches s FlashBank ≡ true → reaches s DataBank ≡ true
           → ((tag_byte (width s) FlashBank == tag_byte (width s) DataBank) ≡ false)
           × ((tag_byte (width s) DataBank == tag_byte (width s) FlashBank) ≡ false)
       two_banks Flash u w = absurd cc
+      two_banks FarFlash u w = absurd cc
       two_banks Data u w = absurd cc
       two_banks Generic u w = (refl, refl)
 
-      in_q : (b : Bank) → home_of p q.object ≡ b → holds space b ≡ true
-      in_q b u = ap (holds space) (sym u) ∙ held_by_space p space q i sq
+      in_q : (b : Bank) → home_of p q.object ≡ b → reaches space b ≡ true
+      in_q b u = ap (reaches space) (sym u) ∙ held_by_space p space q i sq
 
-      in_r : (b : Bank) → home_of p r.object ≡ b → holds space b ≡ true
-      in_r b u = ap (holds space) (sym u) ∙ held_by_space p space r j sr
+      in_r : (b : Bank) → home_of p r.object ≡ b → reaches space b ≡ true
+      in_r b u = ap (reaches space) (sym u) ∙ held_by_space p space r j sr
 
       by_banks : (b c : Bank) → home_of p q.object ≡ b → home_of p r.object ≡ c
           → (x == z && tag_byte (width space) (home_of p q.object) == tag_byte (width space) (home_of p r.object)) ≡ false
@@ -800,9 +803,10 @@ module _ (p : PlainProgram) (place : ℕ → ℕ) (h : HavePlaces p place) where
       → embedded (is_into_data (pointer space const to)) (number_of (place_of p place 2 x)) ≡ number_of (place_of p place 3 x)
   embedded_is space const to None two i u = refl
   embedded_is Generic const to (Some q) two i u = absurd cc
+  embedded_is FarFlash const to (Some q) two i u = absurd cc
   embedded_is Flash const to (Some q) two i u = in_bank (home_of p q.object) refl (held_by_space p Flash q i.pointed u)
     where
-      in_bank : (b : Bank) → home_of p q.object ≡ b → holds Flash b ≡ true
+      in_bank : (b : Bank) → home_of p q.object ≡ b → reaches Flash b ≡ true
           → embedded false (place q.object + q.offset + 0 * 65536) ≡ place q.object + q.offset + tag_of b * 65536
       in_bank DataBank e w = absurd cc
       in_bank FlashBank e w =
@@ -811,7 +815,7 @@ module _ (p : PlainProgram) (place : ℕ → ℕ) (h : HavePlaces p place) where
           rw some (omega arith)
   embedded_is Data const to (Some q) two i u = in_bank (home_of p q.object) refl (held_by_space p Data q i.pointed u)
     where
-      in_bank : (b : Bank) → home_of p q.object ≡ b → holds Data b ≡ true
+      in_bank : (b : Bank) → home_of p q.object ≡ b → reaches Data b ≡ true
           → embedded true (place q.object + q.offset + 0 * 65536) ≡ place q.object + q.offset + tag_of b * 65536
       in_bank FlashBank e w = absurd cc
       in_bank DataBank e w =

@@ -11,8 +11,8 @@ use Rattle.ec_fx.specs.declared.numbers.Mode.{Mode}
 use Rattle.ec_space.specs.declared.space.Bank.{Bank}
 use Rattle.ec_space.specs.declared.space.Bank.TheVariants.{Flash as FlashBank, Data as DataBank}
 use Rattle.ec_space.specs.declared.space.SpaceId.{SpaceId}
-use Rattle.ec_space.specs.declared.space.SpaceId.TheVariants.{Flash, Data, Generic}
-use Rattle.ec_space.specs.Spaces.{width}
+use Rattle.ec_space.specs.declared.space.SpaceId.TheVariants.{Flash, FarFlash, Data, Generic}
+use Rattle.ec_space.specs.Spaces.{bank_of, width}
 use Rattle.ec_asm.specs.declared.items.AsmItem.{AsmItem}
 use Rattle.ec_asm.specs.declared.pieces.Location.{Location}
 use Rattle.ec_asm.specs.declared.pieces.Location.TheVariants.{InRegisters}
@@ -156,9 +156,9 @@ module _ (p : PlainProgram) (e : Env) (slots : ℕ) (home : Temp → Location) (
 
   -- those that are live at one moment stand apart
   pub are_apart : (s : State) → FramesStand p y.active y.called s.objects → AreApartIn p place s
-  are_apart s frames o k d f x z od kf ox kz dx fz banks other = by_home d.home refl
+  are_apart s frames o k d f x z od kf ox kz dx fz banks other = by_home (bank_of d.home) refl
     where
-      by_home : (b : Bank) → d.home ≡ b → Apart (place o) (size_of_type p.structs d.ty) (place k) (size_of_type p.structs f.ty)
+      by_home : (b : Bank) → bank_of d.home ≡ b → Apart (place o) (size_of_type p.structs d.ty) (place k) (size_of_type p.structs f.ty)
       by_home FlashBank q = y.tables_stand.apart o k d f od q kf (sym banks ∙ q) other
       by_home DataBank q =
           y.objects_apart o k d f od q kf (sym banks ∙ q) other
@@ -520,6 +520,7 @@ all_or_more bytes (suc k) l = l
 width_size : (space : SpaceId) → IsPointerSize (width space)
 width_size Flash = inl refl
 width_size Data = inl refl
+width_size FarFlash = inr refl
 width_size Generic = inr refl
 
 pointer_size : (bytes : ℕ) (space : SpaceId) → bytes ≡ width space → IsPointerSize bytes

@@ -130,7 +130,7 @@ module _ (s k : ℕ) (P : Type 0) where
       (or_cases (k == 93 || k == 94) (in_row (s + 1) 2 k) h)
 
 module _ (laws : CodeLaws) (p : PlainIrProgram) (place entry_of : ℕ → ℕ) (e : Env) (size low : ℕ) (s : MachineState) (v : View)
-    (inputs : Inputs) (valid : ValidIr p) (fit : Fits e size) (shows : Shows e size s.mem v)
+    (inputs : Inputs) (valid : ValidIr p) (fit : Fits e size) (shows : Shows e size s.core s.mem v)
     (feeds : (port : ℕ) → v.inputs port ≡ inputs port) (begin : HoldsStart (data_of p) place v) (selected : AreSelected p e place entry_of)
     (enters : IsEntered p e low (entry_of p.main) s.pc v) where
   abbrev w : World p e place entry_of

@@ -5,9 +5,11 @@ use Rattle.std.specs.Prelude.{Result, ◌==◌, ◌&&◌, if◌then◌else◌, s
 use Rattle.std.proofs.lemmas.Bool.{cases_lt, eqb-true, and_parts}
 use Rattle.ec_space.specs.declared.space.Bank.{Bank}
 use Rattle.ec_space.specs.declared.space.Bank.TheVariants.{Flash as FlashBank, Data as DataBank}
+use Rattle.ec_space.specs.declared.space.Home.{Home}
+use Rattle.ec_space.specs.declared.space.Home.TheVariants.{Flash as FlashHome, Far as FarHome, Data as DataHome}
 use Rattle.ec_space.specs.declared.space.SpaceId.{SpaceId}
-use Rattle.ec_space.specs.declared.space.SpaceId.TheVariants.{Flash, Data, Generic}
-use Rattle.ec_space.specs.Spaces.{holds}
+use Rattle.ec_space.specs.declared.space.SpaceId.TheVariants.{Flash, FarFlash, Data, Generic}
+use Rattle.ec_space.specs.Spaces.{bank_of, holds, reaches}
 use Rattle.ec_avr.specs.declared.machine.Access.TheVariants.{Read as ByteRead, Write as ByteWrite}
 use Rattle.ec_asm.specs.declared.pieces.Location.{Location}
 use Rattle.ec_asm.specs.View.{View}
@@ -20,12 +22,13 @@ use Rattle.ec_core.specs.declared.values.ObjectPointer.{ObjectPointer}
 use Rattle.ec_core.specs.declared.values.Undefined.{Undefined}
 use Rattle.ec_core.specs.declared.values.Undefined.TheVariants.{ConstWrite, Unset}
 use Rattle.ec_core.specs.declared.values.Value.{Value}
-use Rattle.ec_core.specs.Accesses.{Access, read, read_value, is_readable, leaf_of}
+use Rattle.ec_core.specs.Accesses.{Access, read, read_value, is_readable, is_read_only, leaf_of}
 use Rattle.ec_core.specs.Layout.{scalar_size, size_of_type, leaves_of_type}
 use Rattle.ec_core.specs.Plain.{void, PlainObject, PlainProgram}
 use Rattle.ec_core.specs.Pointers.{Pointer as PointerValue}
 use Rattle.ec_core.specs.State.{State, ObjectState, Outcome, got, undefined, next, given}
 use Rattle.ec_core.specs.Valid.{IsAddressable}
+use Rattle.ec_core.proofs.Homes.{home_reached, home_in_data}
 use Rattle.ec_ir.specs.declared.operations.Temp.{Temp}
 use Rattle.ec_ir.specs.Meaning.{held_as, pointer_in, held_pointer, pointer_access, access_at}
 use Rattle.ec_ir.specs.Meaning.{accessed_type, is_access_of, leaf_from, put, put_leaf}
@@ -56,6 +59,12 @@ leaves_z a n m l clear = record {
     outside k high low q =
         ⊎_elim (λ (r : a < 26). let z = clear.high.left r in omega arith)
         (λ (r : 26 ≤ a). let z = clear.high.right r in absurd (omega arith)) (cases_lt a 26)
+
+-- what stands in the flash bank is not written
+in_flash : (home : Home) → bank_of home ≡ FlashBank → is_read_only home ≡ true
+in_flash FlashHome h = refl
+in_flash FarHome h = refl
+in_flash DataHome h = cc
 
 module _ (p : PlainProgram) (e : Env) (slots : ℕ) (home : Temp → Location) (base : Temp → ℕ) (place : ℕ → ℕ)
     (y : Setting p e slots home base place) where
@@ -207,13 +216,16 @@ module _ (p : PlainProgram) (e : Env) (slots : ℕ) (home : Temp → Location) (
       }
 
   -- through a pointer into a space
-  pub loads : (space : SpaceId) (bank : Bank) (ptr to : Temp) (from pc mid : ℕ) (v : View) → holds space bank ≡ true
+  pub loads : (space : SpaceId) (bank : Bank) (ptr to : Temp) (from pc mid : ℕ) (v : View) → reaches space bank ≡ true
       → IsInto slots space ptr → HasHome slots to → IsAddressedBy v.at (base ptr) ptr.bytes from bank
       → IsThere bank from (base to) to.bytes → HasAt e (load_code space (home ptr) (home to) to.bytes) pc mid
       → Loads bank from pc mid v to
   loads Flash FlashBank ptr to from pc mid v h into it a there stands =
       let q = into.1 in loads_flash ptr to from pc mid v into.0 it (omega arith) a.low there stands
   loads Flash DataBank ptr to from pc mid v h into it a there stands = absurd (cc)
+  loads FarFlash FlashBank ptr to from pc mid v h into it a there stands =
+      let q = into.1 in loads_flash ptr to from pc mid v into.0 it (omega arith) a.low there stands
+  loads FarFlash DataBank ptr to from pc mid v h into it a there stands = absurd (cc)
   loads Data FlashBank ptr to from pc mid v h into it a there stands = absurd (cc)
   loads Data DataBank ptr to from pc mid v h into it a there stands =
       let q = into.1 in loads_data ptr to from pc mid v into.0 it (omega arith) a.low there.0 there.1 stands
@@ -278,7 +290,7 @@ module _ (p : PlainProgram) (e : Env) (slots : ℕ) (home : Temp → Location) (
     pub size : leaf.bytes ≡ bytes
     pub addressable : IsAddressable leaf.declared.storage
     pub is_state : slice_get s.objects leaf.object ≡ Some state
-    pub within : holds space bank ≡ true
+    pub within : reaches space bank ≡ true
     pub live : state.live ≡ true
 
   -- an access, where the space allows one of so many bytes
@@ -321,7 +333,7 @@ module _ (p : PlainProgram) (e : Env) (slots : ℕ) (home : Temp → Location) (
               let size : scalar_size f.leaf.ty ≡ bytes =
               ap scalar_size (sym ty) ∙ eqb-true (scalar_size (accessed_type p (Some a))) bytes parts.1 in
               some (record {
-                bank = d.home;
+                bank = bank_of d.home;
                 leaf = record {
                   object = q.object;
                   number = number;
@@ -340,7 +352,7 @@ module _ (p : PlainProgram) (e : Env) (slots : ℕ) (home : Temp → Location) (
                 size = refl;
                 addressable = k.addressable;
                 is_state = i;
-                within = parts.0;
+                within = home_reached space d.home parts.0;
                 live = both.0;
               })
           by_test false t = none
@@ -422,12 +434,12 @@ module _ (p : PlainProgram) (e : Env) (slots : ℕ) (home : Temp → Location) (
       → F n w pc v (next (put p (Some (access_to bank l space x)) t temps s) go)
   from_put FlashBank l space x t temps s go n w pc v f =
       from_value FlashBank l space x t temps s go n w pc v (λ c u q i.
-      let no : put_leaf (Some (access_to FlashBank l space x)) u s ≡ undefined ConstWrite s = rw (l.home) refl in
+      let no : put_leaf (Some (access_to FlashBank l space x)) u s ≡ undefined ConstWrite s = rw (in_flash l.declared.home l.home) refl in
       subst (λ z. F n w pc v (next z go)) (sym no) tt)
   from_put DataBank l space x t temps s go n w pc v f =
       from_value DataBank l space x t temps s go n w pc v (λ c u q i.
       let yes : put_leaf (Some (access_to DataBank l space x)) u s ≡ got u (after_write p e slots home base place y l space u s) =
-      rw (l.home) refl in
+      rw (home_in_data l.declared.home l.home) refl in
       subst (λ z. F n w pc v (next z go)) (sym yes) (f l c u refl refl refl refl q i))
 
   -- an access of nothing

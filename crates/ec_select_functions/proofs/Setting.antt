@@ -5,6 +5,7 @@ use Rattle.std.specs.Prelude.{◌==◌, slice_get}
 use Rattle.std.proofs.lemmas.Bool.{or_right}
 use Rattle.std.specs.List.{AllByRecursion}
 use Rattle.ec_space.specs.declared.space.Bank.TheVariants.{Data as DataBank}
+use Rattle.ec_space.specs.Spaces.{bank_of}
 use Rattle.ec_asm.specs.declared.pieces.Location.{Location}
 use Rattle.ec_asm.specs.Change.{Env}
 use Rattle.ec_asm.specs.Pieces.{Outside}
@@ -93,10 +94,10 @@ pub record Setting (p : PlainProgram) (e : Env) (slots : ℕ) (home : Temp → L
   pub pointers : PointerLaws
   pub numbers : NumberLaws
   -- the objects, which have at least one byte, and stand apart where they can be live together
-  pub objects_stand : (o : ℕ) (d : PlainObject) → slice_get p.objects o ≡ Some d → d.home ≡ DataBank
+  pub objects_stand : (o : ℕ) (d : PlainObject) → slice_get p.objects o ≡ Some d → bank_of d.home ≡ DataBank
       → ObjectStands e o (size_of_type p.structs d.ty) (place o) d.storage
-  pub objects_apart : (o k : ℕ) (d f : PlainObject) → slice_get p.objects o ≡ Some d → d.home ≡ DataBank
-      → slice_get p.objects k ≡ Some f → f.home ≡ DataBank → o ≢ k → CanBeLiveTogether program d.storage f.storage
+  pub objects_apart : (o k : ℕ) (d f : PlainObject) → slice_get p.objects o ≡ Some d → bank_of d.home ≡ DataBank
+      → slice_get p.objects k ≡ Some f → bank_of f.home ≡ DataBank → o ≢ k → CanBeLiveTogether program d.storage f.storage
       → Apart (place o) (size_of_type p.structs d.ty) (place k) (size_of_type p.structs f.ty)
   pub tables_stand : TablesStand p e place
   pub valid : AllByRecursion (IsObject p) p.objects

@@ -136,7 +136,7 @@ pub record ShowsOperations (p : PlainIrProgram) (place : ℕ → ℕ) (e : Env) 
 abbrev pub CodeFollowsOperations : Type 0
 CodeFollowsOperations =
     (p : PlainIrProgram) (place entry_of : ℕ → ℕ) (e : Env) (size low : ℕ) (s : State) (v : View) (inputs : Inputs)
-    → ValidIr p → Fits e size → Shows e size s.mem v → ((port : ℕ) → v.inputs port ≡ inputs port)
+    → ValidIr p → Fits e size → Shows e size s.core s.mem v → ((port : ℕ) → v.inputs port ≡ inputs port)
     → HoldsStart (data_of p) place v → AreSelected p e place entry_of → IsEntered p e low (entry_of p.main) s.pc v
     → ShowsOperations p place e v s inputs
 

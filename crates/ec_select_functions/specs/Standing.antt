@@ -2,6 +2,7 @@
 use Rattle.std.specs.Prelude.{◌≡◌, ◌≢◌, ◌⊎◌, ℕ, ◌+◌, ◌-◌, ◌*◌, ◌<◌, ◌≤◌, nat_le, ◌&&◌, if◌then◌else◌, Some, slice_get}
 use Rattle.std.specs.Prelude.{slice_index}
 use Rattle.ec_space.specs.declared.space.Bank.TheVariants.{Flash as FlashBank, Data as DataBank}
+use Rattle.ec_space.specs.Spaces.{bank_of}
 use Rattle.ec_asm.specs.Change.{Env, Own, Object}
 use Rattle.ec_core.specs.declared.values.Value.{Value}
 use Rattle.ec_core.specs.Accesses.{leaf_of}
@@ -34,7 +35,7 @@ pub record WorkStands (p : PlainProgram) (e : Env) (place : ℕ → ℕ) (work :
   pub high : 256 ≤ work
   pub at : (i : ℕ) → i < 64 → e.address_of 1280 i ≡ work + i
   pub kind : (i : ℕ) → i < 64 → e.kind (work + i) ≡ Own
-  pub objects_apart : (o : ℕ) (d : PlainObject) → slice_get p.objects o ≡ Some d → d.home ≡ DataBank
+  pub objects_apart : (o : ℕ) (d : PlainObject) → slice_get p.objects o ≡ Some d → bank_of d.home ≡ DataBank
       → Apart (place o) (size_of_type p.structs d.ty) work 64
 
 -- n bytes of an object stand in memory, where its accesses are noted, and its end has an address too
@@ -53,13 +54,13 @@ ObjectStands e o n place (param f) = StandsInMemory e o n place
 
 -- the objects of the data bank stand apart from one another where they can be live together, and from the scratch memory
 pub record ObjectsStand (p : PlainIrProgram) (e : Env) (slots scratch : ℕ) (place : ℕ → ℕ) : Type 0 where
-  pub each : (o : ℕ) (d : PlainObject) → slice_get p.objects o ≡ Some d → d.home ≡ DataBank
+  pub each : (o : ℕ) (d : PlainObject) → slice_get p.objects o ≡ Some d → bank_of d.home ≡ DataBank
       → ObjectStands e o (size_of_type p.structs d.ty) (place o) d.storage
-  pub apart : (o k : ℕ) (d f : PlainObject) → slice_get p.objects o ≡ Some d → d.home ≡ DataBank
-      → slice_get p.objects k ≡ Some f → f.home ≡ DataBank → o ≢ k
+  pub apart : (o k : ℕ) (d f : PlainObject) → slice_get p.objects o ≡ Some d → bank_of d.home ≡ DataBank
+      → slice_get p.objects k ≡ Some f → bank_of f.home ≡ DataBank → o ≢ k
       → CanBeLiveTogether p d.storage f.storage
       → Apart (place o) (size_of_type p.structs d.ty) (place k) (size_of_type p.structs f.ty)
-  pub scratch_apart : (o : ℕ) (d : PlainObject) → slice_get p.objects o ≡ Some d → d.home ≡ DataBank
+  pub scratch_apart : (o : ℕ) (d : PlainObject) → slice_get p.objects o ≡ Some d → bank_of d.home ≡ DataBank
       → Apart (place o) (size_of_type p.structs d.ty) scratch (16 * slots)
 
 -- n bytes of an object stand in flash, but not at address 0, and its end has an address too
@@ -72,10 +73,10 @@ pub record StandsInFlash (e : Env) (o n place : ℕ) : Type 0 where
 -- the objects of the flash bank stand apart from one another, with their initial values, and the flash holds bytes
 pub record TablesStand (p : PlainProgram) (e : Env) (place : ℕ → ℕ) : Type 0 where
   pub bytes : (k : ℕ) → slice_index e.flash k < 256
-  pub each : (o : ℕ) (d : PlainObject) → slice_get p.objects o ≡ Some d → d.home ≡ FlashBank
+  pub each : (o : ℕ) (d : PlainObject) → slice_get p.objects o ≡ Some d → bank_of d.home ≡ FlashBank
       → StandsInFlash e o (size_of_type p.structs d.ty) (place o)
-  pub apart : (o k : ℕ) (d f : PlainObject) → slice_get p.objects o ≡ Some d → d.home ≡ FlashBank
-      → slice_get p.objects k ≡ Some f → f.home ≡ FlashBank → o ≢ k
+  pub apart : (o k : ℕ) (d f : PlainObject) → slice_get p.objects o ≡ Some d → bank_of d.home ≡ FlashBank
+      → slice_get p.objects k ≡ Some f → bank_of f.home ≡ FlashBank → o ≢ k
       → Apart (place o) (size_of_type p.structs d.ty) (place k) (size_of_type p.structs f.ty)
   pub values : (l : ObjectLeaf p FlashBank) (x : ObjectState) (u : Value)
       → slice_get (start_state p).objects l.object ≡ Some x → leaf_of x l.number ≡ Some u

@@ -7,7 +7,7 @@ use Rattle.ec_fx.specs.Formats.{format_of}
 use Rattle.ec_space.specs.declared.space.Bank.{Bank}
 use Rattle.ec_space.specs.declared.space.Bank.TheVariants.{Flash as FlashBank, Data as DataBank}
 use Rattle.ec_space.specs.declared.space.SpaceId.{SpaceId}
-use Rattle.ec_space.specs.declared.space.SpaceId.TheVariants.{Flash, Data, Generic}
+use Rattle.ec_space.specs.declared.space.SpaceId.TheVariants.{Flash, FarFlash, Data, Generic}
 use Rattle.ec_isa.specs.declared.instructions.Instr.TheVariants.{Movw, Ret}
 use Rattle.ec_asm.specs.declared.items.AsmItem.{AsmItem}
 use Rattle.ec_asm.specs.declared.items.AsmItem.TheVariants.{Plain, Label, JumpTo, CallTo, BranchTo}
@@ -465,6 +465,7 @@ addressed_code p o offset to bytes n =
 -- n bytes through a pointer into a space, which stands at p
 abbrev pub load_code : SpaceId → (p to : Location) → ℕ → List AsmItem
 load_code Flash p to n = load_flash_code p to n
+load_code FarFlash p to n = load_flash_code p to n
 load_code Data p to n = load_data_code p to n
 load_code Generic p to n = load_any_code p to n
 

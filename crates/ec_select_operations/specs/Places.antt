@@ -3,6 +3,7 @@ use Rattle.std.specs.Prelude.{◌≡◌, ◌≢◌, ◌⊎◌, ⊤, ℕ, ◌+◌
 use Rattle.std.specs.Prelude.{option_map, unwrap_or, slice_get}
 use Rattle.ec_space.specs.declared.space.Bank.{Bank}
 use Rattle.ec_space.specs.declared.space.Bank.TheVariants.{Data as DataBank}
+use Rattle.ec_space.specs.Spaces.{bank_of}
 use Rattle.ec_asm.specs.declared.pieces.Location.{Location}
 use Rattle.ec_asm.specs.declared.pieces.Location.TheVariants.{InRegisters, InMemory}
 use Rattle.ec_asm.specs.Change.{Env, Kind, Own, Object}
@@ -54,7 +55,7 @@ pub record ObjectLeaf (p : PlainProgram) (bank : Bank) : Type 0 where
   pub is_object : slice_get p.objects object ≡ Some declared
   pub is_leaf : slice_get (leaves_of_type p.structs declared.ty) number ≡ Some (record { ty = ty; at = at })
   pub size : scalar_size ty ≡ bytes
-  pub home : declared.home ≡ bank
+  pub home : bank_of declared.home ≡ bank
 
 -- ---- objects that can be live at one moment
 

@@ -5,6 +5,7 @@ use Rattle.std.specs.Prelude.{option_map, unwrap_or, slice_get}
 use Rattle.ec_space.specs.declared.space.Bank.{Bank}
 use Rattle.ec_space.specs.declared.space.Bank.TheVariants.{Flash as FlashBank, Data as DataBank}
 use Rattle.ec_space.specs.declared.space.SpaceId.TheVariants.{Data}
+use Rattle.ec_space.specs.Spaces.{bank_of}
 use Rattle.ec_core.specs.declared.values.ObjectPointer.{ObjectPointer}
 use Rattle.ec_core.specs.Layout.{size_of_type}
 use Rattle.ec_core.specs.Plain.{PlainType, pointer, PlainObject, PlainProgram}
@@ -31,7 +32,7 @@ IsPointerSize bytes = (bytes ≡ 2) ⊎ (bytes ≡ 3)
 
 -- the bank where an object is kept
 abbrev pub home_of : PlainProgram → ℕ → Bank
-home_of p o = unwrap_or (option_map (λ d. d.home) (slice_get p.objects o)) DataBank
+home_of p o = unwrap_or (option_map (λ d. bank_of d.home) (slice_get p.objects o)) DataBank
 
 abbrev pub tag_of : Bank → ℕ
 tag_of FlashBank = flash_tag

@@ -33,7 +33,7 @@ fn home_of(program: &IrProgram, o: u16) -> Bank
 {
     match program.objs.get(usize::from(o)) {
         None => Bank::Data,
-        Some(d) => d.home,
+        Some(d) => d.home.bank(),
     }
 }
 
@@ -93,7 +93,7 @@ pub fn load_through(
     ensures err { OnErr result (BeginWith out.old.items out.new.items) }
 {
     match space {
-        SpaceId::Flash => load_flash(out, pointer, to, bytes),
+        SpaceId::Flash | SpaceId::FarFlash => load_flash(out, pointer, to, bytes),
         SpaceId::Data => load_data(out, pointer, to, bytes),
         SpaceId::Generic => load_any(out, pointer, to, bytes),
     }

@@ -8,6 +8,7 @@ use Rattle.std.proofs.lemmas.Bool.{and_parts, or_cases, false≢true, le-ltb, lt
 use Rattle.std.proofs.lemmas.List.Elements.{All-head, All-tail}
 use Rattle.ec_space.specs.declared.space.Bank.TheVariants.{Flash as FlashBank, Data as DataBank}
 use Rattle.ec_isa.specs.declared.instructions.Instr.{Instr}
+use Rattle.ec_space.specs.declared.Core.{Core}
 use Rattle.ec_avr.specs.State.{is_core_register}
 use Rattle.ec_avr.specs.declared.machine.Access.{Access}
 use Rattle.ec_avr.specs.declared.machine.Access.TheVariants.{Silent, In, Out, Read, Write, Stack}
@@ -23,12 +24,12 @@ use Rattle.ec_select_startup.specs.Laws.{source, target, CanBeSet, HasStack, acc
 use Rattle.ec_select_reset.specs.Laws.{all_but_silent}
 
 -- a register that is looked at by its address: not SREG, and none of Y's
-abbrev pub is_seen : ℕ → Bool
-is_seen a = is_core_register a && not (a == 0x5F) && not (a == 28 || a == 29)
+abbrev pub is_seen : Core → ℕ → Bool
+is_seen core a = is_core_register core a && not (a == 0x5F) && not (a == 28 || a == 29)
 
-abbrev pub bare_kind : (size a : ℕ) → Kind
-bare_kind size a =
-    if nat_lt a 256 then (if is_seen a then Own else Barred)
+abbrev pub bare_kind : Core → (size a : ℕ) → Kind
+bare_kind core size a =
+    if nat_lt a 256 then (if is_seen core a then Own else Barred)
     else if nat_lt a size then Object else Barred
 
 abbrev pub bare_table : (size a : ℕ) → Kind
@@ -36,29 +37,30 @@ bare_table size a = if nat_lt a size then Object else Barred
 
 abbrev pub bare : Env → ℕ → Env
 bare e size = record {
+  core = e.core;
   flash = e.flash;
   word_of = e.word_of;
   address_of = e.address_of;
   base = e.base;
-  kind = bare_kind size;
+  kind = bare_kind e.core size;
   table = bare_table (length e.flash);
 }
 
 -- ---- bytes that are held lie in memory
 
-core_is_low : (a : ℕ) → is_core_register a ≡ true → a < 256
-core_is_low a h = grind arith
+core_is_low : (core : Core) (a : ℕ) → is_core_register core a ≡ true → a < 256
+core_is_low core a h = grind arith
 
-held_below : (k : Kind) (size a : ℕ) → 256 ≤ a → is_held k ≡ true → may_be k size a ≡ true → nat_lt a size ≡ true
-held_below Own size a high held may =
+held_below : (core : Core) (k : Kind) (size a : ℕ) → 256 ≤ a → is_held k ≡ true → may_be core k size a ≡ true → nat_lt a size ≡ true
+held_below core Own size a high held may =
     ⊎_elim
-    (λ c. let low = core_is_low a (and_parts (is_core_register a) (not (a == 0x5F)) c).0 in absurd (omega (arith, low, high)))
+    (λ c. let low = core_is_low core a (and_parts (is_core_register core a) (not (a == 0x5F)) c).0 in absurd (omega (arith, low, high)))
     (λ c. (and_parts (nat_le 256 a) (nat_lt a size) c).1)
-    (or_cases (is_core_register a && not (a == 0x5F)) (nat_le 256 a && nat_lt a size) may)
-held_below Object size a high held may = (and_parts (nat_le 256 a) (nat_lt a size) may).1
-held_below Port size a high held may = absurd (false≢true held)
-held_below Stacked size a high held may = absurd (false≢true held)
-held_below Barred size a high held may = absurd (false≢true held)
+    (or_cases (is_core_register core a && not (a == 0x5F)) (nat_le 256 a && nat_lt a size) may)
+held_below core Object size a high held may = (and_parts (nat_le 256 a) (nat_lt a size) may).1
+held_below core Port size a high held may = absurd (false≢true held)
+held_below core Stacked size a high held may = absurd (false≢true held)
+held_below core Barred size a high held may = absurd (false≢true held)
 
 table_below : (k : Kind) (size a : ℕ) → is_held k ≡ true → in_flash k size a ≡ true → nat_lt a size ≡ true
 table_below Own size a held may = may
@@ -67,8 +69,8 @@ table_below Port size a held may = absurd (false≢true held)
 table_below Stacked size a held may = absurd (false≢true held)
 table_below Barred size a held may = absurd (false≢true held)
 
-never_stacked : (size a : ℕ) → bare_kind size a ≡ Stacked → ⊥
-never_stacked size a h = by_tests (nat_lt a 256) (is_seen a) (nat_lt a size) h where
+never_stacked : (core : Core) (size a : ℕ) → bare_kind core size a ≡ Stacked → ⊥
+never_stacked core size a h = by_tests (nat_lt a 256) (is_seen core a) (nat_lt a size) h where
   by_tests : (b c d : Bool) → (if b then (if c then Own else Barred) else if d then Object else Barred) ≡ Stacked → ⊥
   by_tests true true d q = cc
   by_tests true false d q = cc
@@ -76,8 +78,8 @@ never_stacked size a h = by_tests (nat_lt a 256) (is_seen a) (nat_lt a size) h w
   by_tests false c false q = cc
 
 -- above the ports what is held is noted
-held_is_object : (size a : ℕ) → 256 ≤ a → is_held (bare_kind size a) ≡ true → bare_kind size a ≡ Object
-held_is_object size a high held = rw (le-ltb a 256 high) (by_test (nat_lt a size) (rw (le-ltb a 256 high) at held)) where
+held_is_object : (core : Core) (size a : ℕ) → 256 ≤ a → is_held (bare_kind core size a) ≡ true → bare_kind core size a ≡ Object
+held_is_object core size a high held = rw (le-ltb a 256 high) (by_test (nat_lt a size) (rw (le-ltb a 256 high) at held)) where
   by_test : (b : Bool) → is_held (if b then Object else Barred) ≡ true → (if b then Object else Barred) ≡ Object
   by_test true h = refl
   by_test false h = absurd (false≢true h)
@@ -91,12 +93,12 @@ table_is_object size a held = by_test (nat_lt a size) held where
 module _ (e : Env) (size : ℕ) (fit : Fits e size) where
   -- ---- that it suits
 
-  may_be_bare : (a : ℕ) → may_be (bare_kind size a) size a ≡ true
-  may_be_bare a = by_tests (nat_lt a 256) (is_seen a) (nat_lt a size) refl refl refl where
-    by_tests : (b c d : Bool) → nat_lt a 256 ≡ b → is_seen a ≡ c → nat_lt a size ≡ d
-        → may_be (if b then (if c then Own else Barred) else if d then Object else Barred) size a ≡ true
+  may_be_bare : (a : ℕ) → may_be e.core (bare_kind e.core size a) size a ≡ true
+  may_be_bare a = by_tests (nat_lt a 256) (is_seen e.core a) (nat_lt a size) refl refl refl where
+    by_tests : (b c d : Bool) → nat_lt a 256 ≡ b → is_seen e.core a ≡ c → nat_lt a size ≡ d
+        → may_be e.core (if b then (if c then Own else Barred) else if d then Object else Barred) size a ≡ true
     by_tests true true d low core there =
-        rw ((and_parts (is_core_register a && not (a == 0x5F)) (not (a == 28 || a == 29)) core).0) refl
+        rw ((and_parts (is_core_register e.core a && not (a == 0x5F)) (not (a == 28 || a == 29)) core).0) refl
     by_tests true false d low core there = refl
     by_tests false c true low core there = rw (le-leb 256 a (ltb-false a 256 low), there) refl
     by_tests false c false low core there = refl
@@ -115,8 +117,8 @@ module _ (e : Env) (size : ℕ) (fit : Fits e size) where
   pub bare_stack : HasStack e → HasStack (bare e size)
   bare_stack h = record { low = refl; high = refl; room = h.room }
 
-  noted_there : (a : ℕ) → 256 ≤ a → is_held (e.kind a) ≡ true → bare_kind size a ≡ Object
-  noted_there a high held = rw (le-ltb a 256 high, held_below (e.kind a) size a high held (fit.kinds a)) refl
+  noted_there : (a : ℕ) → 256 ≤ a → is_held (e.kind a) ≡ true → bare_kind e.core size a ≡ Object
+  noted_there a high held = rw (le-ltb a 256 high, held_below e.core (e.kind a) size a high held (fit.kinds a)) refl
 
   noted_in_flash : (a : ℕ) → is_held (e.table a) ≡ true → bare_table (length e.flash) a ≡ Object
   noted_in_flash a held = rw (table_below (e.table a) (length e.flash) a held (fit.table a)) refl
@@ -140,12 +142,12 @@ module _ (e : Env) (size : ℕ) (fit : Fits e size) where
   all_are_noted (In port byte ∷ trace) h = ap (λ z. In port byte ∷ z) (all_are_noted trace h.1)
   all_are_noted (Out port byte ∷ trace) h = ap (λ z. Out port byte ∷ z) (all_are_noted trace h.1)
   all_are_noted (Read DataBank at byte ∷ trace) h =
-      rw (held_is_object size at h.0.0 h.0.1) (ap (λ z. Read DataBank at byte ∷ z) (all_are_noted trace h.1))
+      rw (held_is_object e.core size at h.0.0 h.0.1) (ap (λ z. Read DataBank at byte ∷ z) (all_are_noted trace h.1))
   all_are_noted (Read FlashBank at byte ∷ trace) h =
       rw (table_is_object (length e.flash) at h.0) (ap (λ z. Read FlashBank at byte ∷ z) (all_are_noted trace h.1))
   all_are_noted (Write at byte ∷ trace) h =
-      rw (held_is_object size at h.0.0 h.0.1) (ap (λ z. Write at byte ∷ z) (all_are_noted trace h.1))
-  all_are_noted (Stack ∷ trace) h = absurd (never_stacked size h.0.0 h.0.1)
+      rw (held_is_object e.core size at h.0.0 h.0.1) (ap (λ z. Write at byte ∷ z) (all_are_noted trace h.1))
+  all_are_noted (Stack ∷ trace) h = absurd (never_stacked e.core size h.0.0 h.0.1)
 
   noted-append : (a b : List Access) → noted_all (bare e size) (a ++ b) ≡ noted_all (bare e size) a ++ noted_all (bare e size) b
   noted-append [] b = refl
@@ -155,7 +157,7 @@ module _ (e : Env) (size : ℕ) (fit : Fits e size) where
 
   -- all copies of initial bytes
   copies_noted : (from to n : ℕ) → ((k : ℕ) → k < n → bare_table (length e.flash) (from + k) ≡ Object)
-      → ((k : ℕ) → k < n → bare_kind size (to + k) ≡ Object)
+      → ((k : ℕ) → k < n → bare_kind e.core size (to + k) ≡ Object)
       → noted_all (bare e size) (accesses (bare e size) from to n) ≡ accesses e from to n
   copies_noted from to zero tables kinds = refl
   copies_noted from to (suc n) tables kinds =
@@ -199,7 +201,7 @@ module _ (e : Env) (size : ℕ) (fit : Fits e size) where
 
   same_near : (q a : ℕ) → IsNear e q a → IsNear (bare e size) q a
   same_near q a h =
-      let may = subst (λ (z : Kind). may_be z size a ≡ true) h.object (fit.kinds a) in
+      let may = subst (λ (z : Kind). may_be e.core z size a ≡ true) h.object (fit.kinds a) in
       let high = leb-true 256 a (and_parts (nat_le 256 a) (nat_lt a size) may).0 in
       record { based = h.based; distance_is = h.distance_is; object = noted_there e size fit a high (ap is_held h.object) }
 

@@ -107,13 +107,14 @@ pub record BeforeLaws : Type 0 where
   pub steps : StepsByInstruction
 
 module _ (laws : BeforeLaws) (e : Env) (spans : List Span) (size main end : ℕ) (s : State) (v : View) (fit : Fits e size)
-    (shows : Shows e size s.mem v) (stack : HasStack e) (can : All (CanBeSet e) spans) (beside : AllPairs (IsBeside e) spans)
+    (shows : Shows e size s.core s.mem v) (stack : HasStack e) (can : All (CanBeSet e) spans) (beside : AllPairs (IsBeside e) spans)
     (stands : HasAt e (startup_code spans main) s.pc end) (none : v.seen ≡ []) (safe : v.safe ≡ true) where
   abbrev b : Env
   b = bare e size
 
-  shows_b : Shows b size s.mem v
+  shows_b : Shows b size s.core s.mem v
   shows_b = record {
+    same = shows.same;
     flash = shows.flash;
     sized = shows.sized;
     bytes = shows.bytes;

@@ -63,7 +63,7 @@ held_is_not_stacked Port h q = cc
 held_is_not_stacked Stacked h q = cc
 held_is_not_stacked Barred h q = cc
 
-shown_numbers : (e : Env) (size : ℕ) (s : State) (v : View) → Shows e size s.mem v → HoldsNumbers v
+shown_numbers : (e : Env) (size : ℕ) (s : State) (v : View) → Shows e size s.core s.mem v → HoldsNumbers v
 shown_numbers e size s v h k u =
     rw (ap (λ f. f k) h.at) (by_test (k == 0x5F))
   where
@@ -72,15 +72,16 @@ shown_numbers e size s v h k u =
     by_test false = h.bytes k
 
 module _ (laws : StartLaws) (p : PlainIrProgram) (place entry_of : ℕ → ℕ) (e : Env) (spans : List Span) (size low : ℕ) (s : State)
-    (v : View) (inputs : Inputs) (valid : ValidIr p) (fit : Fits e size) (shows : Shows e size s.mem v)
+    (v : View) (inputs : Inputs) (valid : ValidIr p) (fit : Fits e size) (shows : Shows e size s.core s.mem v)
     (feeds : (port : ℕ) → v.inputs port ≡ inputs port) (selected : AreSelected p e place entry_of)
     (c : CanStart p e place entry_of spans low s.pc) where
   -- nothing was noted before
   abbrev v0 : View
   v0 = record { at = v.at; flags = v.flags; inputs = v.inputs; seen = []; safe = true }
 
-  shows0 : Shows e size s.mem v0
+  shows0 : Shows e size s.core s.mem v0
   shows0 = record {
+    same = shows.same;
     flash = shows.flash;
     sized = shows.sized;
     bytes = shows.bytes;
@@ -144,10 +145,10 @@ module _ (laws : StartLaws) (p : PlainIrProgram) (place entry_of : ℕ → ℕ) 
   abbrev w0 : View
   w0 = record { at = w.at; flags = w.flags; inputs = w.inputs; seen = []; safe = true }
 
-  shows_w : Shows e size goes_on.state.mem w0
+  shows_w : Shows e size goes_on.state.core goes_on.state.mem w0
   shows_w =
       let h = goes_on.shows in
-      record { flash = h.flash; sized = h.sized; bytes = h.bytes; at = h.at; flags = h.flags; feeds = h.feeds; base = h.base }
+      record { same = h.same; flash = h.flash; sized = h.sized; bytes = h.bytes; at = h.at; flags = h.flags; feeds = h.feeds; base = h.base }
 
   pointer_w : sp w ≡ top - 2
   pointer_w = pushed_pointer starts.back last top starts.pointer deep.0 deep.1
@@ -225,7 +226,7 @@ module _ (laws : StartLaws) (p : PlainIrProgram) (place entry_of : ℕ → ℕ) 
             (λ i. Reaches (within_steps p inputs) (seen_meaning e p place inputs) (noted_run e i goes_on.state)) same_inputs shown.reaches;
         within = λ m. subst (λ i. IsWithin (seen_meaning e p place inputs m) (noted_run e i goes_on.state m)) same_inputs (shown.within m);
         view = w0;
-        shown = subst (λ n. Shows e n goes_on.state.mem w0) (sym shows.sized) shows_w;
+        shown = subst (λ n. Shows e n goes_on.state.core goes_on.state.mem w0) (sym shows.sized) shows_w;
         given = same_inputs;
         initials = begin.leaves;
         safe = shown.safe;

@@ -81,7 +81,7 @@ pub record ShowsProgram (p : PlainIrProgram) (place : ℕ → ℕ) (e : Env) (sp
   pub reaches : Reaches (within_steps p inputs) (seen_meaning e p place inputs) (noted_run e v.inputs main)
   pub within : (m : ℕ) → IsWithin (seen_meaning e p place inputs m) (noted_run e v.inputs main m)
   pub view : View
-  pub shown : Shows e (length s.mem.data) main.mem view
+  pub shown : Shows e (length s.mem.data) main.core main.mem view
   pub given : view.inputs ≡ v.inputs
   pub initials : HasInitials (data_of p) place view
   pub safe : (m : ℕ) → HoldsUnlessFailed (meaning_on e p inputs m) (is_safe (run e m (AtWord main.pc view)))
@@ -89,6 +89,6 @@ pub record ShowsProgram (p : PlainIrProgram) (place : ℕ → ℕ) (e : Env) (sp
 abbrev pub ProgramsShowTheirOperations : Type 0
 ProgramsShowTheirOperations =
     (p : PlainIrProgram) (place entry_of : ℕ → ℕ) (e : Env) (spans : List Span) (size low : ℕ) (s : State) (v : View)
-    (inputs : Inputs) → ValidIr p → Fits e size → Shows e size s.mem v → ((port : ℕ) → v.inputs port ≡ inputs port)
+    (inputs : Inputs) → ValidIr p → Fits e size → Shows e size s.core s.mem v → ((port : ℕ) → v.inputs port ≡ inputs port)
     → AreSelected p e place entry_of → CanStart p e place entry_of spans low s.pc
     → ShowsProgram p place e spans v s inputs

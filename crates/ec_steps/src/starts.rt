@@ -9,14 +9,14 @@ ghost use Rattle.ec_select.specs.LaidOut.{object_steps};
 ghost use Rattle.ec_select.specs.Program.{has_initial_bytes};
 
 use ec_core::{Obj, Program, Storage, StructDef, size_of};
-use ec_space::{Bank, Seq};
+use ec_space::{Home, Seq};
 
-/// Whether an object is static and kept in the data bank.
+/// Whether an object is static and has the home data.
 fn has_initial_bytes(obj: &Obj) -> bool
     ensures { result ≡ has_initial_bytes (plain_storage obj.now.storage) obj.now.home }
 {
     match (&obj.storage, obj.home) {
-        (Storage::Static(_), Bank::Data) => true,
+        (Storage::Static(_), Home::Data) => true,
         _ => false,
     }
 }

@@ -1,7 +1,7 @@
 -- Programs whose `main` returns 0: one without objects, and one with four variables.
 use Rattle.std.specs.Prelude.{ℕ, pos, Bool, true, false, List, [], ◌∷◌, Some}
-use Rattle.ec_space.specs.declared.space.Bank.{Bank}
-use Rattle.ec_space.specs.declared.space.Bank.TheVariants as bank
+use Rattle.ec_space.specs.declared.space.Home.{Home}
+use Rattle.ec_space.specs.declared.space.Home.TheVariants as homes
 use Rattle.ec_space.specs.declared.space.SpaceId.{SpaceId}
 use Rattle.ec_space.specs.declared.space.SpaceId.TheVariants as space
 use Rattle.ec_core.specs.Plain.{expression, number, statement, return_value, static, PlainObject, PlainFunction, PlainProgram}
@@ -9,7 +9,7 @@ use Rattle.ec_core.specs.Typing.{int}
 use Rattle.ec_core.specs.declared.programs.LeafInit.TheVariants.{Number}
 
 -- an int variable with an initial value, and a name of one byte
-abbrev pub variable : (name : ℕ) (external : Bool) → SpaceId → Bank → (value : ℕ) → PlainObject
+abbrev pub variable : (name : ℕ) (external : Bool) → SpaceId → Home → (value : ℕ) → PlainObject
 variable name external space home value = record {
   name = name ∷ [];
   unit = 0;
@@ -25,8 +25,8 @@ variable name external space home value = record {
 abbrev pub variables : Bool → List PlainObject
 variables false = []
 variables true =
-    variable 113 true space.Data bank.Data 7 ∷ variable 114 true space.Data bank.Data 8
-    ∷ variable 116 true space.Flash bank.Flash 9 ∷ variable 115 false space.Data bank.Data 5 ∷ []
+    variable 113 true space.Data homes.Data 7 ∷ variable 114 true space.Data homes.Data 8
+    ∷ variable 116 true space.Flash homes.Flash 9 ∷ variable 115 false space.Data homes.Data 5 ∷ []
 
 -- int main(void) { return 0; }
 abbrev pub main_function : PlainFunction

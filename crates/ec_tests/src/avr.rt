@@ -5,12 +5,18 @@ use ec_avr::{Access, FaultKind, Image, Machine, PortAnswer, Stepped};
 use ec_space::{Bank, Core, Data, NoMemory, Place};
 use std::alloc::Global;
 
-/// The machine after a reset with the words at the start of its flash.
-fn booted(alloc: Global, words: &[u16], fill: u8) -> Result<Machine, NoMemory> {
-    let mut image = Image::new(alloc, Core::Small)?;
+/// An image of a core with the words at the start of its flash.
+pub(crate) fn image_of(alloc: Global, core: Core, words: &[u16]) -> Result<Image, NoMemory> {
+    let mut image = Image::new(alloc, core)?;
     for (i, word) in words.iter().enumerate() {
         write_word(&mut image, i, *word);
     }
+    Ok(image)
+}
+
+/// The machine after a reset with the words at the start of its flash.
+fn booted(alloc: Global, words: &[u16], fill: u8) -> Result<Machine, NoMemory> {
+    let image = image_of(alloc, Core::Small, words)?;
     Machine::boot(alloc, &image, fill)
 }
 
@@ -24,7 +30,7 @@ fn write_word(image: &mut Image, at: usize, word: u16) {
 }
 
 /// A step, where each port answers 0x2A.
-fn stepped(machine: &mut Machine) -> Stepped {
+pub(crate) fn stepped(machine: &mut Machine) -> Stepped {
     match machine.needs_port() {
         Some(_) => machine.step(PortAnswer::Byte(0x2A)),
         None => machine.step(PortAnswer::Nothing),
@@ -32,7 +38,7 @@ fn stepped(machine: &mut Machine) -> Stepped {
 }
 
 /// Whether so many steps access nothing.
-fn are_silent(machine: &mut Machine, count: u8) -> bool {
+pub(crate) fn are_silent(machine: &mut Machine, count: u8) -> bool {
     for _ in 0..count {
         if stepped(machine) != Stepped::Ran(Access::Silent) {
             return false;
@@ -42,13 +48,13 @@ fn are_silent(machine: &mut Machine, count: u8) -> bool {
 }
 
 /// Whether a byte stands at an address of the data bank.
-fn holds(machine: &Machine, offset: u32, byte: u8) -> bool {
+pub(crate) fn holds(machine: &Machine, offset: u32, byte: u8) -> bool {
     let bank = Bank::Data;
     machine.memory().load::<Data, u8>(Place { bank, offset }) == Some(byte)
 }
 
 /// `LDI Rd, k`
-fn ldi(d: u16, k: u16) -> u16
+pub(crate) fn ldi(d: u16, k: u16) -> u16
     requires upper { 16 ≤ d }
     requires register { d < 32 }
 {

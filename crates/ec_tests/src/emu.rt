@@ -272,7 +272,7 @@ static BROKEN: [(&[u8], u32, u8); 19] = [
     (b"core small ", 1, 1),
     (b"25: 00\ncore small", 2, 1),
     (b"core small\n\ncore small", 3, 1),
-    (b"core large", 1, 1),
+    (b"core large", 1, 4),
     (b"25:  hook", 1, 1),
     (b"25:hook", 1, 1),
     (b"25: hook 00", 1, 1),

@@ -7,11 +7,11 @@ use ec_io::{Failed, Sink, Written};
 use ec_space::{Core, NoMemory, Seq};
 use std::alloc::{AllocError, Global};
 
-fn read(alloc: Global, text: &[u8]) -> Result<Image, HexStop> {
+fn read(alloc: Global, core: Core, text: &[u8]) -> Result<Image, HexStop> {
     let mut bytes = Seq::new(alloc);
     bytes.extend_from_slice(text)?;
     if bytes.len() < 1_000_000 {
-        read_hex(alloc, Core::Small, &bytes)
+        read_hex(alloc, core, &bytes)
     } else {
         Err(HexStop::NoMemory)
     }
@@ -35,7 +35,7 @@ static FORMS: [&[u8]; 7] = [
 
 // Whether a text is an image of those two bytes alone.
 fn is_form(alloc: Global, text: &[u8]) -> bool {
-    match read(alloc, text) {
+    match read(alloc, Core::Small, text) {
         Ok(image) => {
             has_cell(&image, 0, 0x98, true)
                 && has_cell(&image, 1, 0x95, true)
@@ -75,8 +75,8 @@ static FAULTS: [(&[u8], HexStop); 12] = [
     ),
 ];
 
-fn stops(alloc: Global, text: &[u8], stop: HexStop) -> bool {
-    match read(alloc, text) {
+fn stops(alloc: Global, core: Core, text: &[u8], stop: HexStop) -> bool {
+    match read(alloc, core, text) {
         Ok(_) => false,
         Err(told) => told == stop,
     }
@@ -88,7 +88,7 @@ fn reads_texts(rt: HostRuntime) {
         assert!(rt; is_form(rt.alloc(), *text), "form {k}");
     }
     for &(text, stop) in &FAULTS {
-        assert!(rt; stops(rt.alloc(), text, stop), "{stop:?}");
+        assert!(rt; stops(rt.alloc(), Core::Small, text, stop), "{stop:?}");
     }
 }
 
@@ -130,12 +130,8 @@ impl Sink for Pieces {
 fn put(image: &mut Image, at: usize, bytes: &[u8]) {
     for (i, byte) in bytes.iter().enumerate() {
         let place = at.wrapping_add(i);
-        match image.core {
-            Core::Small => {
-                if place < 32_768 {
-                    image.write(place, *byte);
-                }
-            }
+        if place < image.core.flash_size() as usize {
+            image.write(place, *byte);
         }
     }
 }
@@ -170,8 +166,8 @@ static WRITTEN: [(&[(usize, &[u8])], &[u8]); 4] = [
     ),
 ];
 
-fn image(alloc: Global, runs: &[(usize, &[u8])]) -> Result<Image, NoMemory> {
-    let mut image = Image::new(alloc, Core::Small)?;
+fn image(alloc: Global, core: Core, runs: &[(usize, &[u8])]) -> Result<Image, NoMemory> {
+    let mut image = Image::new(alloc, core)?;
     for &(at, bytes) in runs {
         put(&mut image, at, bytes);
     }
@@ -183,8 +179,8 @@ fn is_written(alloc: Global, image: &Image, lines: &[u8]) -> bool {
     write_hex(&mut sink, image) == Ok(()) && sink.text.as_slice() == lines
 }
 
-fn writes(alloc: Global, runs: &[(usize, &[u8])], lines: &[u8]) -> bool {
-    match image(alloc, runs) {
+fn writes(alloc: Global, core: Core, runs: &[(usize, &[u8])], lines: &[u8]) -> bool {
+    match image(alloc, core, runs) {
         Ok(image) => is_written(alloc, &image, lines),
         Err(_) => false,
     }
@@ -200,7 +196,7 @@ static SINKS: [(usize, usize, Result<(), Written>); 5] = [
 ];
 
 fn go_out(alloc: Global, most: usize, limit: usize, want: Result<(), Written>) -> bool {
-    match image(alloc, &[(0, &[0x98, 0x95])]) {
+    match image(alloc, Core::Small, &[(0, &[0x98, 0x95])]) {
         Ok(image) => {
             let mut sink = sink(alloc, most, limit);
             write_hex(&mut sink, &image) == want
@@ -212,9 +208,54 @@ fn go_out(alloc: Global, most: usize, limit: usize, want: Result<(), Written>) -
 #[test]
 fn writes_lines(rt: HostRuntime) {
     for &(runs, lines) in &WRITTEN {
-        assert!(rt; writes(rt.alloc(), runs, lines), "{lines:?}");
+        assert!(rt; writes(rt.alloc(), Core::Small, runs, lines), "{lines:?}");
     }
     for &(most, limit, want) in &SINKS {
         assert!(rt; go_out(rt.alloc(), most, limit, want), "{most} and {limit}");
     }
+}
+
+// A record ends at a multiple of 65,536, and one of type 04 stands before the first past it.
+static WRITTEN_LARGE: [(&[(usize, &[u8])], &[u8]); 3] = [
+    (
+        &[(0xFFFF, &[1, 2])],
+        b":01FFFF000100\n|:020000040001F9\n|:0100000002FD\n|:00000001FF\n|",
+    ),
+    (
+        &[(0x1FFFF, &[3])],
+        b":020000040001F9\n|:01FFFF0003FE\n|:00000001FF\n|",
+    ),
+    (
+        &[(0, &[7]), (0x10000, &[8]), (0x10002, &[9])],
+        b":0100000007F8\n|:020000040001F9\n|:0100000008F7\n|:0100020009F4\n|:00000001FF\n|",
+    ),
+];
+
+// Whether the text of the first of these images is read as that image.
+fn is_read_back(alloc: Global, text: &[u8]) -> bool {
+    match read(alloc, Core::Large, text) {
+        Ok(image) => {
+            has_cell(&image, 0xFFFE, 0xFF, false)
+                && has_cell(&image, 0xFFFF, 1, true)
+                && has_cell(&image, 0x10000, 2, true)
+                && has_cell(&image, 0x1FFFF, 0xFF, false)
+        }
+        Err(_) => false,
+    }
+}
+
+#[test]
+fn large_images(rt: HostRuntime) {
+    for &(runs, lines) in &WRITTEN_LARGE {
+        assert!(rt; writes(rt.alloc(), Core::Large, runs, lines), "{lines:?}");
+    }
+    let text = b":01FFFF000100\n:020000040001F9\n:0100000002FD\n:00000001FF\n";
+    assert!(rt; is_read_back(rt.alloc(), text));
+    assert!(rt; stops(rt.alloc(), Core::Small, text, HexStop::OutOfFlash(1)));
+
+    // The last byte of the flash, and one past it.
+    let past = b":020000040001F9\n:02FFFF000102FC\n";
+    assert!(rt; stops(rt.alloc(), Core::Large, past, HexStop::BadRecord(2)));
+    let over = b":020000040001F9\n:01FFFF0003FE\n:020000040002F8\n:0100000000FF\n:00000001FF\n";
+    assert!(rt; stops(rt.alloc(), Core::Large, over, HexStop::OutOfFlash(4)));
 }

@@ -4,7 +4,7 @@ use ec_isa::{Instr, decode, encode, is_in_table};
 
 /// An instruction, its first word, and its second word or none: at least one for each row and form of
 /// the table.
-static ROWS: [(Instr, u16, Option<u16>); 82] = [
+static ROWS: [(Instr, u16, Option<u16>); 84] = [
     (Instr::Nop, 0x0000, None),
     (Instr::Movw { d: 26, r: 8 }, 0x01D4, None),
     (Instr::Cpc { d: 5, r: 26 }, 0x065A, None),
@@ -51,6 +51,8 @@ static ROWS: [(Instr, u16, Option<u16>); 82] = [
     (Instr::StMinusX { r: 28 }, 0x93CE, None),
     (Instr::LpmZ { d: 30 }, 0x91E4, None),
     (Instr::LpmZPlus { d: 29 }, 0x91D5, None),
+    (Instr::Elpm { d: 30 }, 0x91E6, None),
+    (Instr::ElpmInc { d: 29 }, 0x91D7, None),
     (Instr::Pop { d: 28 }, 0x91CF, None),
     (Instr::Push { r: 7 }, 0x927F, None),
     (Instr::Com { d: 24 }, 0x9580, None),
@@ -90,7 +92,7 @@ static ROWS: [(Instr, u16, Option<u16>); 82] = [
 ];
 
 /// First words that the table does not have, whatever follows.
-static OUTSIDE: [u16; 40] = [
+static OUTSIDE: [u16; 42] = [
     0x91E1, 0x91F1, // LD R30, Z+ and LD R31, Z+
     0x91E2, 0x91F2, // LD R30, -Z and LD R31, -Z
     0x91C9, 0x91D9, // LD R28, Y+ and LD R29, Y+
@@ -104,6 +106,7 @@ static OUTSIDE: [u16; 40] = [
     0x93AD, 0x93BD, // ST X+, R26 and ST X+, R27
     0x93AE, 0x93BE, // ST -X, R26 and ST -X, R27
     0x91E5, 0x91F5, // LPM R30, Z+ and LPM R31, Z+
+    0x91E7, 0x91F7, // ELPM R30, Z+ and ELPM R31, Z+
     0x940D, 0x940F, // JMP and CALL past 65,535 words
     0x0001, 0x0200, 0x0300, // no opcode, MULS, MULSU
     0x9419, 0x9518, 0x9588, 0x95A8, 0x95C8, // EIJMP, RETI, SLEEP, WDR, LPM with no register

@@ -5,6 +5,8 @@
 #[cfg(test)]
 mod avr;
 #[cfg(test)]
+mod cores;
+#[cfg(test)]
 mod emu;
 #[cfg(test)]
 mod fx;

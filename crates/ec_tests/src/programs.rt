@@ -11,7 +11,7 @@ use ec_asm::{AsmItem, AsmProgram};
 use ec_core::{CType, Expr, Func, LeafInit, Node, Obj, Program, Stmt, StmtKind, Storage};
 use ec_fx::Mode;
 use ec_isa::Instr;
-use ec_space::{Bank, NoMemory, Seq, SpaceId};
+use ec_space::{Home, NoMemory, Seq, SpaceId};
 use std::alloc::Global;
 
 fn int_type() -> CType
@@ -28,7 +28,7 @@ fn variable(
     name: u8,
     external: bool,
     space: SpaceId,
-    home: Bank,
+    home: Home,
     value: u8,
 ) -> Result<Obj, NoMemory>
     ensures { IfOk result (λ o. plain_object o ≡ variable_of name external space home value) }
@@ -54,13 +54,13 @@ fn variables(alloc: Global, some: bool) -> Result<Seq<Obj>, NoMemory>
 {
     let mut objs = Seq::new(alloc);
     if some {
-        let q = variable(alloc, b'q', true, SpaceId::Data, Bank::Data, 7)?;
+        let q = variable(alloc, b'q', true, SpaceId::Data, Home::Data, 7)?;
         objs.push(q)?;
-        let r = variable(alloc, b'r', true, SpaceId::Data, Bank::Data, 8)?;
+        let r = variable(alloc, b'r', true, SpaceId::Data, Home::Data, 8)?;
         objs.push(r)?;
-        let t = variable(alloc, b't', true, SpaceId::Flash, Bank::Flash, 9)?;
+        let t = variable(alloc, b't', true, SpaceId::Flash, Home::Flash, 9)?;
         objs.push(t)?;
-        let s = variable(alloc, b's', false, SpaceId::Data, Bank::Data, 5)?;
+        let s = variable(alloc, b's', false, SpaceId::Data, Home::Data, 5)?;
         objs.push(s)?;
     }
     Ok(objs)

@@ -1,7 +1,7 @@
 //! Lists as keys, pointers as bytes, cells and memory, on values worked out by hand.
 use ec_space::{
-    Bank, Cell, Core, Data, Flash, Generic, Mem, Name, NoMemory, Place, Pointer, Seq, Space,
-    SpaceId, Within,
+    Bank, Cell, Core, Data, FarFlash, Flash, Generic, Mem, Name, NoMemory, Place, Pointer, Seq,
+    Space, SpaceId, Within,
 };
 use std::alloc::Global;
 use std::collections::HashMap;
@@ -100,16 +100,19 @@ fn lays_out_each_type(rt: HostRuntime) {
 }
 
 /// A space, another one, and whether the first encloses it.
-static NESTED: [(SpaceId, SpaceId, bool); 3] = [
+static NESTED: [(SpaceId, SpaceId, bool); 5] = [
     (SpaceId::Generic, SpaceId::Data, true),
     (SpaceId::Data, SpaceId::Generic, false),
     (SpaceId::Flash, SpaceId::Flash, true),
+    (SpaceId::FarFlash, SpaceId::Flash, true),
+    (SpaceId::FarFlash, SpaceId::Data, false),
 ];
 
 /// Two spaces and the space of both.
-static JOINED: [(SpaceId, SpaceId, Option<SpaceId>); 2] = [
+static JOINED: [(SpaceId, SpaceId, Option<SpaceId>); 3] = [
     (SpaceId::Data, SpaceId::Generic, Some(SpaceId::Generic)),
     (SpaceId::Data, SpaceId::Flash, None),
+    (SpaceId::Flash, SpaceId::FarFlash, Some(SpaceId::FarFlash)),
 ];
 
 #[test]
@@ -125,6 +128,11 @@ fn joins_nested_spaces(rt: HostRuntime) {
 const IN_FLASH: Pointer = Pointer::At(Place {
     bank: Bank::Flash,
     offset: 0x1234,
+});
+
+const IN_FAR_FLASH: Pointer = Pointer::At(Place {
+    bank: Bank::Flash,
+    offset: 0x1_0000,
 });
 
 const IN_DATA: Pointer = Pointer::At(Place {
@@ -150,10 +158,16 @@ fn are_outside<I: Within<O>, O: Space>(table: &[[u8; 3]]) -> bool {
 
 fn pointers_are_bytes() -> bool {
     are_pointers::<Flash>(&[([0; 3], Pointer::Null), ([0x34, 0x12, 0x00], IN_FLASH)])
+        && are_pointers::<FarFlash>(&[
+            ([0; 3], Pointer::Null),
+            ([0x34, 0x12, 0x00], IN_FLASH),
+            ([0x00, 0x00, 0x01], IN_FAR_FLASH),
+        ])
         && are_pointers::<Data>(&[([0; 3], Pointer::Null), ([0xFF, 0x08, 0x00], IN_DATA)])
         && are_pointers::<Generic>(&[
             ([0; 3], Pointer::Null),
             ([0x34, 0x12, 0x00], IN_FLASH),
+            ([0x00, 0x00, 0x01], IN_FAR_FLASH),
             ([0xFF, 0x08, 0x80], IN_DATA),
         ])
 }
@@ -161,7 +175,8 @@ fn pointers_are_bytes() -> bool {
 fn bytes_are_no_pointers() -> bool {
     are_nothing::<Flash>(&[[0x34, 0x12, 0x80]])
         && are_nothing::<Data>(&[[0xFF, 0x08, 0x80], [0x00, 0x00, 0x01]])
-        && are_nothing::<Generic>(&[[0x00, 0x00, 0x80], [0x34, 0x12, 0x01], [0x34, 0x12, 0xFF]])
+        && are_nothing::<FarFlash>(&[[0x34, 0x12, 0x02], [0xFF, 0x08, 0x80]])
+        && are_nothing::<Generic>(&[[0x00, 0x00, 0x80], [0x34, 0x12, 0x02], [0x34, 0x12, 0xFF]])
 }
 
 #[test]
@@ -176,6 +191,8 @@ fn pointers_are_converted() -> bool {
             ([0; 3], [0; 3]),
             ([0x34, 0x12, 0x00], [0x34, 0x12, 0x00]),
         ])
+        && are_converted::<Flash, FarFlash>(&[([0x34, 0x12, 0x00], [0x34, 0x12, 0x00])])
+        && are_converted::<FarFlash, Generic>(&[([0x00, 0x00, 0x01], [0x00, 0x00, 0x01])])
         && are_converted::<Data, Data>(&[([0xFF, 0x08, 0x00], [0xFF, 0x08, 0x00])])
 }
 
@@ -184,6 +201,8 @@ fn converts_between_spaces(rt: HostRuntime) {
     assert!(rt; pointers_are_converted());
     assert!(rt; are_outside::<Data, Generic>(&[[0x34, 0x12, 0x00], [0x00, 0x00, 0x80]]));
     assert!(rt; are_outside::<Flash, Generic>(&[[0xFF, 0x08, 0x80]]));
+    assert!(rt; are_outside::<Flash, FarFlash>(&[[0x00, 0x00, 0x01]]));
+    assert!(rt; are_outside::<FarFlash, Generic>(&[[0xFF, 0x08, 0x80]]));
 }
 
 const fn in_data(offset: u32) -> Place {

@@ -10,7 +10,7 @@ use ec_core::Undefined::{
 };
 use ec_core::*;
 use ec_fx::{Fixed, FxKind, Mode, Num};
-use ec_space::{Bank, NoMemory, Seq, SpaceId};
+use ec_space::{Home, NoMemory, Seq, SpaceId};
 use std::alloc::Global;
 use std::process::Abort;
 
@@ -388,17 +388,23 @@ fn same_types(rt: HostRuntime) {
     assert!(rt; Arithmetic::Integer(INT).to_type().pointee().is_none());
 }
 
-/// An object of 10 bytes in the data bank, and such a one that is no more.
+/// An object of 10 bytes of the home data, such a one that is no more, and one of the home far.
 const OF: Referent = Referent {
     live: true,
     size: 10,
-    home: Bank::Data,
+    home: Home::Data,
 };
 
 const DEAD: Referent = Referent {
     live: false,
     size: 10,
-    home: Bank::Data,
+    home: Home::Data,
+};
+
+const FAR: Referent = Referent {
+    live: true,
+    size: 10,
+    home: Home::Far,
 };
 
 type Pointer = Option<ObjectPointer>;
@@ -473,11 +479,13 @@ static COMPARISONS: [(BinOp, Pointer, Referent, Pointer, Result<i128, Undefined>
     (BinOp::Eq, START, DEAD, None, Err(PointerUse)),
 ];
 
-/// A space, a pointer, and what it is there.
-static IN_SPACES: [(SpaceId, Pointer, Result<Pointer, Undefined>); 3] = [
-    (SpaceId::Generic, START, Ok(START)),
-    (SpaceId::Flash, START, Err(Narrowing)),
-    (SpaceId::Flash, None, Ok(None)),
+/// A space, a pointer, what it points into, and what it is there.
+static IN_SPACES: [(SpaceId, Pointer, Referent, Result<Pointer, Undefined>); 5] = [
+    (SpaceId::Generic, START, OF, Ok(START)),
+    (SpaceId::Flash, START, OF, Err(Narrowing)),
+    (SpaceId::Flash, None, OF, Ok(None)),
+    (SpaceId::FarFlash, START, FAR, Ok(START)),
+    (SpaceId::Flash, START, FAR, Err(Narrowing)),
 ];
 
 #[test]
@@ -487,7 +495,7 @@ fn compared_pointers(rt: HostRuntime) {
     }
     assert!(rt; pointer_truth(START, OF) == Ok(true));
     assert!(rt; pointer_truth(None, DEAD) == Ok(false));
-    for &(space, p, want) in &IN_SPACES {
-        assert!(rt; pointer_conversion(space, p, OF) == want, "{space:?}");
+    for &(space, p, of, want) in &IN_SPACES {
+        assert!(rt; pointer_conversion(space, p, of) == want, "{space:?}");
     }
 }

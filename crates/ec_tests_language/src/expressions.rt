@@ -296,6 +296,7 @@ fn fixed_name(kind: FxKind, sat: bool) -> &'static str {
 fn pointer_name(space: SpaceId, konst: bool, to: &CType) -> &'static str {
     match (space, to) {
         (SpaceId::Flash, _) => "flash pointer",
+        (SpaceId::FarFlash, _) => "far flash pointer",
         (SpaceId::Data, _) => "data pointer",
         (SpaceId::Generic, CType::Array { .. }) => "pointer to array",
         (SpaceId::Generic, CType::Struct { .. }) => "pointer to struct",

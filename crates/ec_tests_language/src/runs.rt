@@ -414,6 +414,7 @@ fn access(
     let end = match space {
         SpaceId::Generic => "",
         SpaceId::Flash => "/flash",
+        SpaceId::FarFlash => "/farflash",
         SpaceId::Data => "/data",
     };
     if leaf == 0 {

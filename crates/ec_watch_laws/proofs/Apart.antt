@@ -9,6 +9,7 @@ use Rattle.ec_space.specs.declared.space.Bank.{Bank}
 use Rattle.ec_space.specs.declared.space.Bank.TheVariants.{Flash as FlashBank, Data as DataBank}
 use Rattle.ec_space.specs.declared.space.Place.{Place}
 use Rattle.ec_space.specs.declared.space.SpaceId.{SpaceId}
+use Rattle.ec_space.specs.Spaces.{bank_of}
 use Rattle.ec_asm.specs.declared.items.AsmProgram.{AsmProgram}
 use Rattle.ec_core.specs.declared.programs.LeafInit.{LeafInit}
 use Rattle.ec_core.specs.Layout.{PlainLeaf, scalar_size, size_of_type, leaves_of_type}
@@ -72,12 +73,12 @@ data_home DataBank e = refl
 
 -- a static object of the data bank stands in memory
 in_memory : (p : PlainProgram) (m : Map) (asm : AsmProgram) (l : Located) → DataStands p m asm l → (o : ℕ) (object : PlainObject)
-    (place : Place) → slice_get p.objects o ≡ Some object → is_static object.storage ≡ true → is_data object.home ≡ true
+    (place : Place) → slice_get p.objects o ≡ Some object → is_static object.storage ≡ true → is_data (bank_of object.home) ≡ true
     → slice_get l.places.items o ≡ Some place → IsInMemory place.offset (size_of_type p.structs object.ty)
 in_memory p m asm l d o object place is s home there =
     let storage = static_of object.storage s in
     subst (λ (z : PlainStorage). StandsIn z place.offset (size_of_type p.structs object.ty)) storage.1
-    (d.objects o object place is (data_home object.home home) there)
+    (d.objects o object place is (data_home (bank_of object.home) home) there)
 
 pub have_places : ApartLaws → (p : PlainProgram) (m : Map) (asm : AsmProgram) (l : Located) → IsTranslated p m asm l
     → HavePlaces p l.places.items
@@ -141,7 +142,7 @@ module _ (p : PlainProgram) (m : Map) (asm : AsmProgram) (l : Located) (h : IsTr
   own_place = place_is point.object q.object_place q.stands
 
   names : Names p asm l point.object q.object_place.offset (size_of_type p.structs object.ty)
-  names = an_object point.object object q.object_place q.is_number.is_object (data_home object.home named.home) q.stands
+  names = an_object point.object object q.object_place q.is_number.is_object (data_home (bank_of object.home) named.home) q.stands
 
   few : point.object < 1024
   few =

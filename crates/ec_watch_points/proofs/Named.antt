@@ -19,6 +19,7 @@ use Rattle.ec_core.specs.Plain.{PlainType, void, integer, fixed, pointer, array,
 use Rattle.ec_core.specs.TypeLaws.{LeavesFillTheirTypes, IsLeafAt}
 use Rattle.ec_core.specs.Valid.{IsObject, HaveOwnNames}
 use Rattle.ec_emu_watch.specs.Points.{IsWidth, is_data}
+use Rattle.ec_space.specs.Spaces.{bank_of}
 use Rattle.ec_watch_points.specs.Numbers.{IsValid, is_static, is_named, IsNumber, HavePlaces}
 
 pub object_at : (objects : List Obj) (i : ℕ) (d : Obj) → i < length objects
@@ -92,14 +93,14 @@ found_at p objects name i d same e =
 pub record HasName (name : List ℕ) (object : PlainObject) : Type 0 where
   pub external : object.external ≡ true
   pub static : is_static object.storage ≡ true
-  pub home : is_data object.home ≡ true
+  pub home : is_data (bank_of object.home) ≡ true
   pub is : object.name ≡ name
 
 pub has_name : (name : List ℕ) (object : PlainObject) → is_named name object ≡ true → HasName name object
 has_name name object t =
     let x = object.external in
     let s = is_static object.storage in
-    let h = is_data object.home in
+    let h = is_data (bank_of object.home) in
     let n = bytes_eq object.name name in
     let a = and_parts ((x && s) && h) n t in
     let b = and_parts (x && s) h a.0 in

@@ -14,6 +14,7 @@ use Rattle.ec_core.specs.Layout.{PlainLeaf, scalar_size, size_of_type, leaves_of
 use Rattle.ec_core.specs.Plain.{PlainStorage, static, local, param, register, PlainObject, PlainProgram}
 use Rattle.ec_core.specs.Valid.{Valid}
 use Rattle.ec_emu_watch.specs.Points.{is_data}
+use Rattle.ec_space.specs.Spaces.{bank_of}
 use Rattle.ec_emu_watch.specs.declared.point.WatchPoint.{WatchPoint}
 
 -- it is valid beside the ports of some map
@@ -28,7 +29,7 @@ is_static (register first) = false
 
 -- an external static object of a name, which is kept in the data bank
 abbrev pub is_named : List ℕ → PlainObject → Bool
-is_named name object = ((object.external && is_static object.storage) && is_data object.home) && bytes_eq object.name name
+is_named name object = ((object.external && is_static object.storage) && is_data (bank_of object.home)) && bytes_eq object.name name
 
 -- leaf k of object o, which has such a name, is a number of a type
 pub record IsNumber (p : PlainProgram) (name : List ℕ) (k o : ℕ) (leaf : PlainLeaf) (ty : Arithmetic) : Type 0 where
@@ -64,5 +65,5 @@ IsPoint p places name k (Some point) = IsPointOf p places name k point
 pub record HavePlaces (p : PlainProgram) (places : List Place) : Type 0 where
   pub each : length places ≡ length p.objects
   pub low : (o : ℕ) (object : PlainObject) (place : Place) → slice_get p.objects o ≡ Some object
-      → IsTrue (is_static object.storage) → IsTrue (is_data object.home) → slice_get places o ≡ Some place
+      → IsTrue (is_static object.storage) → IsTrue (is_data (bank_of object.home)) → slice_get places o ≡ Some place
       → place.offset + size_of_type p.structs object.ty ≤ 65536

@@ -4,6 +4,7 @@ ghost use Rattle.ec_core.specs.ArithmeticTypes.{arithmetic_of};
 ghost use Rattle.ec_core.specs.Layout.{PlainLeaf, scalar_size};
 ghost use Rattle.ec_core.specs.Plain.{PlainType, plain_object, plain_program, plain_storage};
 ghost use Rattle.ec_emu_watch.specs.Points.{IsWidth, is_data};
+ghost use Rattle.ec_space.specs.Spaces.{bank_of};
 ghost use Rattle.ec_watch_points.specs.Numbers.{IsValid, is_static, is_named, is_signed, IsPoint, HavePlaces};
 
 use ec_core::{Arithmetic, Leaf, Obj, Program, Storage, leaves, leaves_fill_their_types};
@@ -21,9 +22,9 @@ fn is_static(object: &Obj) -> bool
 }
 
 fn is_in_data(object: &Obj) -> bool
-    ensures { result ≡ is_data object.now.home }
+    ensures { result ≡ is_data (bank_of object.now.home) }
 {
-    match object.home {
+    match object.home.bank() {
         Bank::Flash => false,
         Bank::Data => true,
     }

@@ -91,10 +91,11 @@ pub static MAP_RULES: [&str; 18] = [
 ];
 
 /// What each rule of a line of a script asks, by its number. The first row is rule 1.
-pub static SCRIPT_RULES: [&str; 3] = [
+pub static SCRIPT_RULES: [&str; 4] = [
     "a line is two hexadecimal digits, `:`, and then bytes, each behind a space, or ` hook`",
-    "the address is that of a port: 0x20 to 0xFF but for 0x5D, 0x5E and 0x5F",
+    "the address is that of a port: 0x20 to 0xFF but for 0x5D, 0x5E and 0x5F, and on the core large 0x5B",
     "an earlier line has the same address",
+    "the line names another core than the program is made for",
 ];
 
 /// What each rule of a line of a listing asks, by its number. The first row is rule 1.

@@ -1,5 +1,5 @@
 //! Where the program counter goes.
-ghost use Rattle.std.specs.Prelude.{◌≡◌};
+ghost use Rattle.std.specs.Prelude.{◌≡◌, Some};
 ghost use Rattle.ec_avr.specs.Effects.{relative as relative_of, has_two_words as has_two_words_of};
 
 use super::{Access, Machine, Stepped};
@@ -72,12 +72,22 @@ pub(super) fn relative(pc: u16, k: i16) -> u32
     }
 }
 
+/// Whether an instruction of the table has two words.
+fn has_second_word(instruction: Instr) -> bool
+    ensures { result ≡ has_two_words_of (Some instruction) }
+{
+    match instruction {
+        Instr::Lds { .. } | Instr::Sts { .. } | Instr::Jmp { .. } | Instr::Call { .. } => true,
+        _ => false,
+    }
+}
+
 /// Whether an instruction has two words.
 pub(crate) fn is_of_two_words(instruction: Option<Instr>) -> bool
     ensures { result ≡ has_two_words_of instruction }
 {
-    matches!(
-        instruction,
-        Some(Instr::Lds { .. } | Instr::Sts { .. } | Instr::Jmp { .. } | Instr::Call { .. })
-    )
+    match instruction {
+        Some(instruction) => has_second_word(instruction),
+        None => false,
+    }
 }

@@ -15,6 +15,9 @@ pub(super) const Z: u8 = 30;
 /// The data address of SPL, which SPH follows.
 pub(super) const SP: u8 = 0x5D;
 
+/// The data address of RAMPZ.
+pub(super) const RAMPZ: u8 = 0x5B;
+
 /// The data address of SREG.
 pub(super) const SREG: u8 = 0x5F;
 
@@ -22,7 +25,7 @@ impl Machine {
     ghost use Rattle.std.specs.Prelude.{◌≡◌, ◌+◌, ◌%◌, ◌<◌, ◌≤◌, nat_lt, length, slice_index};
     ghost use Rattle.ec_avr.specs.State.{byte_at, with_byte, register, with_register, pair, with_pair, stack_pointer};
     ghost use Rattle.ec_avr.specs.State.{with_stack_pointer, sreg, with_sreg, flag, is_sram, is_in_flash, word_at};
-    ghost use Rattle.ec_avr.specs.State.{with_pc, passed};
+    ghost use Rattle.ec_avr.specs.State.{with_pc, passed, far_pointer, with_far_pointer};
 
     /// The byte at a data address below 0x0100.
     pub(super) fn low_byte(&self, at: u8) -> u8
@@ -133,6 +136,21 @@ impl Machine {
         ensures { result ≡ (pair self.now pointer + q) % 65536 }
     {
         self.pair(pointer).wrapping_add(q as u16)
+    }
+
+    /// The number in RAMPZ:Z.
+    pub(super) fn far_pointer(&self) -> u32
+        ensures { result ≡ far_pointer self.now }
+    {
+        65536 * self.low_byte(RAMPZ) as u32 + self.pair(Z) as u32
+    }
+
+    pub(super) fn set_far_pointer(&mut self, n: u32)
+        requires { n < 16777216 }
+        ensures { self.new ≡ with_far_pointer self.old n }
+    {
+        self.set_pair(Z, (n % 65536) as u16);
+        self.set_low_byte(RAMPZ, (n / 65536) as u8);
     }
 
     pub(super) fn stack_pointer(&self) -> u16

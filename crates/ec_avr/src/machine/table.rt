@@ -116,6 +116,8 @@ impl Machine {
             Instr::StMinusX { r } => self.lower_and_store(X, self.register(r)),
             Instr::LpmZ { d } => self.load_flash(d),
             Instr::LpmZPlus { d } => self.load_flash_and_raise(d),
+            Instr::Elpm { d } => self.load_far(d),
+            Instr::ElpmInc { d } => self.load_far_and_raise(d),
             Instr::Push { r } => self.push(self.register(r)),
             Instr::Pop { d } => self.pop(d),
             Instr::Call { k } => self.call(k as u32, self.pc as u32 + 2),

@@ -4,13 +4,16 @@ ghost use Rattle.ec_avr.specs.Effects.{load_access as access_of_load, store_acce
 
 use super::places::*;
 use super::{Access, FaultKind, Machine, Stepped};
-use ec_isa::{is_core_register, is_kept, is_port, lowered, post_increment, raised, return_address};
-use ec_space::Bank;
+use ec_isa::{
+    has_rampz, is_core_register, is_kept, is_port, lowered, post_increment, raised, return_address,
+};
+use ec_space::{Bank, Core};
 
 impl Machine {
     ghost use Rattle.std.specs.Prelude.{◌≡◌, ◌<◌, length};
     ghost use Rattle.ec_avr.specs.Effects.{faulted, loaded, stored, load, load_and_raise, lower_and_load, store};
     ghost use Rattle.ec_avr.specs.Effects.{store_and_raise, lower_and_store, load_flash, load_flash_and_raise, push};
+    ghost use Rattle.ec_avr.specs.Effects.{if_rampz, load_far, load_far_and_raise};
     ghost use Rattle.ec_avr.specs.Effects.{pop, call, return_from_call};
 
     /// The step cannot be made.
@@ -25,7 +28,7 @@ impl Machine {
         requires { at < length self.now.mem.data }
         ensures { result ≡ loaded self.now at answer }
     {
-        if is_port(at) {
+        if is_port(self.core, at) {
             answer
         } else {
             self.byte_at(at)
@@ -37,7 +40,7 @@ impl Machine {
         requires { at < length self.old.mem.data }
         ensures { self.new ≡ stored self.old at byte }
     {
-        if is_kept(at) {
+        if is_kept(self.core, at) {
             self.set_byte(at, byte);
         }
     }
@@ -52,7 +55,7 @@ impl Machine {
         let byte = self.loaded(at, answer);
         self.set_register(d, byte);
         self.pass(words);
-        Stepped::Ran(load_access(at, byte))
+        Stepped::Ran(load_access(self.core, at, byte))
     }
 
     pub(super) fn load_and_raise(&mut self, d: u8, pointer: u8, answer: u8) -> Stepped
@@ -68,7 +71,7 @@ impl Machine {
         self.set_register(d, byte);
         self.set_pair(pointer, next);
         self.pass(1);
-        Stepped::Ran(load_access(at, byte))
+        Stepped::Ran(load_access(self.core, at, byte))
     }
 
     pub(super) fn lower_and_load(&mut self, d: u8, pointer: u8, answer: u8) -> Stepped
@@ -84,7 +87,7 @@ impl Machine {
         let byte = self.loaded(at, answer);
         self.set_register(d, byte);
         self.pass(1);
-        Stepped::Ran(load_access(at, byte))
+        Stepped::Ran(load_access(self.core, at, byte))
     }
 
     pub(super) fn store(&mut self, at: u16, byte: u8, words: u8) -> Stepped
@@ -96,7 +99,7 @@ impl Machine {
         }
         self.put(at, byte);
         self.pass(words);
-        Stepped::Ran(store_access(at, byte))
+        Stepped::Ran(store_access(self.core, at, byte))
     }
 
     pub(super) fn store_and_raise(&mut self, pointer: u8, byte: u8) -> Stepped
@@ -111,7 +114,7 @@ impl Machine {
         self.put(at, byte);
         self.set_pair(pointer, next);
         self.pass(1);
-        Stepped::Ran(store_access(at, byte))
+        Stepped::Ran(store_access(self.core, at, byte))
     }
 
     pub(super) fn lower_and_store(&mut self, pointer: u8, byte: u8) -> Stepped
@@ -126,7 +129,7 @@ impl Machine {
         self.set_pair(pointer, to);
         self.put(to, byte);
         self.pass(1);
-        Stepped::Ran(store_access(to, byte))
+        Stepped::Ran(store_access(self.core, to, byte))
     }
 
     pub(super) fn load_flash(&mut self, d: u8) -> Stepped
@@ -155,6 +158,43 @@ impl Machine {
         let byte = self.flash_byte(at);
         self.set_register(d, byte);
         self.set_pair(Z, next);
+        self.pass(1);
+        Stepped::Ran(flash_access(at, byte))
+    }
+
+    /// Loads by RAMPZ:Z, where the core has RAMPZ.
+    pub(super) fn load_far(&mut self, d: u8) -> Stepped
+        ensures stepped { result ≡ (if_rampz (load_far d) self.old).stepped }
+        ensures state { self.new ≡ (if_rampz (load_far d) self.old).state }
+    {
+        if !has_rampz(self.core) {
+            return self.faulted(FaultKind::Unsupported);
+        }
+        let at = self.far_pointer();
+        if !self.has_flash(at) {
+            return self.faulted(FaultKind::DataOut);
+        }
+        let byte = self.flash_byte(at);
+        self.set_register(d, byte);
+        self.pass(1);
+        Stepped::Ran(flash_access(at, byte))
+    }
+
+    /// The same, after which RAMPZ:Z is one more.
+    pub(super) fn load_far_and_raise(&mut self, d: u8) -> Stepped
+        ensures stepped { result ≡ (if_rampz (load_far_and_raise d) self.old).stepped }
+        ensures state { self.new ≡ (if_rampz (load_far_and_raise d) self.old).state }
+    {
+        if !has_rampz(self.core) {
+            return self.faulted(FaultKind::Unsupported);
+        }
+        let at = self.far_pointer();
+        if !self.has_flash(at) {
+            return self.faulted(FaultKind::DataOut);
+        }
+        let byte = self.flash_byte(at);
+        self.set_register(d, byte);
+        self.set_far_pointer((at + 1) % 16777216);
         self.pass(1);
         Stepped::Ran(flash_access(at, byte))
     }
@@ -221,10 +261,10 @@ impl Machine {
     }
 }
 
-fn load_access(at: u16, byte: u8) -> Access
-    ensures { result ≡ access_of_load at byte }
+fn load_access(core: Core, at: u16, byte: u8) -> Access
+    ensures { result ≡ access_of_load core at byte }
 {
-    if is_core_register(at) {
+    if is_core_register(core, at) {
         Access::Silent
     } else if at < 256 {
         Access::In {
@@ -240,10 +280,10 @@ fn load_access(at: u16, byte: u8) -> Access
     }
 }
 
-fn store_access(at: u16, byte: u8) -> Access
-    ensures { result ≡ access_of_store at byte }
+fn store_access(core: Core, at: u16, byte: u8) -> Access
+    ensures { result ≡ access_of_store core at byte }
 {
-    if is_core_register(at) {
+    if is_core_register(core, at) {
         Access::Silent
     } else if at < 256 {
         Access::Out {

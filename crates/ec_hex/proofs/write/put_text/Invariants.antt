@@ -6,9 +6,9 @@ use Rattle.ec_hex.proofs.write.put_text.Given as goal
 abbrev pub invariant-runs : goal.invariant-runs
 invariant-runs g l = record {
   within : l.at ≤ length l.bytes;
-  few : l.done ≤ 44 * l.at;
+  few : l.done ≤ 60 * l.at;
   sent : Sent (g.O.Sink.written l.fn.sink) (g.O.Sink.written l.sink) l.done
-      (text_from l.at 0 (drop l.at (contents l.bytes l.written))) (hex_text l.bytes l.written);
+      (text_from l.base l.at 0 (drop l.at (contents l.bytes l.written))) (hex_text l.bytes l.written);
   rest : g.O.Sink.rest l.sink ≡ g.O.Sink.rest l.fn.sink;
   later : g.O.Sink.faults l.fn.sink ≤ g.O.Sink.faults l.sink;
   calm : (room : ℕ) → g.O.Sink.calm l.fn.sink room → length (hex_text l.bytes l.written) ≤ room
