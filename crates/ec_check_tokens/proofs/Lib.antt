@@ -1,0 +1,12 @@
+-- For this crate alone.
+mod Reached
+mod Passed
+mod FirstTokens
+mod Inside
+mod Outside
+mod Values
+mod Bodies
+mod Programs
+mod Linkages
+mod ConstantForms
+mod Samples

@@ -1,0 +1,8 @@
+-- Overflow states and first tokens, as the tokens of a unit have them.
+pub mod States
+pub mod FirstTokens
+pub mod Parts
+pub mod NodeStates
+pub mod Linkages
+pub mod ConstantForms
+pub mod Laws
