@@ -7,8 +7,9 @@ use Rattle.ec_ir.specs.Operations.{PlainIr, constant, copy, address, field, load
 use Rattle.ec_ir.specs.Operations.{store_object, binary_op, unary_op, conversion, label, jump, branch_zero}
 use Rattle.ec_ir.specs.Operations.{call_function, return_from, port_in, port_out}
 use Rattle.ec_select_operations.specs.Code.{result_wanted, wanted_behind, wanted_bytes, register_places}
+use Rattle.ec_ir_known.specs.declared.known.RightNumber.{RightNumber}
 use Rattle.ec_select_operations.specs.Needs.{Need, at_least, without, either, wanted, is_whole, first_wanted, second_wanted}
-use Rattle.ec_select_operations.specs.Needs.{only_wanted, index_needed, without_result, number_taken, right_needed, before}
+use Rattle.ec_select_operations.specs.Needs.{only_wanted, index_needed, without_result, number_taken, compared_bytes, right_needed, before}
 use Rattle.ec_select_operations.specs.Needs.{facts_of, known_right, needs}
 use Rattle.ec_select_operations.specs.Written.{row_from, kept_row, kept_rows}
 use Rattle.ec_select_live.specs.Places.{HasPlace, HasPlaces, HavePlaces}
@@ -50,13 +51,13 @@ same_index s None a b h = h
 same_index s (Some t) a b h = same_least s t.at 1 1 a b refl h
 
 -- of a second operand that may be taken as a number
-same_right : (s : ℕ) (taken : Option ℤ) (to : Temp) (at : ℕ) (f : ℕ → ℕ) (a b : Need) → HasPlace s to → AreSame s a b
+same_right : (s : ℕ) (taken : Option RightNumber) (to : Temp) (at : ℕ) (f : ℕ → ℕ) (a b : Need) → HasPlace s to → AreSame s a b
     → AreSame s (right_needed taken at (f (wanted a to)) (without to.at a)) (right_needed taken at (f (wanted b to)) (without to.at b))
 same_right s None to at f a b l h = same_value s to at f a b l h
 same_right s (Some k) to at f a b l h = same_without s to.at a b h
 
 module _ (s : ℕ) (here there : ℕ → Need) where
-  before_same : (n : Option ℤ) (i : PlainIr) (a b : Need) → HasPlaces s i → TellSame s here there i → AreSame s a b
+  before_same : (n : Option RightNumber) (i : PlainIr) (a b : Need) → HasPlaces s i → TellSame s here there i → AreSame s a b
       → AreSame s (before here n i a) (before there n i b)
   before_same n (constant t x) a b l k h = same_without s t.at a b h
   before_same n (copy to from) a b l k h = same_value s to from.at (λ n. n) a b l.0 h
@@ -65,10 +66,10 @@ module _ (s : ℕ) (here there : ℕ → Need) where
   before_same n (binary_op op ty mode to x xty y yty) a b l k h =
       let w = is_whole xty || is_whole yty in
       let taken = number_taken n w op in
-      same_least s x.at (first_wanted w op x.bytes (wanted a to)) (first_wanted w op x.bytes (wanted b to))
+      same_least s x.at (first_wanted w op (compared_bytes taken x.bytes) (wanted a to)) (first_wanted w op (compared_bytes taken x.bytes) (wanted b to))
       (right_needed taken y.at (second_wanted w op y.bytes (wanted a to)) (without to.at a))
       (right_needed taken y.at (second_wanted w op y.bytes (wanted b to)) (without to.at b))
-      (λ j. first_wanted w op x.bytes (same_wanted s to a b l.0 h j))
+      (λ j. first_wanted w op (compared_bytes taken x.bytes) (same_wanted s to a b l.0 h j))
       (same_right s taken to y.at (second_wanted w op y.bytes) a b l.0 h)
   before_same n (unary_op op ty mode to x) a b l k h = same_value s to x.at (only_wanted (is_whole ty) x.bytes) a b l.0 h
   before_same n (conversion to ty mode x xty) a b l k h =

@@ -1,10 +1,11 @@
 -- What is known of a converted integer is so.
-use Rattle.std.proofs.Common.{◌≡◌, ℕ, zero, suc, ◌+◌, ◌*◌, ◌^◌, Bool, true, false, ℤ, pos}
-use Rattle.std.proofs.Common.{◌-ℤ◌, ◌&&◌, unsigned_abs}
-use Rattle.std.proofs.Common.{Option, Some, None, Ok, refl, sym, ap, ◌∙◌, arith, pow-add}
+use Rattle.std.proofs.Common.{◌≡◌, ◌⊎◌, inl, inr, ⊎_elim, ℕ, zero, suc, ◌+◌, ◌*◌, ◌%◌, ◌^◌, ◌<◌, ◌≤◌, Bool, true, false, ℤ, pos}
+use Rattle.std.proofs.Common.{◌-ℤ◌, ◌&&◌, ◌||◌, not, unsigned_abs}
+use Rattle.std.proofs.Common.{Option, Some, None, Ok, refl, sym, ap, ◌∙◌, subst, arith, pow-add}
 use Rattle.std.specs.Prelude.{◌==◌, if◌then◌else◌, nat_le}
 use Rattle.std.specs.Int.{int_rem_euclid}
-use Rattle.std.proofs.lemmas.Bool.{eqb-true}
+use Rattle.std.proofs.lemmas.Bool.{eqb-true, and_parts, or_cases}
+use Rattle.std.proofs.lemmas.Bool.Decides.{nat_tests}
 use native.Mathlib.Nat.{pow-suc}
 use Rattle.ec_fx.specs.declared.numbers.Mode.{Mode}
 use Rattle.ec_core.specs.declared.values.Value.{Value}
@@ -16,10 +17,12 @@ use Rattle.ec_core.specs.Operators.{conversion_result}
 use Rattle.ec_core.specs.Plain.{PlainType, void, integer, fixed, pointer, array, struct, PlainProgram}
 use Rattle.ec_core.specs.State.{State}
 use Rattle.ec_ir.specs.declared.operations.Temp.{Temp}
-use Rattle.ec_ir.specs.Temporaries.{bits, Held, Temps, low_bytes, number_of_bytes, content_of, value_of_type}
+use Rattle.ec_ir.specs.Temporaries.{Content, bits, points, Held, Temps, low_bytes, number_of_bytes, content_of, value_of_type}
 use Rattle.ec_ir_known.specs.declared.known.KnownNumber.{KnownNumber}
-use Rattle.ec_ir_known.specs.Known.{Known, of_bytes, is_integer_size, brought, converted, operand_number, known_as}
-use Rattle.ec_ir_known.proofs.Places.{known_number, holding, held_of, Knows}
+use Rattle.ec_ir_known.specs.Known.{Known, of_bytes, is_integer_size, brought, converted, operand_number, known_as, is_any}
+use Rattle.ec_ir_known.specs.Known.{is_byte_of, byte_in, byte_left, keeps_bytes}
+use Rattle.ec_ir_known.specs.Laws.{are_bits}
+use Rattle.ec_ir_known.proofs.Places.{known_number, holding, IsSo, Knows, number_so, byte_so, byte_left_so}
 
 powers : (b : ℕ) → 2 ^ (8 * b) ≡ 256 ^ b
 powers zero = refl
@@ -33,83 +36,217 @@ wrapped_is s b n =
     let low = λ (p : ℕ). unsigned_abs (int_rem_euclid n (pos p)) in
     ap (λ (p : ℕ). if s && nat_le p (2 * low p) then pos (low p) -ℤ pos p else pos (low p)) (sym (powers b))
 
--- the operand is known, and so is the result
-record IsBrought (to a : Temp) (ty from : IntegerType) (known : Known) (k : KnownNumber) : Type 0 where
-  number : KnownNumber
-  operand : known a.at ≡ Some number
-  same : number.bytes ≡ a.bytes
-  bytes : a.bytes ≡ from.bytes
-  is : known_number to.bytes (brought ty from number.number) ≡ k
-
 abbrev of_type : Bool → ℕ → IntegerType
 of_type s b = record { signed = s; bytes = b }
 
-module _ (to a : Temp) (r : Bool) (m : ℕ) (s : Bool) (b : ℕ) (known : Known) (k : KnownNumber) where
-  abbrev Brought : Type 0
-  Brought = IsBrought to a (of_type r m) (of_type s b) known k
+abbrev fact : ℕ → Option ℤ → KnownNumber
+fact bytes number = record { bytes = bytes; number = number }
 
-  by_size : (j : KnownNumber) → known a.at ≡ Some j → a.bytes ≡ b → j.bytes ≡ a.bytes → (x : Bool)
-      → (if x then known_as to (brought (of_type r m) (of_type s b) j.number) else None) ≡ Some k → Brought
-  by_size j i e l true q =
-      let both : Some (known_number to.bytes (brought (of_type r m) (of_type s b) j.number)) ≡ Some k = q in
-      let is : known_number to.bytes (brought (of_type r m) (of_type s b) j.number) ≡ k = cc in
-      record { number = j; operand = i; same = l; bytes = e; is = is }
-  by_size j i e l false q = let no : None ≡ Some k = q in absurd cc
+-- a number of two or four bytes that is below 256 is itself
+wrapped_byte : (r : Bool) (m low : ℕ) → (m ≡ 2) ⊎ (m ≡ 4) → low < 256 → wrapped (of_type r m) (pos low) ≡ pos low
+wrapped_byte r m low (inl q) l = rw q (two r)
+  where
+    rest : low % 65536 ≡ low
+    rest = omega (arith, l)
 
-  by_bytes : (j : KnownNumber) → known a.at ≡ Some j → a.bytes ≡ b → (x : Bool) → (j.bytes == a.bytes) ≡ x
-      → converted to (integer r m) (integer s b) (if x then Some j.number else None) ≡ Some k → Brought
-  by_bytes j i e true l q = by_size j i e (eqb-true j.bytes a.bytes l) (is_integer_size m && is_integer_size b) q
-  by_bytes j i e false l q = let no : None ≡ Some k = q in absurd cc
+    small : nat_le 65536 (2 * low) ≡ false
+    small = grind (arith, nat_tests, l)
 
-  by_known : (o : Option KnownNumber) → known a.at ≡ o → (x : Bool) → (a.bytes == b) ≡ x
-      → converted to (integer r m) (integer s b) (if x then of_bytes a.bytes o else None) ≡ Some k → Brought
-  by_known None i true l q = let no : None ≡ Some k = q in absurd cc
-  by_known (Some j) i true l q = by_bytes j i (eqb-true a.bytes b l) (j.bytes == a.bytes) refl q
-  by_known o i false l q = let no : None ≡ Some k = q in absurd cc
+    two : (r : Bool) → wrapped (of_type r 2) (pos low) ≡ pos low
+    two true = rw (rest, small) refl
+    two false = rw rest refl
+wrapped_byte r m low (inr q) l = rw q (four r)
+  where
+    rest : low % 4294967296 ≡ low
+    rest = omega (arith, l)
 
-  is_brought : converted to (integer r m) (integer s b) (operand_number known a (integer s b)) ≡ Some k → Brought
-  is_brought q = by_known (known a.at) refl (a.bytes == b) refl q
+    small : nat_le 4294967296 (2 * low) ≡ false
+    small = grind (arith, nat_tests, l)
+
+    four : (r : Bool) → wrapped (of_type r 4) (pos low) ≡ pos low
+    four true = rw (rest, small) refl
+    four false = rw rest refl
+
+low_of_byte : (b low : ℕ) → low < 256 → low_bytes b (pos low) < 256
+low_of_byte b low l = let m : low % 256 ^ b ≤ low = omega arith in omega (arith, m, l)
+
+-- what stands where a number is known
+content_there : (bytes : ℕ) (n : ℤ) (h : Held) → IsSo (known_number bytes n) (Some h) → h.content ≡ bits (low_bytes bytes n)
+content_there bytes n h so = by_content h.content refl
+  where
+    by_content : (c : Content) → h.content ≡ c → c ≡ bits (low_bytes bytes n)
+    by_content (bits low) q =
+        let p = and_parts (h.bytes == bytes) (are_bits (Some n) bytes h.content) so in
+        let t : are_bits (Some n) bytes (bits low) ≡ true = subst (λ (c : Content). are_bits (Some n) bytes c ≡ true) q p.1 in
+        ap bits (eqb-true low (low_bytes bytes n) t)
+    by_content (points p) q =
+        let u = and_parts (h.bytes == bytes) (are_bits (Some n) bytes h.content) so in
+        let t : are_bits (Some n) bytes (points p) ≡ true = subst (λ (c : Content). are_bits (Some n) bytes c ≡ true) q u.1 in
+        absurd cc
+
+byte_there : (bytes low : ℕ) (h : Held) → IsSo (record { bytes = bytes; number = None }) (Some h) → h.content ≡ bits low → low < 256
+byte_there bytes low h so q =
+    let p = and_parts (h.bytes == bytes) (are_bits None bytes h.content) so in
+    let t : are_bits None bytes (bits low) ≡ true = subst (λ (c : Content). are_bits None bytes c ≡ true) q p.1 in
+    grind (arith, nat_tests, t)
+
+-- the operand is known to hold a number
+record IsOperand (a : Temp) (b : ℕ) (known : Known) (n : ℤ) : Type 0 where
+  operand : known a.at ≡ Some (known_number b n)
+
+is_operand : (a : Temp) (s : Bool) (b : ℕ) (known : Known) (n : ℤ) → operand_number known a (integer s b) ≡ Some n
+    → IsOperand a b known n
+is_operand a s b known n q = by_size (a.bytes == b) refl q
+  where
+    by_known : (o : Option KnownNumber) → known a.at ≡ o → a.bytes ≡ b → of_bytes a.bytes o ≡ Some n → IsOperand a b known n
+    by_known None i e q = let no : None ≡ Some n = q in absurd cc
+    by_known (Some j) i e q = by_bytes (j.bytes == a.bytes) refl q
+      where
+        by_bytes : (x : Bool) → (j.bytes == a.bytes) ≡ x → (if x then j.number else None) ≡ Some n → IsOperand a b known n
+        by_bytes true l q =
+            let size : j.bytes ≡ b = eqb-true j.bytes a.bytes l ∙ e in
+            let is : j ≡ known_number b n =
+            ap (λ (x : ℕ). fact x j.number) size ∙ ap (λ (x : Option ℤ). fact b x) q in
+            record { operand = i ∙ ap Some is }
+        by_bytes false l q = let no : None ≡ Some n = q in absurd cc
+
+    by_size : (x : Bool) → (a.bytes == b) ≡ x → (if x then of_bytes a.bytes (known a.at) else None) ≡ Some n → IsOperand a b known n
+    by_size true l q = by_known (known a.at) refl (eqb-true a.bytes b l) q
+    by_size false l q = let no : None ≡ Some n = q in absurd cc
+
+-- or a number below 256
+is_byte_operand : (a : Temp) (known : Known) → is_byte_of 1 (known a.at) ≡ true → known a.at ≡ Some (fact 1 None)
+is_byte_operand a known q = by_known (known a.at) refl q
+  where
+    by_known : (o : Option KnownNumber) → known a.at ≡ o → is_byte_of 1 o ≡ true → known a.at ≡ Some (fact 1 None)
+    by_known None i q = absurd cc
+    by_known (Some j) i q = by_number j.number refl
+      where
+        p : ((j.bytes == 1) ≡ true) × (is_any j.number ≡ true)
+        p = and_parts (j.bytes == 1) (is_any j.number) q
+
+        by_number : (o : Option ℤ) → j.number ≡ o → known a.at ≡ Some (fact 1 None)
+        by_number None e =
+            i ∙ ap Some (ap (λ (x : ℕ). fact x j.number) (eqb-true j.bytes 1 p.0) ∙ ap (λ (x : Option ℤ). fact 1 x) e)
+        by_number (Some n) e = let no : is_any (Some n) ≡ true = subst (λ (x : Option ℤ). is_any x ≡ true) e p.1 in absurd cc
+
+record AreKept (r : Bool) (m : ℕ) (s : Bool) (b : ℕ) : Type 0 where
+  more : (m ≡ 2) ⊎ (m ≡ 4)
+  unsigned : s ≡ false
+  one : b ≡ 1
+
+are_kept : (r : Bool) (m : ℕ) (s : Bool) (b : ℕ) → keeps_bytes (of_type r m) (of_type s b) ≡ true → AreKept r m s b
+are_kept r m s b q =
+    let p = and_parts (m == 2 || m == 4) (not s && b == 1) q in
+    let u = and_parts (not s) (b == 1) p.1 in
+    record { more = sizes p.0; unsigned = none s u.0; one = eqb-true b 1 u.1 }
+  where
+    sizes : (m == 2 || m == 4) ≡ true → (m ≡ 2) ⊎ (m ≡ 4)
+    sizes t =
+        ⊎_elim (λ (x : (m == 2) ≡ true). inl (eqb-true m 2 x)) (λ (x : (m == 4) ≡ true). inr (eqb-true m 4 x))
+        (or_cases (m == 2) (m == 4) t)
+
+    none : (x : Bool) → not x ≡ true → x ≡ false
+    none true t = absurd cc
+    none false t = refl
 
 -- what a conversion leaves
 module _ (program : PlainProgram) (to a : Temp) (mode : Mode) (known : Known) (temps : Temps) (h : Held) (x v : Value) (s1 : State)
     (k : KnownNumber) (knows : Knows known temps) (i : temps a.at ≡ Some h) where
-  integer_left : (r : Bool) (m : ℕ) (s : Bool) (b : ℕ) → value_of_type program (integer s b) h.content ≡ Ok x
+  abbrev Left : Type 0
+  Left = IsSo k (Some (holding to.bytes (content_of to.bytes v)))
+
+  so_there : (j : KnownNumber) → known a.at ≡ Some j → IsSo j (Some h)
+  so_there j q = subst (λ (o : Option Held). IsSo j o) i (knows a.at j q)
+
+  number_left : (r : Bool) (m : ℕ) (s : Bool) (b : ℕ) (n : ℤ) → value_of_type program (integer s b) h.content ≡ Ok x
       → conversion_result (integer r m) mode (operand_of program (integer s b) x s1) ≡ Ok v
-      → converted to (integer r m) (integer s b) (operand_number known a (integer s b)) ≡ Some k
-      → holding to.bytes (content_of to.bytes v) ≡ held_of k
-  integer_left r m s b e f q =
-      let w = is_brought to a r m s b known k q in
-      let j = w.number in
-      let n = j.number in
-      let there : Some h ≡ Some (held_of j) = sym i ∙ knows a.at j w.operand in
-      let same : h ≡ held_of j = cc in
-      let size : j.bytes ≡ b = w.same ∙ w.bytes in
-      let content : h.content ≡ bits (low_bytes b n) =
-      ap (λ (y : Held). y.content) same ∙ ap (λ (y : ℕ). bits (low_bytes y n)) size in
+      → operand_number known a (integer s b) ≡ Some n
+      → known_as to (brought (of_type r m) (of_type s b) n) ≡ Some k → Left
+  number_left r m s b n e f q g =
+      let w = is_operand a s b known n q in
+      let content = content_there b n h (so_there (known_number b n) w.operand) in
       let z = wrapped (of_type s b) n in
       let low = Number (number_of_bytes s b (low_bytes b n)) in
       let seen : value_of_type program (integer s b) h.content ≡ Ok low = ap (value_of_type program (integer s b)) content in
       let both : Ok low ≡ Ok x = sym seen ∙ e in
       let is : low ≡ x = cc in
       let operand : x ≡ Number z = sym is ∙ ap Number (wrapped_is s b n) in
-      let w1 = Number (brought (of_type r m) (of_type s b) n) in
-      let done : conversion_result (integer r m) mode (operand_of program (integer s b) x s1) ≡ Ok w1 =
+      let w1 = brought (of_type r m) (of_type s b) n in
+      let done : conversion_result (integer r m) mode (operand_of program (integer s b) x s1) ≡ Ok (Number w1) =
       ap (λ (y : Value). conversion_result (integer r m) mode (operand_of program (integer s b) y s1)) operand in
-      let left : Ok w1 ≡ Ok v = sym done ∙ f in
-      let value : w1 ≡ v = cc in
-      ap (λ (y : Value). holding to.bytes (content_of to.bytes y)) (sym value) ∙ ap held_of w.is
+      let left : Ok (Number w1) ≡ Ok v = sym done ∙ f in
+      let value : Number w1 ≡ v = cc in
+      let all : Some (known_number to.bytes w1) ≡ Some k = g in
+      let fact_is : known_number to.bytes w1 ≡ k = cc in
+      subst (λ (y : KnownNumber). IsSo y (Some (holding to.bytes (content_of to.bytes v)))) fact_is
+      (subst (λ (y : Value). IsSo (known_number to.bytes w1) (Some (holding to.bytes (content_of to.bytes y)))) value
+      (number_so to.bytes w1))
+
+  kept_left : (r : Bool) (m : ℕ) → (m ≡ 2) ⊎ (m ≡ 4) → value_of_type program (integer false 1) h.content ≡ Ok x
+      → conversion_result (integer r m) mode (operand_of program (integer false 1) x s1) ≡ Ok v
+      → known a.at ≡ Some (fact 1 None) → byte_in to ≡ Some k → Left
+  kept_left r m more e f q g = by_content h.content refl
+    where
+      by_content : (c : Content) → h.content ≡ c → Left
+      by_content (bits low) c =
+          let below = byte_there 1 low h (so_there (fact 1 None) q) c in
+          let seen : value_of_type program (integer false 1) h.content ≡ Ok (Number (pos low)) =
+          ap (value_of_type program (integer false 1)) c in
+          let both : Ok (Number (pos low)) ≡ Ok x = sym seen ∙ e in
+          let is : Number (pos low) ≡ x = cc in
+          let done : conversion_result (integer r m) mode (operand_of program (integer false 1) x s1)
+          ≡ Ok (Number (wrapped (of_type r m) (pos low))) =
+          ap (λ (y : Value). conversion_result (integer r m) mode (operand_of program (integer false 1) y s1)) (sym is) in
+          let left : Ok (Number (wrapped (of_type r m) (pos low))) ≡ Ok v = sym done ∙ f in
+          let value : Number (wrapped (of_type r m) (pos low)) ≡ v = cc in
+          let number : v ≡ Number (pos low) = sym value ∙ ap Number (wrapped_byte r m low more below) in
+          let all : Some (fact to.bytes None) ≡ Some k = g in
+          let fact_is : fact to.bytes None ≡ k = cc in
+          subst (λ (y : KnownNumber). IsSo y (Some (holding to.bytes (content_of to.bytes v)))) fact_is
+          (subst (λ (y : Value). IsSo (fact to.bytes None) (Some (holding to.bytes (content_of to.bytes y)))) (sym number)
+          (byte_so to.bytes (low_bytes to.bytes (pos low)) (low_of_byte to.bytes low below)))
+      by_content (points p) c =
+          let none = ap (value_of_type program (integer false 1)) (sym c) ∙ e in absurd cc
+
+  integer_left : (r : Bool) (m : ℕ) (s : Bool) (b : ℕ) → value_of_type program (integer s b) h.content ≡ Ok x
+      → conversion_result (integer r m) mode (operand_of program (integer s b) x s1) ≡ Ok v
+      → converted to (integer r m) (integer s b) (operand_number known a (integer s b)) (is_byte_of 1 (known a.at)) ≡ Some k → Left
+  integer_left r m s b e f g =
+      by_operand (operand_number known a (integer s b)) refl (is_byte_of 1 (known a.at)) refl g
+    where
+      by_operand : (o : Option ℤ) → operand_number known a (integer s b) ≡ o → (y : Bool) → is_byte_of 1 (known a.at) ≡ y
+          → converted to (integer r m) (integer s b) o y ≡ Some k → Left
+      by_operand (Some n) q y w g = by_sizes (is_integer_size m && is_integer_size b) g
+        where
+          by_sizes : (t : Bool) → (if t then known_as to (brought (of_type r m) (of_type s b) n) else byte_left to) ≡ Some k → Left
+          by_sizes true g = number_left r m s b n e f q g
+          by_sizes false g = byte_left_so to v k g
+      by_operand None q true w g = by_keeping (keeps_bytes (of_type r m) (of_type s b)) refl g
+        where
+          by_keeping : (t : Bool) → keeps_bytes (of_type r m) (of_type s b) ≡ t → (if t then byte_in to else byte_left to) ≡ Some k → Left
+          by_keeping true t g =
+              let kept = are_kept r m s b t in
+              let ty : integer s b ≡ integer false 1 =
+              ap (λ (z : Bool). integer z b) kept.unsigned ∙ ap (λ (z : ℕ). integer false z) kept.one in
+              kept_left r m kept.more (subst (λ (z : PlainType). value_of_type program z h.content ≡ Ok x) ty e)
+              (subst (λ (z : PlainType). conversion_result (integer r m) mode (operand_of program z x s1) ≡ Ok v) ty f)
+              (is_byte_operand a known w) g
+          by_keeping false t g = byte_left_so to v k g
+      by_operand None q false w g = byte_left_so to v k g
 
   pub conversion_left : (ty aty : PlainType) → value_of_type program aty h.content ≡ Ok x
-      → conversion_result ty mode (operand_of program aty x s1) ≡ Ok v → converted to ty aty (operand_number known a aty) ≡ Some k
-      → holding to.bytes (content_of to.bytes v) ≡ held_of k
+      → conversion_result ty mode (operand_of program aty x s1) ≡ Ok v
+      → converted to ty aty (operand_number known a aty) (is_byte_of 1 (known a.at)) ≡ Some k
+      → IsSo k (Some (holding to.bytes (content_of to.bytes v)))
   conversion_left (integer r m) (integer s b) e f q = integer_left r m s b e f q
-  conversion_left (integer r m) void e f q = let no : None ≡ Some k = q in absurd cc
-  conversion_left (integer r m) (fixed kind saturates) e f q = let no : None ≡ Some k = q in absurd cc
-  conversion_left (integer r m) (pointer space const target) e f q = let no : None ≡ Some k = q in absurd cc
-  conversion_left (integer r m) (array of len) e f q = let no : None ≡ Some k = q in absurd cc
-  conversion_left (integer r m) (struct index) e f q = let no : None ≡ Some k = q in absurd cc
-  conversion_left void aty e f q = let no : None ≡ Some k = q in absurd cc
-  conversion_left (fixed kind saturates) aty e f q = let no : None ≡ Some k = q in absurd cc
-  conversion_left (pointer space const target) aty e f q = let no : None ≡ Some k = q in absurd cc
-  conversion_left (array of len) aty e f q = let no : None ≡ Some k = q in absurd cc
-  conversion_left (struct index) aty e f q = let no : None ≡ Some k = q in absurd cc
+  conversion_left (integer r m) void e f q = byte_left_so to v k q
+  conversion_left (integer r m) (fixed kind saturates) e f q = byte_left_so to v k q
+  conversion_left (integer r m) (pointer space const target) e f q = byte_left_so to v k q
+  conversion_left (integer r m) (array of len) e f q = byte_left_so to v k q
+  conversion_left (integer r m) (struct index) e f q = byte_left_so to v k q
+  conversion_left void aty e f q = byte_left_so to v k q
+  conversion_left (fixed kind saturates) aty e f q = byte_left_so to v k q
+  conversion_left (pointer space const target) aty e f q = byte_left_so to v k q
+  conversion_left (array of len) aty e f q = byte_left_so to v k q
+  conversion_left (struct index) aty e f q = byte_left_so to v k q

@@ -23,13 +23,14 @@ use Rattle.ec_ir.specs.Operations.{PlainIr, constant, copy, address, field, load
 use Rattle.ec_ir.specs.Operations.{store_object, binary_op, unary_op, conversion, label, jump, branch_zero}
 use Rattle.ec_ir.specs.Operations.{call_function, return_from, port_in, port_out, PlainIrFunction}
 use Rattle.ec_ir.specs.Operations.{data_of}
-use Rattle.ec_ir.specs.Temporaries.{Content, Held, Temps, no_temps, content_of, value_of_type, is_zero, with_held}
+use Rattle.ec_ir.specs.Temporaries.{Content, bits, low_bytes, Held, Temps, no_temps, content_of, value_of_type, is_zero, with_held}
 use Rattle.ec_ir.specs.Temporaries.{with_content, with_temp, read_held, held}
-use Rattle.ec_ir_known.specs.Known.{Known, is_set, known_after, known_at, operand_number, converted}
-use Rattle.ec_ir_known.specs.Laws.{is_held, checked_from, checked, KnownNumbersAreHeld}
+use Rattle.ec_ir_known.specs.declared.known.KnownNumber.{KnownNumber}
+use Rattle.ec_ir_known.specs.Known.{Known, is_set, known_after, known_at, operand_number, converted, byte_left, is_byte_of}
+use Rattle.ec_ir_known.specs.Laws.{are_held, checked_from, checked, KnownNumbersAreHeld}
 use Rattle.ec_ir_known.proofs.Converted.{conversion_left}
-use Rattle.ec_ir_known.proofs.Places.{held_of, Knows, held_true, knows_result, knows_cleared, Stands, next_stands}
-use Rattle.ec_ir_known.proofs.Places.{known_next, all_left, nothing_first, found, known_number}
+use Rattle.ec_ir_known.proofs.Places.{IsSo, Knows, all_held, knows_result, knows_cleared, Stands, next_stands, holding}
+use Rattle.ec_ir_known.proofs.Places.{known_next, all_left, nothing_first, found, known_number, number_so, byte_left_so}
 
 -- ---- calls that wait
 
@@ -118,7 +119,7 @@ module _ (functions : List PlainIrFunction) (program : PlainProgram) (inputs : I
         with_result : (t : Temp) → f.to ≡ Some t → (h : Held) → Knows (known_at f.code f.rest) (with_held t.at h f.temps)
         with_result t q h at k r = by_test (at == t.at) refl
           where
-            by_test : (b : Bool) → (at == t.at) ≡ b → (if b then Some h else f.temps at) ≡ Some (held_of k)
+            by_test : (b : Bool) → (at == t.at) ≡ b → IsSo k (if b then Some h else f.temps at)
             by_test true i =
                 let same : at ≡ t.at = eqb-true at t.at i in
                 let none : None ≡ Some k = sym (f1.free t q) ∙ ap (known_at f.code f.rest) (sym same) ∙ r in
@@ -179,6 +180,10 @@ module _ (functions : List PlainIrFunction) (program : PlainProgram) (inputs : I
       sets : (t : Temp) (c : Content) → Knows (λ at. if at == t.at then None else here at) (with_content t c temps)
       sets t c = knows_result t None c here temps (λ k q. let no : None ≡ Some k = q in absurd cc) good.knows
 
+      -- nor of a value of more than a byte
+      leaves : (t : Temp) (v : Value) → Knows (λ at. if at == t.at then byte_left t else here at) (with_temp t v temps)
+      leaves t v = knows_result t (byte_left t) (content_of t.bytes v) here temps (byte_left_so t v) good.knows
+
     perform_same : (i : PlainIr) (on to_on : Mach → Outcome Value) (code : List PlainIr) (stack : List Frame) (rest : List PlainIr)
         (temps : Temps) (s : State) → Good code (i ∷ rest) stack temps
         → ((m : Mach) → Knows (known_at code rest) m.temps → on m ≡ to_on m)
@@ -188,7 +193,8 @@ module _ (functions : List PlainIrFunction) (program : PlainProgram) (inputs : I
         let i = constant t n in
         stays_on on to_on code stack i rest temps g h (with_temp t (Number n) temps) s
         (knows_result t (Some (known_number t.bytes n)) (content_of t.bytes (Number n)) (known_at code (i ∷ rest)) temps
-        (λ k q. let same : known_number t.bytes n ≡ k = cc in ap held_of same) g.knows)
+        (λ k q. let same : known_number t.bytes n ≡ k = cc in
+        subst (λ (x : KnownNumber). IsSo x (Some (holding t.bytes (bits (low_bytes t.bytes n))))) same (number_so t.bytes n)) g.knows)
     perform_same (copy to from) on to_on code stack rest temps s g h =
         let i = copy to from in
         next_same (held from temps s) _ _
@@ -209,7 +215,7 @@ module _ (functions : List PlainIrFunction) (program : PlainProgram) (inputs : I
         next_same (held_pointer ptr temps s) _ _
         (λ p s1. next_same (read program (pointer_access program space to.bytes p s1) s1) _ _
         (λ x s2. goes_on on to_on code stack i rest temps g h (with_temp to x temps) s2
-        (sets on to_on code stack i rest temps g h to (content_of to.bytes x))))
+        (leaves on to_on code stack i rest temps g h to x)))
     perform_same (store_at ptr space from) on to_on code stack rest temps s g h =
         let i = store_at ptr space from in
         next_same (held_pointer ptr temps s) _ _
@@ -219,7 +225,7 @@ module _ (functions : List PlainIrFunction) (program : PlainProgram) (inputs : I
         let i = load_object t o offset in
         next_same (read program (object_access program None o offset s) s) _ _
         (λ x s1. goes_on on to_on code stack i rest temps g h (with_temp t x temps) s1
-        (sets on to_on code stack i rest temps g h t (content_of t.bytes x)))
+        (leaves on to_on code stack i rest temps g h t x))
     perform_same (store_object o offset t) on to_on code stack rest temps s g h =
         let i = store_object o offset t in
         next_same (put_object program (active program.main stack) o offset t temps s) _ _
@@ -231,29 +237,29 @@ module _ (functions : List PlainIrFunction) (program : PlainProgram) (inputs : I
         (λ y s2. next_same
         (given (binary_result op ty mode (operand_of program aty x s2) (operand_of program bty y s2)) s2) _ _
         (λ v s3. stays_on on to_on code stack i rest temps g h (with_temp to v temps) s3
-        (sets on to_on code stack i rest temps g h to (content_of to.bytes v)))))
+        (leaves on to_on code stack i rest temps g h to v))))
     perform_same (unary_op op ty mode to a) on to_on code stack rest temps s g h =
         let i = unary_op op ty mode to a in
         next_same (held_as program ty a temps s) _ _
         (λ x s1. next_same (given (unary_result op ty mode x) s1) _ _
         (λ v s2. stays_on on to_on code stack i rest temps g h (with_temp to v temps) s2
-        (sets on to_on code stack i rest temps g h to (content_of to.bytes v))))
+        (leaves on to_on code stack i rest temps g h to v)))
     perform_same (conversion to ty mode a aty) on to_on code stack rest temps s g h =
         let i = conversion to ty mode a aty in
         let known = known_at code (i ∷ rest) in
         let ends = λ (f : Mach → Outcome Value) (v : Value) (s2 : State). f (machine (with_temp to v temps) s2) in
-        let leaves = λ (f : Mach → Outcome Value) (x : Value) (s1 : State).
+        let brings = λ (f : Mach → Outcome Value) (x : Value) (s1 : State).
         next (given (conversion_result ty mode (operand_of program aty x s1)) s1) (ends f) in
-        let reads = λ (f : Mach → Outcome Value) (c : Content) (s1 : State). next (given (value_of_type program aty c) s1) (leaves f) in
+        let reads = λ (f : Mach → Outcome Value) (c : Content) (s1 : State). next (given (value_of_type program aty c) s1) (brings f) in
         let read = λ (c : Content) (s1 : State). given (value_of_type program aty c) s1 in
         let same : next (held a temps s) (reads on) ≡ next (held a temps s) (reads to_on) =
         held_same a temps s (reads on) (reads to_on)
-        (λ o q. given_same (value_of_type program aty o.content) s (leaves on) (leaves to_on)
+        (λ o q. given_same (value_of_type program aty o.content) s (brings on) (brings to_on)
         (λ x r. given_same (conversion_result ty mode (operand_of program aty x s)) s (ends on) (ends to_on)
         (λ v w. stays_on on to_on code stack i rest temps g h (with_temp to v temps) s
-        (knows_result to (converted to ty aty (operand_number known a aty)) (content_of to.bytes v) known temps
+        (knows_result to (converted to ty aty (operand_number known a aty) (is_byte_of 1 (known a.at))) (content_of to.bytes v) known temps
         (λ k z. conversion_left program to a mode known temps o x v s k g.knows q ty aty r w z) g.knows)))) in
-        next_next (held a temps s) read (leaves on) ∙ same ∙ sym (next_next (held a temps s) read (leaves to_on))
+        next_next (held a temps s) read (brings on) ∙ same ∙ sym (next_next (held a temps s) read (brings to_on))
     perform_same (label l) on to_on code stack rest temps s g h =
         stays_on on to_on code stack (label l) rest temps g h temps s (λ at k q. let no : None ≡ Some k = q in absurd cc)
     perform_same (jump l) on to_on code stack rest temps s g h = jumps on to_on code stack (jump l) rest temps g h l temps s
@@ -293,7 +299,7 @@ module _ (functions : List PlainIrFunction) (program : PlainProgram) (inputs : I
         next_same (element_of_port port width index (machine temps s)) _ _
         (λ at s1. next_same (port_read inputs at width s1) _ _
         (λ v s2. goes_on on to_on code stack i rest temps g h (with_temp to v temps) s2
-        (sets on to_on code stack i rest temps g h to (content_of to.bytes v))))
+        (leaves on to_on code stack i rest temps g h to v)))
     perform_same (port_out from port index width) on to_on code stack rest temps s g h =
         let i = port_out from port index width in
         next_same (element_of_port port width index (machine temps s)) _ _
@@ -303,16 +309,15 @@ module _ (functions : List PlainIrFunction) (program : PlainProgram) (inputs : I
 
   -- ---- runs
 
-  module _ (looked_at : List PlainIr → ℕ) where
+  module _ (looked_at : List PlainIr → List ℕ) where
     run_same : (n : ℕ) (code : List PlainIr) (stack : List Frame) (rest : List PlainIr) (m : Mach) → Good code rest stack m.temps
         → checked_from looked_at functions program inputs n code stack rest m ≡ exec_from functions program inputs n code stack rest m
     run_same zero code stack rest m g = refl
     run_same (suc n) code stack [] m g = refl
     run_same (suc n) code stack (i ∷ rest) m g =
-        let at = looked_at (i ∷ rest) in
         let stands = next_stands code i rest g.stands in
-        if_true (is_held (known_at code (i ∷ rest) at) (m.temps at)) _ _ _
-        (held_true (known_at code (i ∷ rest) at) (m.temps at) (λ k q. g.knows at k q))
+        if_true (are_held (known_at code (i ∷ rest)) m.temps (looked_at (i ∷ rest))) _ _ _
+        (all_held (known_at code (i ∷ rest)) m.temps (looked_at (i ∷ rest)) g.knows)
         (perform_same (λ p u. checked_from looked_at functions program inputs n p.code p.stack p.rest u)
         (λ p u. exec_from functions program inputs n p.code p.stack p.rest u)
         (λ p u w. run_same n p.code p.stack p.rest u w) i

@@ -1,53 +1,94 @@
 -- Where operations are left of the code of a function, and what is known there.
-use Rattle.std.proofs.Common.{◌≡◌, ℕ, zero, suc, ◌+◌, ◌-◌, ◌≤◌, Bool, true, false, List, []}
-use Rattle.std.proofs.Common.{◌∷◌, ◌++◌, Option, Some, ℤ}
+use Rattle.std.proofs.Common.{◌≡◌, ℕ, zero, suc, ◌+◌, ◌-◌, ◌<◌, ◌≤◌, Bool, true, false, List, []}
+use Rattle.std.proofs.Common.{◌∷◌, ◌++◌, Option, Some, ℤ, pos, negsuc, subst}
 use Rattle.std.proofs.Common.{None, refl, sym, ap, ◌∙◌, arith, length, take, drop, reverse}
-use Rattle.std.specs.Prelude.{◌==◌, if◌then◌else◌}
-use Rattle.std.proofs.lemmas.Bool.{eq-eqb}
+use Rattle.std.specs.Prelude.{◌==◌, if◌then◌else◌, nat_lt}
+use Rattle.std.proofs.lemmas.Bool.{eq-eqb, eqb-true, lt-ltb}
 use Rattle.std.proofs.lemmas.List.{length-drop, reverse-append}
 use Rattle.ec_ir.specs.declared.operations.Temp.{Temp}
 use Rattle.ec_ir.specs.Meaning.{find}
 use Rattle.ec_ir.specs.Operations.{PlainIr, constant, copy, address, field, load_at, store_at, load_object}
 use Rattle.ec_ir.specs.Operations.{store_object, binary_op, unary_op, conversion, label, jump, branch_zero}
 use Rattle.ec_ir.specs.Operations.{call_function, return_from, port_in, port_out}
-use Rattle.ec_ir.specs.Temporaries.{Content, bits, Held, Temps, low_bytes, with_content}
+use Rattle.ec_core.specs.declared.values.Value.{Value}
+use Rattle.ec_core.specs.declared.values.Value.TheVariants.{Number, Pointer}
+use Rattle.ec_ir.specs.Temporaries.{Content, bits, Held, Temps, low_bytes, content_of, with_content}
 use Rattle.ec_ir_known.specs.declared.known.KnownNumber.{KnownNumber}
-use Rattle.ec_ir_known.specs.Known.{Known, is_set, known_after, known_behind, known_at}
-use Rattle.ec_ir_known.specs.Laws.{is_held}
+use Rattle.ec_ir_known.specs.Known.{Known, is_set, byte_in, byte_left, known_after, known_behind, known_at}
+use Rattle.ec_ir_known.specs.Laws.{is_held, are_held}
 
 -- ---- what is known is so
 
 abbrev pub known_number : ℕ → ℤ → KnownNumber
-known_number bytes n = record { bytes = bytes; number = n }
+known_number bytes n = record { bytes = bytes; number = Some n }
 
 abbrev pub holding : ℕ → Content → Held
 holding bytes c = record { bytes = bytes; content = c }
 
-abbrev pub held_of : KnownNumber → Held
-held_of k = holding k.bytes (bits (low_bytes k.bytes k.number))
+abbrev pub IsSo : KnownNumber → Option Held → Type 0
+IsSo k h = is_held (Some k) h ≡ true
 
 abbrev pub Knows : Known → Temps → Type 0
-Knows known temps = (place : ℕ) (k : KnownNumber) → known place ≡ Some k → temps place ≡ Some (held_of k)
+Knows known temps = (place : ℕ) (k : KnownNumber) → known place ≡ Some k → IsSo k (temps place)
 
-pub held_true : (o : Option KnownNumber) (h : Option Held) → ((k : KnownNumber) → o ≡ Some k → h ≡ Some (held_of k))
-    → is_held o h ≡ true
+pub held_true : (o : Option KnownNumber) (h : Option Held) → ((k : KnownNumber) → o ≡ Some k → IsSo k h) → is_held o h ≡ true
 held_true None h f = refl
-held_true (Some k) h f =
-    let a : (k.bytes == k.bytes) ≡ true = eq-eqb k.bytes k.bytes refl in
-    let low = low_bytes k.bytes k.number in
+held_true (Some k) h f = f k refl
+
+pub all_held : (known : Known) (temps : Temps) (places : List ℕ) → Knows known temps → are_held known temps places ≡ true
+all_held known temps [] h = refl
+all_held known temps (place ∷ places) h =
+    let a = held_true (known place) (temps place) (h place) in
+    let b = all_held known temps places h in
+    rw (a, b) refl
+
+-- a number that is left is so
+pub number_so : (bytes : ℕ) (n : ℤ) → IsSo (known_number bytes n) (Some (holding bytes (bits (low_bytes bytes n))))
+number_so bytes n =
+    let a : (bytes == bytes) ≡ true = eq-eqb bytes bytes refl in
+    let low = low_bytes bytes n in
     let b : (low == low) ≡ true = eq-eqb low low refl in
-    let c : is_held (Some k) (Some (held_of k)) ≡ true = rw (a, b) refl in
-    ap (is_held (Some k)) (f k refl) ∙ c
+    rw (a, b) refl
+
+-- so is one below 256
+pub byte_so : (bytes low : ℕ) → low < 256
+    → IsSo (record { bytes = bytes; number = None }) (Some (holding bytes (bits low)))
+byte_so bytes low l =
+    let a : (bytes == bytes) ≡ true = eq-eqb bytes bytes refl in
+    let b : nat_lt low 256 ≡ true = lt-ltb low 256 l in
+    rw (a, b) refl
+
+low_byte : (n : ℤ) → low_bytes 1 n < 256
+low_byte (pos a) = omega arith
+low_byte (negsuc a) = omega arith
+
+-- one byte of any value
+byte_of_value : (v : Value) → IsSo (record { bytes = 1; number = None }) (Some (holding 1 (content_of 1 v)))
+byte_of_value (Number n) = byte_so 1 (low_bytes 1 n) (low_byte n)
+byte_of_value (Pointer None) = refl
+byte_of_value (Pointer (Some p)) = refl
+
+pub byte_left_so : (t : Temp) (v : Value) (k : KnownNumber) → byte_left t ≡ Some k → IsSo k (Some (holding t.bytes (content_of t.bytes v)))
+byte_left_so t v k e = by_size (t.bytes == 1) refl e
+  where
+    by_size : (b : Bool) → (t.bytes == 1) ≡ b → (if b then byte_in t else None) ≡ Some k
+        → IsSo k (Some (holding t.bytes (content_of t.bytes v)))
+    by_size true q e =
+        let one : t.bytes ≡ 1 = eqb-true t.bytes 1 q in
+        let is : record { bytes = t.bytes; number = None } ≡ k = cc in
+        subst (λ (z : KnownNumber). IsSo z (Some (holding t.bytes (content_of t.bytes v)))) is
+        (subst (λ (b : ℕ). IsSo (record { bytes = b; number = None }) (Some (holding b (content_of b v)))) (sym one) (byte_of_value v))
+    by_size false q e = let no : None ≡ Some k = e in absurd cc
 
 -- a place gets what is known of it from then on
 pub knows_result : (t : Temp) (given : Option KnownNumber) (c : Content) (known : Known) (temps : Temps)
-    → ((k : KnownNumber) → given ≡ Some k → holding t.bytes c ≡ held_of k) → Knows known temps
+    → ((k : KnownNumber) → given ≡ Some k → IsSo k (Some (holding t.bytes c))) → Knows known temps
     → Knows (λ place. if place == t.at then given else known place) (with_content t c temps)
 knows_result t given c known temps f h place k e = by_test (place == t.at) e
   where
     by_test : (b : Bool) → (if b then given else known place) ≡ Some k
-        → (if b then Some (holding t.bytes c) else temps place) ≡ Some (held_of k)
-    by_test true e = ap Some (f k e)
+        → IsSo k (if b then Some (holding t.bytes c) else temps place)
+    by_test true e = f k e
     by_test false e = h place k e
 
 -- a place is forgotten
@@ -55,7 +96,7 @@ pub knows_cleared : (o : Option Temp) (known : Known) (temps : Temps) → Knows 
     → Knows (λ place. if is_set o place then None else known place) temps
 knows_cleared o known temps h place k e = by_test (is_set o place) e
   where
-    by_test : (b : Bool) → (if b then None else known place) ≡ Some k → temps place ≡ Some (held_of k)
+    by_test : (b : Bool) → (if b then None else known place) ≡ Some k → IsSo k (temps place)
     by_test true e = let no : None ≡ Some k = e in absurd cc
     by_test false e = h place k e
 

@@ -2,7 +2,7 @@
 use Rattle.std.proofs.Common.{◌≡◌, ℕ, zero, suc, ◌+◌, ◌<◌, Bool, true, false, List, []}
 use Rattle.std.proofs.Common.{◌∷◌, Option, Some, None}
 use Rattle.std.proofs.Common.{refl, sym, ap, ◌∙◌, arith, length, map, drop, get_or, replicate}
-use Rattle.std.specs.Prelude.{◌==◌, if◌then◌else◌, ℤ}
+use Rattle.std.specs.Prelude.{◌==◌, nat_lt, ◌&&◌, if◌then◌else◌, ℤ}
 use Rattle.std.proofs.lemmas.List.{drop_more, get_or-map, length-map}
 use Rattle.ec_core.specs.Plain.{PlainType, void, integer, fixed, pointer, array, struct}
 use Rattle.ec_ir.specs.declared.operations.Temp.{Temp}
@@ -10,7 +10,9 @@ use Rattle.ec_ir.specs.Operations.{PlainIr, constant, copy, address, field, load
 use Rattle.ec_ir.specs.Operations.{store_object, binary_op, unary_op, conversion, label, jump, branch_zero}
 use Rattle.ec_ir.specs.Operations.{call_function, return_from, port_in, port_out}
 use Rattle.ec_ir_known.specs.declared.known.KnownNumber.{KnownNumber}
-use Rattle.ec_ir_known.specs.Known.{Known, is_set, of_bytes, converted, operand_number, known_after, right_number}
+use Rattle.ec_ir_known.specs.declared.known.RightNumber.{RightNumber}
+use Rattle.ec_ir_known.specs.Known.{Known, is_set, of_bytes, converted, operand_number, known_after, right_number, right_of}
+use Rattle.ec_ir_known.specs.Known.{is_byte_of, byte_left, number_in}
 use Rattle.ec_ir_known.specs.Known.{known_at, known_of, numbers_from, numbers_left, right_numbers, HaveResultPlaces}
 use Rattle.ec_ir_known.proofs.Places.{Stands, known_next, next_stands, nothing_first, all_left}
 
@@ -38,6 +40,9 @@ set_same o x y a b e h place = by_test (is_set o place)
     by_test true = e
     by_test false = h place
 
+byte_same : (a b : Known) (t : Temp) (bytes : ℕ) → AreSame a b → is_byte_of bytes (a t.at) ≡ is_byte_of bytes (b t.at)
+byte_same a b t bytes h = ap (is_byte_of bytes) (h t.at)
+
 operand_same : (a b : Known) (t : Temp) (ty : PlainType) → AreSame a b → operand_number a t ty ≡ operand_number b t ty
 operand_same a b t (integer s n) h = ap (λ (x : Option KnownNumber). if t.bytes == n then of_bytes t.bytes x else None) (h t.at)
 operand_same a b t void h = refl
@@ -52,24 +57,33 @@ after_same (constant t n) a b h place = set_same (Some t) _ _ a b refl h place
 after_same (copy to from) a b h place = set_same (Some to) None None a b refl h place
 after_same (address t o offset) a b h place = set_same (Some t) None None a b refl h place
 after_same (field ptr space offset) a b h place = set_same (Some ptr) None None a b refl h place
-after_same (load_at to ptr space) a b h place = set_same (Some to) None None a b refl h place
+after_same (load_at to ptr space) a b h place =
+    set_same (Some to) (byte_left to) (byte_left to) a b refl h place
 after_same (store_at ptr space from) a b h place = h place
-after_same (load_object t o offset) a b h place = set_same (Some t) None None a b refl h place
+after_same (load_object t o offset) a b h place =
+    set_same (Some t) (byte_left t) (byte_left t) a b refl h place
 after_same (store_object o offset t) a b h place = h place
-after_same (binary_op op ty mode to c aty d bty) a b h place = set_same (Some to) None None a b refl h place
-after_same (unary_op op ty mode to c) a b h place = set_same (Some to) None None a b refl h place
+after_same (binary_op op ty mode to c aty d bty) a b h place =
+    set_same (Some to) (byte_left to) (byte_left to) a b refl h place
+after_same (unary_op op ty mode to c) a b h place =
+    set_same (Some to) (byte_left to) (byte_left to) a b refl h place
 after_same (conversion to ty mode c aty) a b h place =
-    set_same (Some to) (converted to ty aty (operand_number a c aty)) (converted to ty aty (operand_number b c aty)) a b
-    (ap (λ (x : Option ℤ). converted to ty aty x) (operand_same a b c aty h)) h place
+    set_same (Some to) (converted to ty aty (operand_number a c aty) (is_byte_of 1 (a c.at)))
+    (converted to ty aty (operand_number b c aty) (is_byte_of 1 (b c.at))) a b
+    (ap (λ (x : Option ℤ). converted to ty aty x (is_byte_of 1 (a c.at))) (operand_same a b c aty h)
+    ∙ ap (λ (x : Bool). converted to ty aty (operand_number b c aty) x) (byte_same a b c 1 h)) h place
 after_same (jump l) a b h place = h place
 after_same (branch_zero t l) a b h place = h place
 after_same (call_function f to) a b h place = set_same to None None a b refl h place
 after_same (return_from from) a b h place = h place
-after_same (port_in to port index width) a b h place = set_same (Some to) None None a b refl h place
+after_same (port_in to port index width) a b h place =
+    set_same (Some to) (byte_left to) (byte_left to) a b refl h place
 after_same (port_out from port index width) a b h place = h place
 
 right_same : (i : PlainIr) (a b : Known) → AreSame a b → right_number a i ≡ right_number b i
-right_same (binary_op op ty mode to c aty d bty) a b h = ap (of_bytes d.bytes) (h d.at)
+right_same (binary_op op ty mode to c aty d bty) a b h =
+    ap (λ (x : Bool). right_of (nat_lt 1 c.bytes && x) (number_in a d)) (byte_same a b c c.bytes h)
+    ∙ ap (λ (x : Option KnownNumber). right_of (nat_lt 1 c.bytes && is_byte_of c.bytes (b c.at)) (of_bytes d.bytes x)) (h d.at)
 right_same (label l) a b h = refl
 right_same (constant t n) a b h = refl
 right_same (copy to from) a b h = refl
@@ -91,8 +105,8 @@ right_same (port_out from port index width) a b h = refl
 pub numbers_same : (code : List PlainIr) (a b : Known) → AreSame a b → numbers_from a code ≡ numbers_from b code
 numbers_same [] a b h = refl
 numbers_same (i ∷ code) a b h =
-    ap (λ (x : Option ℤ). x ∷ numbers_from (known_after i a) code) (right_same i a b h)
-    ∙ ap (λ (x : List (Option ℤ)). right_number b i ∷ x)
+    ap (λ (x : Option RightNumber). x ∷ numbers_from (known_after i a) code) (right_same i a b h)
+    ∙ ap (λ (x : List (Option RightNumber)). right_number b i ∷ x)
     (numbers_same code (known_after i a) (known_after i b) (after_same i a b h))
 
 -- ---- the numbers are those of what is known where each operation stands
@@ -101,7 +115,7 @@ numbers_are : (code rest : List PlainIr) → Stands code rest → numbers_from (
 numbers_are code [] w = refl
 numbers_are code (i ∷ rest) w =
     ap (λ (k : Known). right_number (known_at code (i ∷ rest)) i ∷ numbers_from k rest) (sym (known_next code i rest w))
-    ∙ ap (λ (xs : List (Option ℤ)). right_number (known_at code (i ∷ rest)) i ∷ xs)
+    ∙ ap (λ (xs : List (Option RightNumber)). right_number (known_at code (i ∷ rest)) i ∷ xs)
     (numbers_are code rest (next_stands code i rest w))
 
 -- of new rows nothing is known

@@ -1,7 +1,8 @@
 -- What is known of temporaries where an operation stands. A temporary is known to hold a number where, of the operations
 -- before it, the last one that sets its place is a constant, or a conversion of an integer that was known there, and
--- no label stands between.
-use Rattle.std.specs.Prelude.{ℕ, ◌-◌, ◌<◌, ◌==◌, Bool, false, ◌&&◌, ◌||◌, if◌then◌else◌, ℤ, ⊤}
+-- no label stands between. It is known to hold a number below 256 where that operation leaves one byte, or brings an
+-- unsigned byte to an integer type of more bytes.
+use Rattle.std.specs.Prelude.{ℕ, ◌-◌, ◌<◌, ◌==◌, nat_lt, Bool, true, false, not, ◌&&◌, ◌||◌, if◌then◌else◌, ℤ, pos, int_lt, ⊤}
 use Rattle.std.specs.Prelude.{List, [], ◌∷◌, reverse, take, length, get_or, Option, Some, None}
 use Rattle.std.specs.List.{AllByRecursion}
 use Rattle.ec_core.specs.declared.arithmetic_types.IntegerType.{IntegerType}
@@ -12,8 +13,9 @@ use Rattle.ec_ir.specs.Operations.{PlainIr, constant, copy, address, field, load
 use Rattle.ec_ir.specs.Operations.{binary_op, unary_op, conversion, label}
 use Rattle.ec_ir.specs.Operations.{call_function, port_in}
 use Rattle.ec_ir_known.specs.declared.known.KnownNumber.{KnownNumber}
+use Rattle.ec_ir_known.specs.declared.known.RightNumber.{RightNumber}
 
--- the number that each place is known to hold, if any
+-- what each place is known to hold, if anything is known
 abbrev pub Known : Type 0
 Known = ℕ → Option KnownNumber
 
@@ -44,7 +46,7 @@ is_set (Some t) place = place == t.at
 -- the number of so many bytes that a temporary is known to hold
 abbrev pub of_bytes : (bytes : ℕ) → Option KnownNumber → Option ℤ
 of_bytes bytes None = None
-of_bytes bytes (Some k) = if k.bytes == bytes then Some k.number else None
+of_bytes bytes (Some k) = if k.bytes == bytes then k.number else None
 
 abbrev pub number_in : Known → Temp → Option ℤ
 number_in known t = of_bytes t.bytes (known t.at)
@@ -53,7 +55,34 @@ abbrev pub is_integer_size : ℕ → Bool
 is_integer_size bytes = bytes == 1 || (bytes == 2 || bytes == 4)
 
 abbrev pub known_as : Temp → ℤ → Option KnownNumber
-known_as t n = Some (record { bytes = t.bytes; number = n })
+known_as t n = Some (record { bytes = t.bytes; number = Some n })
+
+-- ---- numbers below 256
+
+abbrev pub is_any : Option ℤ → Bool
+is_any None = true
+is_any (Some n) = false
+
+-- one of so many bytes is known to stand there, and not which
+abbrev pub is_byte_of : (bytes : ℕ) → Option KnownNumber → Bool
+is_byte_of bytes None = false
+is_byte_of bytes (Some k) = k.bytes == bytes && is_any k.number
+
+abbrev pub byte_in : Temp → Option KnownNumber
+byte_in t = Some (record { bytes = t.bytes; number = None })
+
+-- what any operation leaves in a temporary of one byte
+abbrev pub byte_left : Temp → Option KnownNumber
+byte_left t = if t.bytes == 1 then byte_in t else None
+
+-- an integer type of more bytes than an unsigned one has room for
+abbrev pub keeps_bytes : (ty from : IntegerType) → Bool
+keeps_bytes ty from = (ty.bytes == 2 || ty.bytes == 4) && (not from.signed && from.bytes == 1)
+
+abbrev pub is_byte : ℤ → Bool
+is_byte n = not (int_lt n (pos 0)) && int_lt n (pos 256)
+
+-- ---- what operations leave
 
 -- a number as an operand of an integer type, in another integer type
 abbrev pub brought : (ty from : IntegerType) → ℤ → ℤ
@@ -63,14 +92,15 @@ abbrev pub integer_of : PlainType → Option IntegerType
 integer_of (integer signed bytes) = Some (record { signed = signed; bytes = bytes })
 integer_of ty = None
 
--- the number that a conversion to a temporary leaves
-abbrev pub converted_by : Temp → Option IntegerType → Option IntegerType → Option ℤ → Option KnownNumber
-converted_by to (Some ty) (Some from) (Some n) =
-    if is_integer_size ty.bytes && is_integer_size from.bytes then known_as to (brought ty from n) else None
-converted_by to ty from n = None
+-- the number that a conversion to a temporary leaves, of an operand that is known to be so much
+abbrev pub converted_by : Temp → Option IntegerType → Option IntegerType → Option ℤ → (byte : Bool) → Option KnownNumber
+converted_by to (Some ty) (Some from) (Some n) byte =
+    if is_integer_size ty.bytes && is_integer_size from.bytes then known_as to (brought ty from n) else byte_left to
+converted_by to (Some ty) (Some from) None true = if keeps_bytes ty from then byte_in to else byte_left to
+converted_by to ty from n byte = byte_left to
 
-abbrev pub converted : Temp → PlainType → PlainType → Option ℤ → Option KnownNumber
-converted to ty from n = converted_by to (integer_of ty) (integer_of from) n
+abbrev pub converted : Temp → PlainType → PlainType → Option ℤ → (byte : Bool) → Option KnownNumber
+converted to ty from n byte = converted_by to (integer_of ty) (integer_of from) n byte
 
 -- the number of an integer operand, whose temporary has as many bytes as its type
 abbrev pub operand_number : Known → Temp → PlainType → Option ℤ
@@ -80,7 +110,13 @@ operand_number known t ty = None
 -- the number that an operation leaves in what it sets
 abbrev pub number_left : PlainIr → Known → Option KnownNumber
 number_left (constant t n) known = known_as t n
-number_left (conversion to ty mode a aty) known = converted to ty aty (operand_number known a aty)
+number_left (conversion to ty mode a aty) known =
+    converted to ty aty (operand_number known a aty) (is_byte_of 1 (known a.at))
+number_left (load_at to ptr space) known = byte_left to
+number_left (load_object t o offset) known = byte_left t
+number_left (binary_op op ty mode to a aty b bty) known = byte_left to
+number_left (unary_op op ty mode to a) known = byte_left to
+number_left (port_in to port index width) known = byte_left to
 number_left i known = None
 
 abbrev pub known_after : PlainIr → Known → Known
@@ -98,21 +134,28 @@ known_behind (i ∷ before) = known_after i (known_behind before)
 abbrev pub known_at : (code rest : List PlainIr) → Known
 known_at code rest = known_behind (reverse (take (length code - length rest) code))
 
--- the number that the second operand of a binary operator is known to hold
-abbrev pub right_number : Known → PlainIr → Option ℤ
-right_number known (binary_op op ty mode to a aty b bty) = number_in known b
+-- it is in a byte where the other operand is too
+abbrev pub right_of : (byte : Bool) → Option ℤ → Option RightNumber
+right_of byte None = None
+right_of byte (Some n) = Some (record { number = n; in_byte = byte && is_byte n })
+
+-- the number that the second operand of a binary operator is known to hold. It is in a byte where the first operand, of
+-- more bytes, is known to be below 256, and so is the number
+abbrev pub right_number : Known → PlainIr → Option RightNumber
+right_number known (binary_op op ty mode to a aty b bty) =
+    right_of (nat_lt 1 a.bytes && is_byte_of a.bytes (known a.at)) (number_in known b)
 right_number known i = None
 
 -- for each of the operations that are left
-abbrev pub numbers_left : (code rest : List PlainIr) → List (Option ℤ)
+abbrev pub numbers_left : (code rest : List PlainIr) → List (Option RightNumber)
 numbers_left code [] = []
 numbers_left code (i ∷ rest) = right_number (known_at code (i ∷ rest)) i ∷ numbers_left code rest
 
-abbrev pub right_numbers : List PlainIr → List (Option ℤ)
+abbrev pub right_numbers : List PlainIr → List (Option RightNumber)
 right_numbers code = numbers_left code code
 
 -- the same, going from operation to operation, where so much is known before the first one
-abbrev pub numbers_from : Known → List PlainIr → List (Option ℤ)
+abbrev pub numbers_from : Known → List PlainIr → List (Option RightNumber)
 numbers_from known [] = []
 numbers_from known (i ∷ code) = right_number known i ∷ numbers_from (known_after i known) code
 

@@ -6,7 +6,8 @@ ghost use Rattle.ec_core.specs.Layout.{IsIntegerSize};
 ghost use Rattle.ec_core.specs.Plain.{plain_type};
 ghost use Rattle.ec_ir.specs.Operations.{plain_ir};
 ghost use Rattle.ec_ir_known.specs.Known.{known_of, number_in, is_integer_size, brought, converted, operand_number};
-ghost use Rattle.ec_ir_known.specs.Known.{converted_by, integer_of, numbers_from};
+ghost use Rattle.ec_ir_known.specs.Known.{converted_by, integer_of, numbers_from, keeps_bytes, byte_left, is_byte};
+ghost use Rattle.ec_ir_known.specs.Known.{is_byte_of, right_of};
 ghost use Rattle.ec_ir_known.specs.Known.{is_set, result_of, number_left, known_after, right_number, right_numbers};
 ghost use Rattle.ec_ir_known.specs.Known.{HasResultPlace, HaveResultPlaces};
 
@@ -16,11 +17,20 @@ use ec_space::{NoMemory, Seq};
 use std::alloc::Global;
 use std::marker::Model;
 
-/// A number that a place of temporaries holds, in so many bytes: its lowest ones.
+/// What a place of temporaries holds, in so many bytes: the lowest ones of a number, or where this is not known, any
+/// number below 256.
 #[derive(Clone, Copy, Debug, PartialEq, Eq)]
 pub struct KnownNumber {
     pub bytes: u8,
+    pub number: Option<i128>,
+}
+
+/// The number that the second operand of a binary operator holds. It is in a byte where it is below 256, and the first
+/// operand, which has more bytes, is too.
+#[derive(Clone, Copy, Debug, PartialEq, Eq)]
+pub struct RightNumber {
     pub number: i128,
+    pub in_byte: bool,
 }
 
 /// What is known of each place of a function's temporaries where an operation stands.
@@ -56,19 +66,68 @@ fn brought(ty: IntegerType, from: IntegerType, number: i128) -> i128
     ty.wrapped(from.wrapped(number))
 }
 
+/// What any operation leaves in a temporary of one byte.
+fn byte_left(to: Temp) -> Option<KnownNumber>
+    ensures { result ≡ byte_left to }
+{
+    if to.bytes == 1 {
+        Some(KnownNumber {
+            bytes: to.bytes,
+            number: None,
+        })
+    } else {
+        None
+    }
+}
+
 /// What is known of a temporary, which gets a number of an integer type from one of another integer type.
-fn known_as(to: Temp, ty: IntegerType, from: IntegerType, number: i128) -> Option<KnownNumber>
-    ensures { result ≡ converted_by to (Some ty) (Some from) (Some number) }
+fn known_as(
+    to: Temp,
+    ty: IntegerType,
+    from: IntegerType,
+    number: i128,
+    byte: bool,
+) -> Option<KnownNumber>
+    ensures { result ≡ converted_by to (Some ty) (Some from) (Some number) byte }
 {
     if is_integer_size(ty.bytes) && is_integer_size(from.bytes) {
         let number = brought(ty, from, number);
         Some(KnownNumber {
             bytes: to.bytes,
-            number,
+            number: Some(number),
         })
     } else {
-        None
+        byte_left(to)
     }
+}
+
+/// Whether an integer type has more bytes than another one, which is that of an unsigned byte.
+fn keeps_bytes(ty: IntegerType, from: IntegerType) -> bool
+    ensures { result ≡ keeps_bytes ty from }
+{
+    (ty.bytes == 2 || ty.bytes == 4) && (!from.signed && from.bytes == 1)
+}
+
+/// What is known of a temporary, which gets a number of an integer type from one of another integer type that may be
+/// known to be below 256.
+fn byte_as(to: Temp, ty: IntegerType, from: IntegerType, byte: bool) -> Option<KnownNumber>
+    ensures { result ≡ converted_by to (Some ty) (Some from) None byte }
+{
+    if byte && keeps_bytes(ty, from) {
+        Some(KnownNumber {
+            bytes: to.bytes,
+            number: None,
+        })
+    } else {
+        byte_left(to)
+    }
+}
+
+/// Whether a number is below 256, and not below 0.
+fn is_byte(n: i128) -> bool
+    ensures { result ≡ is_byte n }
+{
+    !(n < 0) && n < 256
 }
 
 /// An integer type with so many bytes.
@@ -84,13 +143,20 @@ fn integer(ty: &CType) -> Option<IntegerType>
     }
 }
 
-/// The number that a conversion to a temporary leaves.
-fn converted(to: Temp, ty: &CType, aty: &CType, number: Option<i128>) -> Option<KnownNumber>
-    ensures { result ≡ converted to (plain_type ty.now) (plain_type aty.now) number }
+/// The number that a conversion to a temporary leaves, of an operand that may be known to hold a number, or one below 256.
+fn converted(
+    to: Temp,
+    ty: &CType,
+    aty: &CType,
+    number: Option<i128>,
+    byte: bool,
+) -> Option<KnownNumber>
+    ensures { result ≡ converted to (plain_type ty.now) (plain_type aty.now) number byte }
 {
     match (integer(ty), integer(aty), number) {
-        (Some(to_type), Some(from), Some(n)) => known_as(to, to_type, from, n),
-        _ => None,
+        (Some(to_type), Some(from), Some(n)) => known_as(to, to_type, from, n, byte),
+        (Some(to_type), Some(from), None) => byte_as(to, to_type, from, byte),
+        _ => byte_left(to),
     }
 }
 
@@ -150,8 +216,18 @@ impl KnownNumbers {
         ensures { result ≡ number_in (known_of self.now) t }
     {
         match self.row.get(usize::from(t.at)) {
-            Some(Some(k)) if k.bytes == t.bytes => Some(k.number),
+            Some(Some(k)) if k.bytes == t.bytes => k.number,
             _ => None,
+        }
+    }
+
+    /// Whether a place is known to hold a number below 256, of so many bytes, and not which.
+    fn is_byte(&self, at: u16, bytes: u8) -> bool
+        ensures { result ≡ is_byte_of bytes (known_of self.now at) }
+    {
+        match self.row.get(usize::from(at)) {
+            Some(Some(k)) => k.bytes == bytes && k.number.is_none(),
+            _ => false,
         }
     }
 
@@ -172,9 +248,17 @@ impl KnownNumbers {
         match i {
             Ir::Const(t, n) => Some(KnownNumber {
                 bytes: t.bytes,
-                number: *n,
+                number: Some(*n),
             }),
-            Ir::Conv { to, ty, a, aty, .. } => converted(*to, ty, aty, self.operand(*a, aty)),
+            Ir::Conv { to, ty, a, aty, .. } => {
+                let number = self.operand(*a, aty);
+                converted(*to, ty, aty, number, self.is_byte(a.at, 1))
+            }
+            Ir::LoadObj(to, _, _)
+            | Ir::Load { to, .. }
+            | Ir::Bin { to, .. }
+            | Ir::Un { to, .. }
+            | Ir::PortIn { to, .. } => byte_left(*to),
             _ => None,
         }
     }
@@ -198,17 +282,33 @@ impl KnownNumbers {
     }
 
     /// The number that the second operand of a binary operator is known to hold.
-    pub fn right(&self, i: &Ir) -> Option<i128>
+    pub fn right(&self, i: &Ir) -> Option<RightNumber>
         ensures { result ≡ right_number (known_of self.now) (plain_ir i.now) }
     {
         match i {
-            Ir::Bin { b, .. } => self.number(*b),
+            Ir::Bin { a, b, .. } => {
+                let byte = 1 < a.bytes && self.is_byte(a.at, a.bytes);
+                right_of(byte, self.number(*b))
+            }
             _ => None,
         }
     }
 }
 
-fn push(numbers: &mut Vec<Option<i128>>, n: Option<i128>) -> Result<(), NoMemory>
+/// A number, which is in a byte where the other operand is too.
+fn right_of(byte: bool, number: Option<i128>) -> Option<RightNumber>
+    ensures { result ≡ right_of byte number }
+{
+    match number {
+        Some(number) => {
+            let in_byte = byte && is_byte(number);
+            Some(RightNumber { number, in_byte })
+        }
+        None => None,
+    }
+}
+
+fn push(numbers: &mut Vec<Option<RightNumber>>, n: Option<RightNumber>) -> Result<(), NoMemory>
     ensures { OnOk result (numbers.new.items ≡ numbers.old.items ++ n ∷ []) }
 {
     match numbers.push(n) {
@@ -220,7 +320,7 @@ fn push(numbers: &mut Vec<Option<i128>>, n: Option<i128>) -> Result<(), NoMemory
 fn push_numbers(
     known: &mut KnownNumbers,
     code: &[Ir],
-    numbers: &mut Vec<Option<i128>>,
+    numbers: &mut Vec<Option<RightNumber>>,
 ) -> Result<(), NoMemory>
     requires { HaveResultPlaces (length known.old) (map plain_ir code.now) }
     ensures { OnOk result (numbers.new.items
@@ -242,7 +342,7 @@ pub fn right_numbers(
     alloc: Global,
     code: &Seq<Ir>,
     slots: u16,
-) -> Result<Vec<Option<i128>>, NoMemory>
+) -> Result<Vec<Option<RightNumber>>, NoMemory>
     requires { HaveResultPlaces slots (map plain_ir code.now.items) }
     ensures { IfOk result (λ numbers. numbers.items ≡ right_numbers (map plain_ir code.now.items)) }
 {

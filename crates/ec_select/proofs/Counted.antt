@@ -19,6 +19,7 @@ use Rattle.ec_ir.specs.Operations.{call_function, return_from, port_in, port_out
 use Rattle.ec_ir.specs.Operations.{data_of}
 use Rattle.ec_ir.specs.Valid.{ValidIr, count, called_in}
 use Rattle.ec_select_operations.specs.declared.families.Told.{Told}
+use Rattle.ec_ir_known.specs.declared.known.RightNumber.{RightNumber}
 use Rattle.ec_select_operations.specs.Code.{Linkage, op_code, tells_next, ops_code}
 use Rattle.ec_select_functions.specs.Covered.{IsCovered, AreCovered}
 use Rattle.ec_select_operations.specs.Homes.{home}
@@ -187,7 +188,7 @@ module _ (p : PlainIrProgram) (valid : ValidIr p) (has : HasCode p) (leaves : Le
   none_there x items h =
       eqb-true (count_by (is_label x) items) 0 (sum_by-zero (λ i. cond (is_label x i) 1 0) items ∙ h)
 
-  others_pass : (x f : ℕ) (g : PlainIrFunction) → slice_get p.functions f ≡ Some g → (told telling : Option Told) (known : Option ℤ)
+  others_pass : (x f : ℕ) (g : PlainIrFunction) → slice_get p.functions f ≡ Some g → (told telling : Option Told) (known : Option RightNumber)
       (need : Need)
       (i : PlainIr)
       → IsCovered (data_of p) has.results f (called_in g.code) g.slots i → AcceptsLabels (is_other x) (link f g) i
@@ -198,7 +199,7 @@ module _ (p : PlainIrProgram) (valid : ValidIr p) (has : HasCode p) (leaves : Le
       (is_other x) (fits_other x) has.results f (called_in g.code) told telling known need i h a)
 
   operation_places : (x f : ℕ) (g : PlainIrFunction) → slice_get p.functions f ≡ Some g → (told telling : Option Told)
-      (known : Option ℤ) (need : Need)
+      (known : Option RightNumber) (need : Need)
       (i : PlainIr)
       → IsCovered (data_of p) has.results f (called_in g.code) g.slots i
       → count_by (is_label x) (op_code (data_of p) (home (link f g).homes) (link f g) told telling known need i)

@@ -51,7 +51,7 @@ use Rattle.ec_select_operations.specs.declared.families.Family.TheVariants.{Comb
 use Rattle.ec_select_operations.specs.declared.families.Family.TheVariants.{Divided}
 use Rattle.ec_select_operations.specs.declared.families.Told.{Told}
 use Rattle.ec_select_operations.specs.declared.homes.Homes.{Homes}
-use Rattle.ec_select_operations.specs.Code.{same_location, transfer_code, move_code, reversed_code, family_of, is_signed}
+use Rattle.ec_select_operations.specs.Code.{compared_signed, same_location, transfer_code, move_code, reversed_code, family_of, is_signed}
 use Rattle.ec_select_operations.specs.Code.{conversion_code, combined_code}
 use Rattle.ec_select_operations.specs.Code.{compared_code, multiplied_code, shift_of, shifted_bytes, turned_code}
 use Rattle.ec_select_operations.specs.Code.{shifted_code, long_code}
@@ -77,9 +77,10 @@ use Rattle.ec_select_functions.specs.Covered.{IsUnary, IsResult, IsCovered, AreC
 use Rattle.ec_select_functions.proofs.OnIntegers.{whole_type}
 use Rattle.ec_select_functions.proofs.OnWholes.{on_wholes}
 use Rattle.ec_select_operations.specs.Homes.{HasHome, depth, home, result_location}
-use Rattle.ec_select_functions.proofs.Taken.{TakesSum, TakesOrder, takes, taken_is}
+use Rattle.ec_select_functions.proofs.Taken.{TakesSum, TakesOrder, takes, taken_is, compared_few}
 use Rattle.ec_select_operations.specs.Code.{taking_code, integer_binary, changed_by_code}
-use Rattle.ec_select_operations.specs.Needs.{Need, Facts, wanted, wanted_result, needs, is_fixed, number_taken}
+use Rattle.ec_ir_known.specs.declared.known.RightNumber.{RightNumber}
+use Rattle.ec_select_operations.specs.Needs.{Need, Facts, wanted, wanted_result, needs, is_fixed, number_taken, compared_bytes as bytes_compared}
 use Rattle.ec_select.proofs.ByNumber.{changed_by_fits, compared_with_fits}
 use Rattle.ec_select_operations.specs.Places.{object_location}
 use Rattle.ec_select_operations.specs.Pointers.{is_pointer, is_into_data, home_of, IsPointerSize}
@@ -560,7 +561,7 @@ module _ (sizes : Sizes) where
         (constant_fits sizes (home k.homes b) number bytes (low_home b bytes h l)) f)
 
     -- operators that take numbers
-    taking_fits : (op : BinOp) (known : Option ℤ) (telling : Option Told) (to a b : Temp) (ty aty bty : PlainType)
+    taking_fits : (op : BinOp) (known : Option RightNumber) (telling : Option Told) (to a b : Temp) (ty aty bty : PlainType)
         (left right : Bool) (n : ℕ) → IsBinary (family_of op) k.slots to a b ty aty bty → n ≤ to.bytes
         → Fit sizes (integer_binary known telling op left right (home k.homes a) (home k.homes b) (home k.homes to) a.bytes n)
     taking_fits op known telling to a b ty aty bty left right n h l = by_taken (number_taken known false op) refl
@@ -573,31 +574,40 @@ module _ (sizes : Sizes) where
             (move_fits (home k.homes a) (home k.homes to) n (low_home a n i.left (omega arith)) (low_home to n i.result l))
             (changed_by_fits sizes o (home k.homes to) number n (low_home to n i.result l))
 
-        by_number : (x : TakesSum op ⊎ TakesOrder op) → (told : Option Told) (number : ℤ)
+        by_number : (x : TakesSum op ⊎ TakesOrder op) → (told : Option Told) (number : RightNumber)
             → Fit sizes (taking_code (Some number) told (family_of op) left right (home k.homes a) (home k.homes b) (home k.homes to)
             a.bytes n)
         by_number (inl x) None number =
-            rw x.is (by_sum x.operator (subst (λ z. IsBinary z k.slots to a b ty aty bty) x.is h) (low_bytes 16 number))
+            rw x.is (by_sum x.operator (subst (λ z. IsBinary z k.slots to a b ty aty bty) x.is h) (low_bytes 16 number.number))
         by_number (inl x) (Some told) number =
             let i = subst (λ z. IsBinary z k.slots to a b ty aty bty) x.is h in
-            compared_with_fits sizes (home k.homes a) (low_bytes 16 number) a.bytes (at_home a i.left)
+            let few = compared_few number a.bytes in
+            compared_with_fits sizes (home k.homes a) (low_bytes 16 number.number) (bytes_compared (Some number) a.bytes)
+            (low_home a (bytes_compared (Some number) a.bytes) i.left few)
         by_number (inr x) None number =
             let i = subst (λ z. IsBinary z k.slots to a b ty aty bty) x.is h in
-            let own = binary_fits (Compared x.relation false) to a b ty aty bty left right n i l in
-            rw x.is (put_fits (low_bytes 16 number) n b a.bytes
-            (binary_code (Compared x.relation false) left right (home k.homes a) (home k.homes b) (home k.homes to) a.bytes n) i.right
-            (let same = i.same_bytes in omega arith) own)
+            let compared = bytes_compared (Some number) a.bytes in
+            let few = compared_few number a.bytes in
+            let same = i.same_bytes in
+            let sign = compared_signed (Some number) left in
+            let own = compared_fit x.relation sign (home k.homes a) (home k.homes b) (home k.homes to) compared n
+            (low_home a compared i.left few) (low_home b compared i.right (omega (arith, few, same))) (low_home to n i.result l) in
+            rw x.is (put_fits (low_bytes 16 number.number) n b a.bytes
+            (compared_code x.relation sign (home k.homes a) (home k.homes b) (home k.homes to) compared n) i.right
+            (omega (arith, same)) own)
         by_number (inr x) (Some told) number =
             let i = subst (λ z. IsBinary z k.slots to a b ty aty bty) x.is h in
-            compared_with_fits sizes (home k.homes a) (low_bytes 16 number) a.bytes (at_home a i.left)
+            let few = compared_few number a.bytes in
+            compared_with_fits sizes (home k.homes a) (low_bytes 16 number.number) (bytes_compared (Some number) a.bytes)
+            (low_home a (bytes_compared (Some number) a.bytes) i.left few)
 
-        by_taken : (x : Option ℤ) → number_taken known false op ≡ x
+        by_taken : (x : Option RightNumber) → number_taken known false op ≡ x
             → Fit sizes (taking_code x telling (family_of op) left right (home k.homes a) (home k.homes b) (home k.homes to) a.bytes n)
         by_taken None q = operator_fits telling (family_of op) to a b ty aty bty left right n h l
         by_taken (Some number) q = by_number (takes op (taken_is op known number q).1) telling number
 
     -- an operation on integers, one with a fixed-point type, or one on pointers
-    of_binary : (known : Option ℤ) (telling : Option Told) (op : BinOp) (ty aty bty : PlainType) (mode : Mode) (to a b : Temp) (n : ℕ)
+    of_binary : (known : Option RightNumber) (telling : Option Told) (op : BinOp) (ty aty bty : PlainType) (mode : Mode) (to a b : Temp) (n : ℕ)
         → IsBinary (family_of op) k.slots to a b ty aty bty
         ⊎ (IsFixedBinary k.slots op to a b ty aty bty ⊎ IsPointerBinary p k.slots op to a b ty aty bty) → n ≤ to.bytes
         → Fit sizes (by_kind (is_fixed aty || is_fixed bty)
@@ -792,7 +802,7 @@ module _ (sizes : Sizes) where
       wanted_few : (need : Need) (to : Option Temp) (t : Temp) → to ≡ Some t → wanted_result need to ≤ t.bytes
       wanted_few need to t e = rw e (omega arith)
 
-      pub operation_passes : (results : ℕ → ℕ) (f : ℕ) (called : List ℕ) (told telling : Option Told) (known : Option ℤ) (need : Need)
+      pub operation_passes : (results : ℕ → ℕ) (f : ℕ) (called : List ℕ) (told telling : Option Told) (known : Option RightNumber) (need : Need)
           (i : PlainIr)
           → IsCovered p results f called k.slots i → AcceptsLabels q k i
           → list_all q (op_code p (home k.homes) k told telling known need i) ≡ true

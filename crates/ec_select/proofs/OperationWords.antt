@@ -68,7 +68,7 @@ use Rattle.ec_select_operations.specs.declared.families.Family.TheVariants.{Comb
 use Rattle.ec_select_operations.specs.declared.families.Family.TheVariants.{Divided}
 use Rattle.ec_select_operations.specs.declared.families.Told.{Told}
 use Rattle.ec_select_operations.specs.declared.homes.Homes.{Homes}
-use Rattle.ec_select_operations.specs.Code.{same_location, transfer_code, move_code, reversed_code, family_of, is_signed}
+use Rattle.ec_select_operations.specs.Code.{compared_signed, same_location, transfer_code, move_code, reversed_code, family_of, is_signed}
 use Rattle.ec_select_operations.specs.Code.{conversion_code, combined_code}
 use Rattle.ec_select_operations.specs.Code.{compared_code, multiplied_code, shift_of, shifted_bytes, turned_code}
 use Rattle.ec_select_operations.specs.Code.{shifted_code, long_code}
@@ -92,12 +92,13 @@ use Rattle.ec_select_functions.proofs.OnIntegers.{whole_type}
 use Rattle.ec_select_functions.proofs.OnWholes.{on_wholes}
 use Rattle.ec_select_operations.specs.Emitted.{OfKind}
 use Rattle.ec_select_operations.specs.Homes.{home, result_location, HasHome}
-use Rattle.ec_select_functions.proofs.Taken.{TakesSum, TakesOrder, takes, taken_is}
+use Rattle.ec_select_functions.proofs.Taken.{TakesSum, TakesOrder, takes, taken_is, compared_few}
 use Rattle.ec_select_functions.specs.Covered.{AreIntegers, AreCompared}
 use Rattle.ec_select_numbers.specs.ByNumber.{compared_code as compared_with_code}
 use Rattle.ec_select_numbers.specs.Laws.{NumbersAreStraight}
 use Rattle.ec_select_operations.specs.Code.{taking_code, integer_binary, by_number_code, changed_by_code}
-use Rattle.ec_select_operations.specs.Needs.{Need, Facts, wanted, wanted_result, needs, is_fixed, number_taken}
+use Rattle.ec_ir_known.specs.declared.known.RightNumber.{RightNumber}
+use Rattle.ec_select_operations.specs.Needs.{Need, Facts, wanted, wanted_result, needs, is_fixed, number_taken, compared_bytes as bytes_compared}
 use Rattle.ec_select.proofs.ByNumber.{changed_by_words, compared_with_words}
 use Rattle.ec_select_operations.specs.Places.{object_location}
 use Rattle.ec_select_operations.specs.Pointers.{is_pointer, is_into_data, home_of, tag_in, IsPointerSize}
@@ -413,7 +414,7 @@ module _ (laws : WordLaws) where
   brought_words h to a n same bytes =
       let e : home h a ≡ home h to = rw (bytes, ← same) refl in kept_words (home h a) (home h to) n e
 
-  taking_most : (known : Option ℤ) (telling : Option Told) (op : BinOp) (slots : ℕ) (h : Homes) (to a b : Temp)
+  taking_most : (known : Option RightNumber) (telling : Option Told) (op : BinOp) (slots : ℕ) (h : Homes) (to a b : Temp)
       (ty aty bty : PlainType) (left right : Bool) (n : ℕ) → IsBinary (family_of op) slots to a b ty aty bty → n ≤ to.bytes
       → (is_bitwise op ≡ true → to.at ≡ a.at)
       → code_words (integer_binary known telling op left right (home h a) (home h b) (home h to) a.bytes n)
@@ -441,29 +442,30 @@ module _ (laws : WordLaws) where
           row (is_bitwise op) refl (code_words (first ++ second)) (omega (arith, x, z, both, l))
           (λ q. let w = brought_words h to a n (same q) j.left_bytes in omega (arith, w, z, both, l)) j.signed j.result_type
 
-      by_flag : HasHome slots a → (s : Bool) → aty ≡ integer s a.bytes → is_bitwise op ≡ false → (number : ℕ)
-          → code_words (compared_with_code (home h a) number a.bytes) ≤ binary_words op ty aty bty
-      by_flag ia s e q number =
+      by_flag : HasHome slots a → (s : Bool) → aty ≡ integer s a.bytes → is_bitwise op ≡ false → (number compared : ℕ)
+          → compared ≤ a.bytes → code_words (compared_with_code (home h a) number compared) ≤ binary_words op ty aty bty
+      by_flag ia s e q number compared few =
           let y = other_row op ty aty bty q in
           let x = second_within ty aty bty s a.bytes e in
-          let z = compared_with_words laws.numbers (home h a) number a.bytes in
-          let w = within (code_words (compared_with_code (home h a) number a.bytes)) (widest (ty ∷ aty ∷ bty ∷ []))
-          (omega (arith, x, z)) (some_within ty aty bty) in
+          let z = compared_with_words laws.numbers (home h a) number compared in
+          let w = within (code_words (compared_with_code (home h a) number compared)) (widest (ty ∷ aty ∷ bty ∷ []))
+          (omega (arith, x, z, few)) (some_within ty aty bty) in
           omega (arith, y, w)
 
-      by_order : (r : Relation) → AreCompared slots to a b aty bty → is_bitwise op ≡ false → (number : ℕ)
-          → code_words (by_number_code (Compared r false) left right (home h a) (home h b) (home h to) a.bytes number n)
+      by_order : (r : Relation) (sign : Bool) → AreCompared slots to a b aty bty → is_bitwise op ≡ false → (number compared : ℕ)
+          → compared ≤ a.bytes
+          → code_words (by_number_code (Compared r false) sign (home h a) (home h b) (home h to) a.bytes compared number n)
           ≤ binary_words op ty aty bty
-      by_order r j q number =
+      by_order r sign j q number compared fewer =
           let put = constant_code (home h b) number a.bytes in
-          let own = compared_code r left (home h a) (home h b) (home h to) a.bytes n in
+          let own = compared_code r sign (home h a) (home h b) (home h to) compared n in
           let y = other_row op ty aty bty q in
           let x = second_within ty aty bty j.signed a.bytes j.left_type in
           let few = j.result.most in
           let c = (laws.values (home h b) number a.bytes a.bytes).0 in
-          let w = compared_most r left (home h a) (home h b) (home h to) a.bytes n (omega (arith, few, l)) in
+          let w = compared_most r sign (home h a) (home h b) (home h to) compared n (omega (arith, few, l)) in
           let both = joined_words put own in
-          let u = unless_none n (10 * a.bytes + 55) (put ++ own) (omega (arith, c, w, both)) in
+          let u = unless_none n (10 * a.bytes + 55) (put ++ own) (omega (arith, c, w, both, fewer)) in
           let z = within (code_words (if n == 0 then [] else put ++ own)) (widest (ty ∷ aty ∷ bty ∷ [])) (omega (arith, x, u))
           (some_within ty aty bty) in
           omega (arith, y, z)
@@ -477,24 +479,29 @@ module _ (laws : WordLaws) where
           by_op Xor r q = absurd cc
           by_op op r q = refl
 
-      by_number : (x : TakesSum op ⊎ TakesOrder op) → (told : Option Told) (number : ℤ)
+      by_number : (x : TakesSum op ⊎ TakesOrder op) → (told : Option Told) (number : RightNumber)
           → code_words (taking_code (Some number) told (family_of op) left right (home h a) (home h b) (home h to) a.bytes n)
           ≤ binary_words op ty aty bty
       by_number (inl x) None number =
-          rw x.is (by_sum x.operator (subst (λ z. IsBinary z slots to a b ty aty bty) x.is i) (low_bytes 16 number))
+          rw x.is (by_sum x.operator (subst (λ z. IsBinary z slots to a b ty aty bty) x.is i) (low_bytes 16 number.number))
       by_number (inl x) (Some told) number =
           let j = subst (λ z. IsBinary z slots to a b ty aty bty) x.is i in
-          let z = compared_with_words laws.numbers (home h a) (low_bytes 16 number) a.bytes in
+          let compared = bytes_compared (Some number) a.bytes in
+          let few = compared_few number a.bytes in
+          let z = compared_with_words laws.numbers (home h a) (low_bytes 16 number.number) compared in
           let s = j.left_bytes in
-          row (is_bitwise op) refl (code_words (compared_with_code (home h a) (low_bytes 16 number) a.bytes)) (omega (arith, z, s))
-          (λ q. omega (arith, z, s)) j.signed j.result_type
+          row (is_bitwise op) refl (code_words (compared_with_code (home h a) (low_bytes 16 number.number) compared))
+          (omega (arith, z, s, few)) (λ q. omega (arith, z, s, few)) j.signed j.result_type
       by_number (inr x) None number =
-          rw x.is (by_order x.relation (subst (λ z. IsBinary z slots to a b ty aty bty) x.is i) (no_bits x) (low_bytes 16 number))
+          let j = subst (λ z. IsBinary z slots to a b ty aty bty) x.is i in
+          rw x.is (by_order x.relation (compared_signed (Some number) left) j (no_bits x) (low_bytes 16 number.number)
+          (bytes_compared (Some number) a.bytes) (compared_few number a.bytes))
       by_number (inr x) (Some told) number =
           let j = subst (λ z. IsBinary z slots to a b ty aty bty) x.is i in
-          by_flag j.left j.signed j.left_type (no_bits x) (low_bytes 16 number)
+          by_flag j.left j.signed j.left_type (no_bits x) (low_bytes 16 number.number) (bytes_compared (Some number) a.bytes)
+          (compared_few number a.bytes)
 
-      by_taken : (x : Option ℤ) → number_taken known false op ≡ x
+      by_taken : (x : Option RightNumber) → number_taken known false op ≡ x
           → code_words (taking_code x telling (family_of op) left right (home h a) (home h b) (home h to) a.bytes n)
           ≤ binary_words op ty aty bty
       by_taken None q = operator_most telling op slots h to a b ty aty bty left right n i l same
@@ -742,7 +749,7 @@ module _ (laws : WordLaws) where
 
   -- ---- operations on integers, with a fixed-point type, or on pointers
 
-  one_binary : (p : PlainProgram) (known : Option ℤ) (telling : Option Told) (op : BinOp) (ty aty bty : PlainType) (mode : Mode) (slots : ℕ)
+  one_binary : (p : PlainProgram) (known : Option RightNumber) (telling : Option Told) (op : BinOp) (ty aty bty : PlainType) (mode : Mode) (slots : ℕ)
       (h : Homes) (to a b : Temp) (n : ℕ)
       → IsBinary (family_of op) slots to a b ty aty bty
       ⊎ (IsFixedBinary slots op to a b ty aty bty ⊎ IsPointerBinary p slots op to a b ty aty bty)
@@ -926,7 +933,7 @@ module _ (laws : WordLaws) where
     index_row h None = omega arith
     index_row h (Some t) = omega arith
 
-    operation_most : (told telling : Option Told) (known : Option ℤ) (need : Need) (i : PlainIr) → IsCovered p results f called k.slots i
+    operation_most : (told telling : Option Told) (known : Option RightNumber) (need : Need) (i : PlainIr) → IsCovered p results f called k.slots i
         → IsInPlace i → code_words (op_code p (home k.homes) k told telling known need i) ≤ op_words i
     operation_most told telling known need (constant t n) h q =
         let a = (laws.values (home k.homes t) (low_bytes 16 n) (wanted need t) (wanted need t)).0 in omega (arith, a)

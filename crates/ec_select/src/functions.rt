@@ -9,7 +9,7 @@ use crate::labels::{homes_of, label_count};
 use ec_asm::AsmItem;
 use ec_core::leaves_fill_their_types;
 use ec_ir::{IrFunc, IrProgram};
-use ec_ir_known::right_numbers;
+use ec_ir_known::{RightNumber, right_numbers};
 use ec_select_live::{kept, live, valid_operations_have_places, wanted};
 use ec_select_operations::{Linking, function, needed_functions_are_written};
 use ec_space::{NoMemory, Seq};
@@ -57,7 +57,7 @@ fn add_function(
     needed_functions_are_written();
     let of = linking(ir, f, g, first);
     let known = right_numbers(alloc, &g.code, g.slots)?;
-    let numbers: &[Option<i128>] = &known;
+    let numbers: &[Option<RightNumber>] = &known;
     let table = live(alloc, &g.code, numbers, g.slots)?;
     let bytes = wanted(alloc, &table, &g.code, numbers, g.slots)?;
     let rows = kept(alloc, &table, &g.code, numbers, g.slots)?;

@@ -1,10 +1,13 @@
 -- Operators whose second operand is a known number.
-use Rattle.std.proofs.Common.{◌≡◌, ◌≢◌, ℕ, suc, ◌+◌, ◌-◌, ◌*◌, ◌/◌, ◌%◌, ◌^◌, ◌<◌, ◌≤◌, ⊎_elim, Bool, true, false, ℤ, not}
+use Rattle.std.proofs.Common.{◌≡◌, ◌≢◌, ℕ, zero, suc, ◌+◌, ◌-◌, ◌*◌, ◌/◌, ◌%◌, ◌^◌, ◌<◌, ◌≤◌, ⊎_elim, Bool, true, false, ℤ, not}
+use Rattle.std.proofs.Common.{pos, negsuc, int_lt, nat_lt, ◌&&◌, [], ◌∷◌}
 use Rattle.std.proofs.Common.{Some, None, Option, ◌++◌, refl, sym, ap, ◌∙◌, subst, arith, bit_and, bit_or, eqb-true}
 use Rattle.std.specs.Prelude.{◌==◌, if◌then◌else◌}
 use Rattle.std.specs.Int.{from_bool}
 use Rattle.std.proofs.lemmas.Bool.{and_parts, eq-eqb, ne_eqb, cases_eq}
+use Rattle.std.proofs.lemmas.Bool.Decides.{nat_tests}
 use Rattle.std.proofs.lemmas.Nat.{and_mod, or_mod, div-add-mod'}
+use native.Mathlib.Nat.{pow-suc}
 use Rattle.ec_asm.specs.declared.items.AsmItem.{AsmItem}
 use Rattle.ec_asm.specs.declared.pieces.Location.{Location}
 use Rattle.ec_asm.specs.declared.pieces.Operator.{Operator}
@@ -22,8 +25,9 @@ use Rattle.ec_ir.specs.declared.operations.Temp.{Temp}
 use Rattle.ec_ir.specs.Meaning.{Mach, machine}
 use Rattle.ec_ir.specs.Temporaries.{Content, bits, points, Held, Temps, with_content, low_bytes}
 use Rattle.ec_ir_known.specs.declared.known.KnownNumber.{KnownNumber}
-use Rattle.ec_ir_known.specs.Known.{of_bytes}
-use Rattle.ec_ir_known.specs.Laws.{is_held}
+use Rattle.ec_ir_known.specs.declared.known.RightNumber.{RightNumber}
+use Rattle.ec_ir_known.specs.Known.{Known, of_bytes, number_in, is_any, is_byte_of, is_byte, right_of}
+use Rattle.ec_ir_known.specs.Laws.{is_held, are_held, are_bits}
 use Rattle.ec_select_bytes.specs.Values.{byte_of, constant_code}
 use Rattle.ec_select_bytes.proofs.Constants.{constants_are_right}
 use Rattle.ec_select_numbers.specs.declared.operators.ByNumber.{ByNumber}
@@ -43,25 +47,114 @@ use Rattle.ec_select_functions.proofs.Moves.{Frame, Quiet, wider_frame, work_out
 use Rattle.ec_select_functions.proofs.Moves.{move_holds}
 use Rattle.ec_select_functions.proofs.Setting.{Setting, NumberLaws}
 use Rattle.ec_select_functions.proofs.Taken.{is_changed}
-use Rattle.ec_select_functions.proofs.Wrapped.{low_part, low_below, powers, byte_of_bitwise, value_of_bytes}
+use Rattle.ec_select_functions.proofs.Wrapped.{low_part, low_below, kept_below, powers, byte_of_bitwise, value_of_bytes}
 use Rattle.ec_select_functions.specs.Relation.{HoldsContent, Matches}
 
 -- ---- what is held
 
 -- a temporary holds the number that it is known to hold
-pub number_held : (o : Option KnownNumber) (h : Option Held) (bytes low : ℕ) (k : ℤ) → is_held o h ≡ true
+number_held : (o : Option KnownNumber) (h : Option Held) (bytes low : ℕ) (k : ℤ) → is_held o h ≡ true
     → of_bytes bytes o ≡ Some k → h ≡ Some (record { bytes = bytes; content = bits low }) → low ≡ low_bytes bytes k
 number_held None h bytes low k q r s = absurd cc
-number_held (Some n) h bytes low k q r s =
-    let t : is_held (Some n) (Some (record { bytes = bytes; content = bits low })) ≡ true =
-    subst (λ (x : Option Held). is_held (Some n) x ≡ true) s q in
-    let parts = and_parts (bytes == n.bytes) (low == low_bytes n.bytes n.number) t in
-    let size : bytes ≡ n.bytes = eqb-true bytes n.bytes parts.0 in
-    let number : low ≡ low_bytes n.bytes n.number = eqb-true low (low_bytes n.bytes n.number) parts.1 in
-    let same : (n.bytes == bytes) ≡ true = eq-eqb n.bytes bytes (sym size) in
-    let some : Some n.number ≡ Some k = sym (ap (λ x. if x then Some n.number else None) same) ∙ r in
-    let is : n.number ≡ k = cc in
-    number ∙ ap (λ b. low_bytes b n.number) (sym size) ∙ ap (low_bytes bytes) is
+number_held (Some n) h bytes low k q r s = by_size (n.bytes == bytes) refl r
+  where
+    t : is_held (Some n) (Some (record { bytes = bytes; content = bits low })) ≡ true
+    t = subst (λ (x : Option Held). is_held (Some n) x ≡ true) s q
+
+    by_size : (x : Bool) → (n.bytes == bytes) ≡ x → (if x then n.number else None) ≡ Some k → low ≡ low_bytes bytes k
+    by_size false e r = let no : None ≡ Some k = r in absurd cc
+    by_size true e r =
+        let parts = and_parts (bytes == n.bytes) (are_bits n.number n.bytes (bits low)) t in
+        let size : n.bytes ≡ bytes = eqb-true n.bytes bytes e in
+        let there : are_bits (Some k) bytes (bits low) ≡ true =
+        subst (λ (x : ℕ). are_bits (Some k) x (bits low) ≡ true) size
+        (subst (λ (x : Option ℤ). are_bits x n.bytes (bits low) ≡ true) r parts.1) in
+        eqb-true low (low_bytes bytes k) there
+
+-- or one below 256
+byte_held : (o : Option KnownNumber) (h : Option Held) (bytes low : ℕ) → is_held o h ≡ true → is_byte_of bytes o ≡ true
+    → h ≡ Some (record { bytes = bytes; content = bits low }) → low < 256
+byte_held None h bytes low q r s = absurd cc
+byte_held (Some n) h bytes low q r s = by_number n.number refl
+  where
+    t : is_held (Some n) (Some (record { bytes = bytes; content = bits low })) ≡ true
+    t = subst (λ (x : Option Held). is_held (Some n) x ≡ true) s q
+
+    any : is_any n.number ≡ true
+    any = (and_parts (n.bytes == bytes) (is_any n.number) r).1
+
+    there : are_bits n.number n.bytes (bits low) ≡ true
+    there = (and_parts (bytes == n.bytes) (are_bits n.number n.bytes (bits low)) t).1
+
+    by_number : (x : Option ℤ) → n.number ≡ x → low < 256
+    by_number None e =
+        let l : are_bits None n.bytes (bits low) ≡ true = subst (λ (x : Option ℤ). are_bits x n.bytes (bits low) ≡ true) e there in
+        grind (arith, nat_tests, l)
+    by_number (Some k) e = let no : is_any (Some k) ≡ true = subst (λ (x : Option ℤ). is_any x ≡ true) e any in absurd cc
+
+-- what is held of operands of which the second one is known to hold a number
+pub record HoldsRight (a b : Temp) (k : RightNumber) (temps : Temps) : Type 0 where
+  pub number : (low : ℕ) → temps b.at ≡ Some (record { bytes = b.bytes; content = bits low }) → low ≡ low_bytes b.bytes k.number
+  pub byte : k.in_byte ≡ true → (1 < a.bytes) × (is_byte k.number ≡ true)
+      × ((low : ℕ) → temps a.at ≡ Some (record { bytes = a.bytes; content = bits low }) → low < 256)
+
+pub right_held : (known : Known) (a b : Temp) (k : RightNumber) (temps : Temps)
+    → right_of (nat_lt 1 a.bytes && is_byte_of a.bytes (known a.at)) (number_in known b) ≡ Some k
+    → are_held known temps (b.at ∷ a.at ∷ []) ≡ true → HoldsRight a b k temps
+right_held known a b k temps q held = by_number (number_in known b) refl q
+  where
+    both : (is_held (known b.at) (temps b.at) ≡ true) × ((is_held (known a.at) (temps a.at) && true) ≡ true)
+    both = and_parts (is_held (known b.at) (temps b.at)) (is_held (known a.at) (temps a.at) && true) held
+
+    first : is_held (known a.at) (temps a.at) ≡ true
+    first = (and_parts (is_held (known a.at) (temps a.at)) true both.1).0
+
+    byte : Bool
+    byte = nat_lt 1 a.bytes && is_byte_of a.bytes (known a.at)
+
+    by_number : (o : Option ℤ) → number_in known b ≡ o → right_of byte o ≡ Some k → HoldsRight a b k temps
+    by_number None e q = let no : None ≡ Some k = q in absurd cc
+    by_number (Some n) e q =
+        let is : record { number = n; in_byte = byte && is_byte n } ≡ k = cc in
+        let number : n ≡ k.number = ap (λ (x : RightNumber). x.number) is in
+        record {
+          number = λ low s. number_held (known b.at) (temps b.at) b.bytes low k.number both.0 (e ∙ ap Some number) s;
+          byte = λ z.
+              let in_byte : (byte && is_byte n) ≡ true = ap (λ (x : RightNumber). x.in_byte) is ∙ z in
+              let parts = and_parts byte (is_byte n) in_byte in
+              let sides = and_parts (nat_lt 1 a.bytes) (is_byte_of a.bytes (known a.at)) parts.0 in
+              let more = sides.0 in (
+                grind (arith, nat_tests, more),
+                subst (λ (x : ℤ). is_byte x ≡ true) number parts.1,
+                λ low s. byte_held (known a.at) (temps a.at) a.bytes low first sides.1 s,
+              );
+        }
+
+-- ---- numbers below 256
+
+pub record ByteNumber (k : ℤ) : Type 0 where
+  pub value : ℕ
+  pub is : k ≡ pos value
+  pub below : value < 256
+
+pub byte_value : (k : ℤ) → is_byte k ≡ true → ByteNumber k
+byte_value (pos x) q =
+    let p = and_parts (not (int_lt (pos x) (pos 0))) (int_lt (pos x) (pos 256)) q in
+    let l = p.1 in
+    record { value = x; is = refl; below = grind (arith, nat_tests, l) }
+byte_value (negsuc x) q = absurd cc
+
+byte_power : (b : ℕ) → 1 ≤ b → 256 ≤ 256 ^ b
+byte_power zero l = absurd (omega arith)
+byte_power (suc b) l = let e : 256 ^ suc b ≡ 256 ^ b * 256 = pow-suc 256 b in let p = pow_pos b in omega (arith, e, p)
+
+low_of_byte : (b x : ℕ) → 1 ≤ b → x < 256 → low_bytes b (pos x) ≡ x
+low_of_byte b x l m = let p = byte_power b l in kept_below x (256 ^ b) (omega (arith, p, m))
+
+-- its low bytes are itself
+pub byte_bytes : (k : ℤ) (b : ℕ) (q : is_byte k ≡ true) → 1 ≤ b → low_bytes b k ≡ (byte_value k q).value
+byte_bytes k b q l =
+    let v = byte_value k q in ap (low_bytes b) v.is ∙ low_of_byte b v.value l v.below
 
 -- ---- numbers
 

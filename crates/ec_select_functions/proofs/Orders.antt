@@ -1,8 +1,8 @@
 -- The order of numbers, and of their bytes.
 use Rattle.std.proofs.Common.{◌≡◌, ◌≢◌, ℕ, zero, suc, ◌+◌, ◌-◌, ◌*◌, ◌/◌, ◌%◌, ◌^◌, ◌<◌, ◌≤◌, ⊎_elim, Bool, true}
-use Rattle.std.proofs.Common.{false, ℤ, pos, ◌+ℤ◌, ◌-ℤ◌, ◌*ℤ◌, Ok, refl, sym, ap, ◌∙◌, arith, leb-true, leb-false}
+use Rattle.std.proofs.Common.{false, ℤ, pos, ◌+ℤ◌, ◌-ℤ◌, ◌*ℤ◌, Ok, refl, sym, ap, ◌∙◌, arith, leb-true, leb-false, pow-add}
 use Rattle.std.proofs.Common.{◌⊎◌, inl, inr}
-use Rattle.std.specs.Prelude.{nat_le, nat_lt, int_lt, ◌==◌, if◌then◌else◌}
+use Rattle.std.specs.Prelude.{nat_le, nat_lt, int_lt, not, ◌==◌, if◌then◌else◌}
 use Rattle.std.specs.Int.{from_bool}
 use Rattle.std.specs.Ordering.{int_cmp}
 use Rattle.std.specs.declared.cmp.Ordering.{Ordering}
@@ -14,6 +14,7 @@ use Rattle.std.proofs.lemmas.Bool.Decides.{nat_tests}
 use native.Mathlib.Nat.{pow-suc}
 use Rattle.ec_fx.specs.declared.numbers.Mode.{Mode}
 use Rattle.ec_asm.specs.PieceLaws.{moved_up}
+use Rattle.ec_asm.proofs.Numbers.{pow_pos}
 use Rattle.ec_core.specs.declared.expressions.BinOp.{BinOp}
 use Rattle.ec_core.specs.declared.expressions.BinOp.TheVariants.{Lt, Gt, Le, Ge, Eq, Ne}
 use Rattle.ec_core.specs.declared.values.Value.TheVariants.{Number}
@@ -187,6 +188,43 @@ signed_ordered b x z some k l =
 
     moved : (m n : ℤ) (h i j : ℕ) → m ≡ n → i ≡ j → Rises n h j → Rises m h i
     moved m n h i j p q r = record { is = ap (λ t. t +ℤ pos h) p ∙ r.is ∙ ap pos (sym q) }
+
+-- numbers below 256 of more bytes are ordered as bytes are
+pub byte_order : (r : Relation) (s : Bool) (b x z : ℕ) → 1 < b → x < 256 → z < 256
+    → stand_so r s b x z ≡ stand_so r false 1 x z
+byte_order r false b x z more k l = by_relation r
+  where
+    by_relation : (r : Relation) → stand_so r false b x z ≡ stand_so r false 1 x z
+    by_relation IsBelow = refl
+    by_relation NotLess = refl
+    by_relation IsSame = refl
+    by_relation NotEqual = refl
+byte_order r true b x z more k l = by_relation r
+  where
+    less : is_less true b x z ≡ nat_lt x z
+    less =
+        let f = half_of b (omega (arith, more)) in
+        let h = f.0 in
+        let q = f.1 in
+        let two : 256 ^ b ≡ 256 ^ (b - 2) * 65536 =
+        (let e : b ≡ (b - 2) + 2 = omega (arith, more) in ap (λ j. 256 ^ j) e ∙ pow-add 256 (b - 2) 2) in
+        let some : 0 < 256 ^ (b - 2) = pow_pos (b - 2) in
+        let wide : 256 ≤ h = omega (arith, q, two, some) in
+        let kx : moved_up b x ≡ x + h = rw (q, halves (256 ^ b) h q f.2) (up_low x h (omega (arith, wide, k))) in
+        let kz : moved_up b z ≡ z + h = rw (q, halves (256 ^ b) h q f.2) (up_low z h (omega (arith, wide, l))) in
+        ap (λ i. nat_lt i (moved_up b z)) kx ∙ ap (nat_lt (x + h)) kz ∙ both_up x z h
+      where
+        halves : (p h : ℕ) → p ≡ 2 * h → p / 2 ≡ h → 2 * h / 2 ≡ h
+        halves p h q r = omega arith
+
+        both_up : (x z h : ℕ) → nat_lt (x + h) (z + h) ≡ nat_lt x z
+        both_up x z h = grind (arith, nat_tests)
+
+    by_relation : (r : Relation) → stand_so r true b x z ≡ stand_so r false 1 x z
+    by_relation IsBelow = less
+    by_relation NotLess = ap not less
+    by_relation IsSame = refl
+    by_relation NotEqual = refl
 
 plain_rises : (x : ℕ) → Rises (pos x) 0 x
 plain_rises x = record { is = omega (arith, ints) }

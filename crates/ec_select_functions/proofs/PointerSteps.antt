@@ -64,7 +64,7 @@ use Rattle.ec_select_operations.specs.declared.families.Told.{Told}
 use Rattle.ec_select_operations.specs.declared.families.Family.{Family}
 use Rattle.ec_select_operations.specs.declared.families.Family.TheVariants.{Compared}
 use Rattle.ec_select_operations.specs.Code.{is_apart}
-use Rattle.ec_select_operations.specs.Code.{Linkage, op_code, ops_code, told_by, tells_next, family_of, is_signed}
+use Rattle.ec_select_operations.specs.Code.{Linkage, op_code, ops_code, told_by, tells, family_of, is_signed}
 use Rattle.ec_select_operations.specs.Code.{is_only_tested}
 use Rattle.ec_select_operations.specs.Code.{wanted_bytes}
 use Rattle.ec_select_operations.specs.Code.{move_code, conversion_code, offset_code, is_difference}
@@ -587,9 +587,12 @@ module _ (p : PlainProgram) (functions : List PlainIrFunction) (e : Env) (slots 
   code_of i rest = op_code p home link None None None (needs at rest) i
 
   -- an operation that takes no number, and those behind it
+  abbrev plain_told : PlainIr → List PlainIr → Option Told
+  plain_told i rest = tells None i (slice_get rest 0) (slice_index (wanted_bytes at rest) 0)
+
   abbrev plain_items : PlainIr → List PlainIr → List AsmItem
   plain_items i rest =
-      op_code p home link None (tells_next at i rest) None (needs at rest) i ++ ops_code p home link at (tells_next at i rest) rest
+      op_code p home link None (plain_told i rest) None (needs at rest) i ++ ops_code p home link at (plain_told i rest) rest
 
   -- what is needed before it
   abbrev plain_needs : PlainIr → List PlainIr → Need

@@ -52,7 +52,7 @@ use Rattle.ec_select_functions.proofs.Active.{stack_work}
 use Rattle.ec_select_functions.proofs.Active.{base_of, leaf_at, leaf_is, setting_of, selected_of, stack_scratch}
 use Rattle.ec_select_functions.proofs.Active.{stack_leaf}
 use Rattle.ec_select_functions.proofs.Called.{Statement, call_follows}
-use Rattle.ec_select_functions.proofs.Checked.{second_place}
+use Rattle.ec_select_functions.proofs.Checked.{operand_places}
 use Rattle.ec_select_functions.proofs.Follow.{Follows, stay}
 use Rattle.ec_select_functions.proofs.Match.{HadValue, had_value, kept_frames}
 use Rattle.ec_select_functions.proofs.Numbers.{signed_word}
@@ -304,11 +304,11 @@ module _ (laws : CodeLaws) (p : PlainIrProgram) (place entry_of : ℕ → ℕ) (
   entered : (n : ℕ) → Follows program_data place e n 0 s.pc v (ir_run p inputs n)
   unfolding active
   entered n =
-      subst (λ o. Follows program_data place e n 0 s.pc v o) (laws.known second_place p inputs n)
+      subst (λ o. Follows program_data place e n 0 s.pc v o) (laws.known operand_places p inputs n)
       (by_main (slice_get p.functions p.main) refl)
     where
       by_main : (o : Option PlainIrFunction) → slice_get p.functions p.main ≡ o
-          → Follows program_data place e n 0 s.pc v (enter o (λ q m. checked second_place p.functions program_data inputs n q m) []
+          → Follows program_data place e n 0 s.pc v (enter o (λ q m. checked operand_places p.functions program_data inputs n q m) []
           (start program_data))
       by_main None is = tt
       by_main (Some g) is =

@@ -26,7 +26,7 @@ use Rattle.ec_asm.specs.Pieces.{StandsFrom, Outside, KeepsAll, value, copy_code,
 use Rattle.ec_asm.specs.PieceLaws.{HoldsNumbers}
 use Rattle.ec_asm.specs.Takes.{Goes, if_bit}
 use Rattle.ec_asm.proofs.Hoare.{has_parts, block_goes, goes_on_to, steps-append, straight-append}
-use Rattle.ec_asm.proofs.Numbers.{value_mod}
+use Rattle.ec_asm.proofs.Numbers.{pow_pos, value_mod}
 use Rattle.ec_asm.proofs.Results.{pieces_are_straight, pieces_take, comparisons_keep}
 use Rattle.ec_asm.proofs.Sum.{value-same}
 use Rattle.ec_asm.proofs.Takes.{jump_goes, branch_taken, branch_passed, jump_has_word, branch_has_word}
@@ -61,7 +61,8 @@ use Rattle.ec_ir.specs.Operations.{call_function, port_in, port_out, PlainIrFunc
 use Rattle.ec_ir.specs.Temporaries.{Content, bits, points, number_of_bytes, low_bytes, Temps, content_of, value_in}
 use Rattle.ec_ir.specs.Temporaries.{Held, with_content, with_temp, is_zero}
 use Rattle.ec_select_operations.specs.Homes.{HasHome}
-use Rattle.ec_ir_known.specs.Known.{known_at}
+use Rattle.ec_ir_known.specs.declared.known.RightNumber.{RightNumber}
+use Rattle.ec_ir_known.specs.Known.{known_at, is_byte}
 use Rattle.ec_select_numbers.specs.declared.operators.ByNumber.TheVariants.{Subtract}
 use Rattle.ec_select_numbers.specs.ByNumber.{compared_code as compared_with_code}
 use Rattle.ec_select_bytes.specs.Values.{test_code, extend_code, constant_code}
@@ -85,10 +86,10 @@ use Rattle.ec_select_operations.specs.declared.families.Family.{Family}
 use Rattle.ec_select_operations.specs.declared.families.Family.TheVariants.{Combined, Compared, Multiplied, Shifted}
 use Rattle.ec_select_operations.specs.declared.families.Family.TheVariants.{Divided}
 use Rattle.ec_select_operations.specs.declared.families.Told.{Told}
-use Rattle.ec_select_operations.specs.Code.{Linkage, told_of, is_only_tested, tells_next, flag_code, is_signed}
+use Rattle.ec_select_operations.specs.Code.{Linkage, told_of, is_only_tested, tells, tells_next, flag_code, is_signed, compared_signed}
 use Rattle.ec_select_operations.specs.Code.{op_code, ops_code, family_of, same_location, reversed_code}
 use Rattle.ec_select_operations.specs.Code.{combined_code, binary_code, turn_code, unary_code, move_code}
-use Rattle.ec_select_operations.specs.Code.{by_number_code, taking_code, changed_by_code}
+use Rattle.ec_select_operations.specs.Code.{compared_code, taking_code, changed_by_code}
 use Rattle.ec_select_operations.specs.Code.{conversion_code, turned_code, shift_of, shifted_bytes, long_code}
 use Rattle.ec_select_functions.specs.Covered.{IsCovered, IsBinary, IsUnary, AreConverted, IsPort, AreCovered}
 use Rattle.ec_select_functions.specs.Covered.{AreIntegers, AreCompared}
@@ -112,7 +113,7 @@ use Rattle.ec_select_fixed.proofs.Formats.{fixed_number_type}
 use Rattle.ec_select_fixed.proofs.Operators.{IsNumber, as_told, binary_told}
 use Rattle.ec_select_fixed.specs.FixedLaws.{AreOperandSlots, HasOperandBytes}
 use Rattle.ec_select_operations.specs.Needs.{is_fixed, is_whole, first_wanted, second_wanted, only_wanted, right_needed}
-use Rattle.ec_select_operations.specs.Needs.{takes_number, number_taken}
+use Rattle.ec_select_operations.specs.Needs.{takes_number, number_taken, compared_bytes}
 use Rattle.ec_select_operations.specs.Pointers.{is_pointer, address_number, IsPointerIn}
 use Rattle.ec_select_operations.specs.Code.{pointer_binary, pointer_conversion}
 use Rattle.ec_select_operations.specs.Places.{IsNumeric}
@@ -129,10 +130,10 @@ use Rattle.ec_select_functions.proofs.MemorySteps.{load_follows, store_follows}
 use Rattle.ec_select_functions.proofs.PointerNumbers.{place_of, objects_have_places, address_is, address_low}
 use Rattle.ec_select_functions.proofs.PointerNumbers.{number_below}
 use Rattle.ec_select_functions.proofs.PointerSteps.{pointer_binary_follows, pointer_conversion_follows}
-use Rattle.ec_select_functions.proofs.Computed.{constant_matches, copy_matches, binary_matches, moved_numbers}
+use Rattle.ec_select_functions.proofs.Computed.{stand, constant_matches, copy_matches, binary_matches, moved_numbers}
 use Rattle.ec_select_functions.proofs.Computed.{result_of}
 use Rattle.ec_select_functions.proofs.Taken.{is_changed, TakesSum, TakesOrder, takes, taken_is}
-use Rattle.ec_select_functions.proofs.ByNumber.{changed_form, number_held, number_low, number_matches, number_put}
+use Rattle.ec_select_functions.proofs.ByNumber.{changed_form, right_held, ByteNumber, byte_value, byte_bytes, number_low, number_matches, number_put}
 use Rattle.ec_select_functions.proofs.ByNumber.{fails_by_number, holds_by_number}
 use Rattle.ec_select_functions.proofs.Extended.{conversion_matches}
 use Rattle.ec_select_functions.proofs.FixedRuns.{answer_passes, slots_of, operand_slots_of}
@@ -157,7 +158,7 @@ use Rattle.ec_select_functions.proofs.Numbers.{gives_of}
 use Rattle.ec_select_functions.proofs.Numeric.{sign_in, number_in, value_is, from_typed}
 use Rattle.ec_select_functions.proofs.OnIntegers.{whole_of, whole_type, negation_as, number_kept}
 use Rattle.ec_select_functions.proofs.OnWholes.{IsOnWholes, on_wholes, more_needed, at_most_all}
-use Rattle.ec_select_functions.proofs.Orders.{first_of_two, decided}
+use Rattle.ec_select_functions.proofs.Orders.{first_of_two, decided, byte_order}
 use Rattle.ec_select_functions.proofs.Related.{told_matches}
 use Rattle.ec_select_functions.proofs.Truth.{bit_is, not_not, truth_low, held_at, content_of_held, same_temp}
 use Rattle.ec_select_functions.proofs.Multiplied.{product_low}
@@ -192,9 +193,12 @@ module _ (p : PlainProgram) (functions : List PlainIrFunction) (e : Env) (slots 
   code_of i rest = op_code p home link None None None (needs at rest) i
 
   -- an operation that takes no number, and those behind it
+  abbrev plain_told : PlainIr → List PlainIr → Option Told
+  plain_told i rest = tells None i (slice_get rest 0) (slice_index (wanted_bytes at rest) 0)
+
   abbrev plain_items : PlainIr → List PlainIr → List AsmItem
   plain_items i rest =
-      op_code p home link None (tells_next at i rest) None (needs at rest) i ++ items_told (tells_next at i rest) rest
+      op_code p home link None (plain_told i rest) None (needs at rest) i ++ items_told (plain_told i rest) rest
 
   -- what is needed before it
   abbrev plain_needs : PlainIr → List PlainIr → Need
@@ -340,6 +344,17 @@ module _ (p : PlainProgram) (functions : List PlainIrFunction) (e : Env) (slots 
   abbrev IsKnown : Temp → ℤ → Mach → Type 0
   IsKnown b k m = (low : ℕ) → m.temps b.at ≡ Some (record { bytes = b.bytes; content = bits low }) → low ≡ low_bytes b.bytes k
 
+  -- two operands, of which the second one is a known number, are compared by so many bytes
+  record AreComparedBy (a b : Temp) (k : ℤ) (s : Bool) (size : ℕ) (sign : Bool) (m : Mach) : Type 0 where
+    some : 1 ≤ size
+    within : size ≤ a.bytes
+    left : (low1 low2 : ℕ) → m.temps a.at ≡ Some (record { bytes = a.bytes; content = bits low1 }) → low1 < 256 ^ a.bytes
+        → low1 < 256 ^ size
+    right : (low2 : ℕ) → m.temps b.at ≡ Some (record { bytes = b.bytes; content = bits low2 }) → low_bytes 16 k % 256 ^ size ≡ low2
+    same : (r : Relation) (low1 low2 : ℕ) → m.temps a.at ≡ Some (record { bytes = a.bytes; content = bits low1 })
+        → m.temps b.at ≡ Some (record { bytes = b.bytes; content = bits low2 })
+        → stand_so r s a.bytes low1 low2 ≡ stand_so r sign size low1 low2
+
   -- what is needed before an operator
   abbrev operands_needed : BinOp → (t a b : Temp) → (ka kb : ℕ) → Need → Need
   operands_needed op t a b ka kb need = at_least a.at ka (at_least b.at kb (without t.at need))
@@ -390,8 +405,8 @@ module _ (p : PlainProgram) (functions : List PlainIrFunction) (e : Env) (slots 
   combined_number_follows : (op : BinOp) (o : Operator) → family_of op ≡ Combined o → is_changed o ≡ true → (s s1 s2 : Bool)
       (mode : Mode) (t a b : Temp) (k : ℤ) (rest : List PlainIr) (n pc : ℕ) (m : Mach) (v : View) → HasHome slots t
       → HasHome slots a → HasHome slots b → a.bytes ≡ t.bytes → b.bytes ≡ t.bytes → IsKnown b k m
-      → HasAt e (by_number_code (Combined o) s1 s2 (home a) (home b) (home t) a.bytes (low_bytes 16 k) (wanted (needs at rest) t)
-      ++ items rest) pc end
+      → HasAt e ((move_code (home a) (home t) (wanted (needs at rest) t)
+      ++ changed_by_code o (home t) (low_bytes 16 k) (wanted (needs at rest) t)) ++ items rest) pc end
       → M (at_least a.at (wanted (needs at rest) t) (without t.at (needs at rest))) m v → Rest (suc n) rest
       → G (suc n) m.state.work pc v
       (P n (binary_op op (integer s t.bytes) mode t a (integer s1 a.bytes) b (integer s2 b.bytes)) rest m)
@@ -529,7 +544,7 @@ module _ (p : PlainProgram) (functions : List PlainIrFunction) (e : Env) (slots 
   -- the code of a relation of two temporaries, and what comes after it
   related_passes : (r : Relation) (s : Bool) (t l u : Temp) (bytes x z c : ℕ) (rest : List PlainIr) (n pc w : ℕ) (need0 : Need)
       (m : Mach) (v : View)
-      → HasHome slots t → HasHome slots l → HasHome slots u → l.bytes ≡ suc bytes → u.bytes ≡ suc bytes → suc bytes ≤ 16
+      → HasHome slots t → HasHome slots l → HasHome slots u → suc bytes ≤ l.bytes → suc bytes ≤ u.bytes → suc bytes ≤ 16
       → value v.at (base l) (suc bytes) ≡ x → value v.at (base u) (suc bytes) ≡ z → w + 102 ≤ m.state.work + c
       → HasAt e
       ((relation_code r s (home l) (home u) (suc bytes) ++ conversion_code false (InRegisters 30) (home t) 1
@@ -543,9 +558,9 @@ module _ (p : PlainProgram) (functions : List PlainIrFunction) (e : Env) (slots 
       let s1 = has_parts e (relation ++ conversion) (items rest) pc end stands in
       let s2 = has_parts e relation conversion pc s1.0 s1.1 in
       let left : StandsFrom e (home l) (suc bytes) (base l) Own =
-      subst (λ j. StandsFrom e (home l) j (base l) Own) ql (y.layout.temps_at l il) in
+      stand p e slots home base place y l (suc bytes) il ql in
       let right : StandsFrom e (home u) (suc bytes) (base u) Own =
-      subst (λ j. StandsFrom e (home u) j (base u) Own) qu (y.layout.temps_at u iu) in
+      stand p e slots home base place y u (suc bytes) iu qu in
       let told0 = relations_are_told r s e (home l) (home u) bytes (base l) (base u) pc s2.0 v left right h.bytes s2.1 in
       let truth : stand_so r s (suc bytes) (value v.at (base l) (suc bytes)) (value v.at (base u) (suc bytes))
       ≡ stand_so r s (suc bytes) x z = rw (xl, zu) refl in
@@ -704,7 +719,8 @@ module _ (p : PlainProgram) (functions : List PlainIrFunction) (e : Env) (slots 
               (op_steps (binary_op op ty mode t a (integer s a.bytes) b (integer s b.bytes))) m))) (sym size)
               (related_passes r s t a b bytes low1 low2
               (op_steps (binary_op op ty mode t a (integer s a.bytes) b (integer s b.bytes))) rest n pc m.state.work
-              (operands_needed op t a b a.bytes b.bytes (needs at rest)) m v it ia ib size (same ∙ size) (omega arith) la lb
+              (operands_needed op t a b a.bytes b.bytes (needs at rest)) m v it ia ib (omega (arith, size)) (omega (arith, same, size))
+              (omega arith) la lb
               (omega (arith, relation_big op ty (integer s a.bytes) (integer s b.bytes))) stand
               (other_needed op t a b a.bytes b.bytes (needs at rest)) all_needed f)
           by_side all_needed left_is right_is true bytes size w =
@@ -726,7 +742,8 @@ module _ (p : PlainProgram) (functions : List PlainIrFunction) (e : Env) (slots 
               (op_steps (binary_op op ty mode t a (integer s a.bytes) b (integer s b.bytes))) m))) (sym size)
               (related_passes r s t b a bytes low2 low1
               (op_steps (binary_op op ty mode t a (integer s a.bytes) b (integer s b.bytes))) rest n pc m.state.work
-              (operands_needed op t a b a.bytes b.bytes (needs at rest)) m v it ib ia (same ∙ size) size (omega arith) lb la
+              (operands_needed op t a b a.bytes b.bytes (needs at rest)) m v it ib ia (omega (arith, same, size)) (omega (arith, size))
+              (omega arith) lb la
               (omega (arith, relation_big op ty (integer s a.bytes) (integer s b.bytes))) stand
               (other_needed op t a b a.bytes b.bytes (needs at rest)) all_needed f)
 
@@ -742,26 +759,28 @@ module _ (p : PlainProgram) (functions : List PlainIrFunction) (e : Env) (slots 
 
   -- a comparison with a known number, whose truth value is needed: the number is put to its temporary first
   related_number_follows : (op : BinOp) (r : Relation) → family_of op ≡ Compared r false
-      → (s : Bool) (ty : PlainType) (mode : Mode) (t a b : Temp) (k : ℤ) (rest : List PlainIr) (n pc : ℕ) (m : Mach) (v : View)
-      → HasHome slots t → HasHome slots a → HasHome slots b → b.bytes ≡ a.bytes → IsKnown b k m
-      → HasAt e (by_number_code (Compared r false) s s (home a) (home b) (home t) a.bytes (low_bytes 16 k) (wanted (needs at rest) t)
-      ++ items rest) pc end
-      → M (at_least a.at (operand_wanted op a.bytes (wanted (needs at rest) t)) (without t.at (needs at rest))) m v
+      → (s sign : Bool) (size : ℕ) (ty : PlainType) (mode : Mode) (t a b : Temp) (k : ℤ) (rest : List PlainIr) (n pc : ℕ) (m : Mach)
+      (v : View) → HasHome slots t → HasHome slots a → HasHome slots b → b.bytes ≡ a.bytes → IsKnown b k m
+      → AreComparedBy a b k s size sign m
+      → HasAt e ((if wanted (needs at rest) t == 0 then []
+      else constant_code (home b) (low_bytes 16 k) a.bytes
+      ++ compared_code r sign (home a) (home b) (home t) size (wanted (needs at rest) t)) ++ items rest) pc end
+      → M (at_least a.at (operand_wanted op size (wanted (needs at rest) t)) (without t.at (needs at rest))) m v
       → Rest (suc n) rest
       → G (suc n) m.state.work pc v (P n (binary_op op ty mode t a (integer s a.bytes) b (integer s b.bytes)) rest m)
-  related_number_follows op r is s ty mode t a b k rest n pc m v it ia ib same known stands h f =
+  related_number_follows op r is s sign size ty mode t a b k rest n pc m v it ia ib same known by stands h f =
       compared_numbers op r false is s ty mode t a b rest n pc need0 m v ia ib same h
-      (λ low1 low2 qa qb below1 below2. ⊎_elim (λ q. dead q low1 low2) (λ q. alive q low1 low2 qa qb below1 below2)
+      (λ low1 low2 qa qb below1 below2. ⊎_elim (λ q. dead q low1 low2) (λ q. alive q low1 low2 qa qb below1)
       (cases_Bool (w == 0)))
     where
       w : ℕ
       w = wanted (needs at rest) t
 
       need0 : Need
-      need0 = at_least a.at (operand_wanted op a.bytes w) (without t.at (needs at rest))
+      need0 = at_least a.at (operand_wanted op size w) (without t.at (needs at rest))
 
       need1 : Need
-      need1 = operands_needed op t a b a.bytes b.bytes (needs at rest)
+      need1 = operands_needed op t a b size b.bytes (needs at rest)
 
       c : ℕ
       c = op_steps (binary_op op ty mode t a (integer s a.bytes) b (integer s b.bytes))
@@ -773,12 +792,12 @@ module _ (p : PlainProgram) (functions : List PlainIrFunction) (e : Env) (slots 
       put = constant_code (home b) number a.bytes
 
       own : List AsmItem
-      own = binary_code (Compared r false) s s (home a) (home b) (home t) a.bytes w
+      own = compared_code r sign (home a) (home b) (home t) size w
 
       still : (u : ℕ) → u ≢ t.at → needs at rest u ≤ need0 u
       still u d =
           let x = without_other t.at u (needs at rest) d in
-          let z = least_other a.at (operand_wanted op a.bytes w) u (without t.at (needs at rest)) in
+          let z = least_other a.at (operand_wanted op size w) u (without t.at (needs at rest)) in
           omega (arith, x, z)
 
       dead : (w == 0) ≡ true → (low1 low2 : ℕ)
@@ -795,13 +814,15 @@ module _ (p : PlainProgram) (functions : List PlainIrFunction) (e : Env) (slots 
           (λ mid u. f mid m1 v u matches)
 
       alive : (w == 0) ≡ false → (low1 low2 : ℕ) → m.temps a.at ≡ Some (record { bytes = a.bytes; content = bits low1 })
-          → m.temps b.at ≡ Some (record { bytes = b.bytes; content = bits low2 }) → low1 < 256 ^ a.bytes → low2 < 256 ^ a.bytes
+          → m.temps b.at ≡ Some (record { bytes = b.bytes; content = bits low2 }) → low1 < 256 ^ a.bytes
           → G (suc n) m.state.work pc v (R (suc n) rest (told_machine t (stand_so r s a.bytes low1 low2) c m))
-      alive q low1 low2 qa qb below1 below2 = by_size (a.bytes - 1) (let some = ia.some in omega arith)
+      alive q low1 low2 qa qb below1 =
+          subst (λ (x : Bool). G (suc n) m.state.work pc v (R (suc n) rest (told_machine t x c m)))
+          (sym (by.same r low1 low2 qa qb)) (by_size (size - 1) (let some = by.some in omega arith))
         where
-          all_needed : M (at_least a.at a.bytes (without t.at (needs at rest))) m v
+          all_needed : M (at_least a.at size (without t.at (needs at rest))) m v
           all_needed =
-              subst (λ x. M (at_least a.at x (without t.at (needs at rest))) m v) (all_wanted op r false is a.bytes w q) h
+              subst (λ x. M (at_least a.at x (without t.at (needs at rest))) m v) (all_wanted op r false is size w q) h
 
           v1 : View
           v1 = block e put v
@@ -809,44 +830,49 @@ module _ (p : PlainProgram) (functions : List PlainIrFunction) (e : Env) (slots 
           matches : M need1 m v1
           matches =
               subst (λ j. M need1 m (block e (constant_code (home b) number j) v)) same
-              (number_put p e slots home base place y b k low2 need1 (at_least a.at a.bytes (without t.at (needs at rest))) m v ib qb
+              (number_put p e slots home base place y b k low2 need1 (at_least a.at size (without t.at (needs at rest))) m v ib qb
               (known low2 qb) (λ u d. more u d) all_needed)
             where
-              more : (u : ℕ) → u ≢ b.at → need1 u ≤ at_least a.at a.bytes (without t.at (needs at rest)) u
+              more : (u : ℕ) → u ≢ b.at → need1 u ≤ at_least a.at size (without t.at (needs at rest)) u
               more u d =
                   let x = ne_eqb u b.at d in
                   rw x (omega arith)
 
-          by_size : (bytes : ℕ) → a.bytes ≡ suc bytes
-              → G (suc n) m.state.work pc v (R (suc n) rest (told_machine t (stand_so r s a.bytes low1 low2) c m))
-          by_size bytes size =
+          by_size : (bytes : ℕ) → size ≡ suc bytes
+              → G (suc n) m.state.work pc v (R (suc n) rest (told_machine t (stand_so r sign size low1 low2) c m))
+          by_size bytes is_size =
               let eight = ia.most in
+              let within = by.within in
               let take = (values_take (home b) number 0 a.bytes).0 in
               let straight = (values_are_straight (home b) number 0 a.bytes).0 in
               let wide = relation_wide op ty (integer s a.bytes) (integer s b.bytes) in
-              let relation = relation_code r s (home a) (home b) a.bytes ++ conversion_code false (InRegisters 30) (home t) 1 w in
-              let code : by_number_code (Compared r false) s s (home a) (home b) (home t) a.bytes number w ≡ put ++ relation =
+              let relation = relation_code r sign (home a) (home b) size ++ conversion_code false (InRegisters 30) (home t) 1 w in
+              let code : (if w == 0 then [] else put ++ own) ≡ put ++ relation =
               ap (λ (x : Bool). if x then [] else put ++ (if x then [] else relation)) q in
               let stand : HasAt e (put ++ (relation ++ items rest)) pc end =
               subst (λ (x : List AsmItem). HasAt e x pc end) (ap (λ (x : List AsmItem). x ++ items rest) code
               ∙ append_assoc put relation (items rest)) stands in
-              let left : value v1.at (base a) a.bytes ≡ low1 =
-              left_holds op t a b a.bytes b.bytes low1 (needs at rest) m v1 ia (omega arith) qa matches
-              ∙ kept_below low1 (256 ^ a.bytes) below1 in
-              let right : value v1.at (base b) a.bytes ≡ low2 =
-              subst (λ j. value v1.at (base b) j ≡ low2 % 256 ^ j) same
-              (right_holds op t a b a.bytes b.bytes low2 (needs at rest) m v1 ib (omega arith) qb matches)
-              ∙ kept_below low2 (256 ^ a.bytes) below2 in
-              let m1 = told_machine t (stand_so r s a.bytes low1 low2) c m in
+              let left : value v1.at (base a) size ≡ low1 =
+              left_holds op t a b size b.bytes low1 (needs at rest) m v1 ia within qa matches
+              ∙ kept_below low1 (256 ^ size) (by.left low1 low2 qa below1) in
+              let here = least_here b.at b.bytes (without t.at (needs at rest)) in
+              let also = least_other a.at size b.at (at_least b.at b.bytes (without t.at (needs at rest))) in
+              let few : low2 < 256 ^ size =
+              subst (λ x. x < 256 ^ size) (by.right low2 qb) (mod_below number (256 ^ size) (pow_pos size)) in
+              let right : value v1.at (base b) size ≡ low2 =
+              (at_width p e slots home base place y need1 m v1 b _ size matches ib qb refl (omega (arith, here, also, within, same))).0
+              ∙ kept_below low2 (256 ^ size) few in
+              let m1 = told_machine t (stand_so r sign size low1 low2) c m in
               goes_past put (relation ++ items rest) (suc n) (suc n) m.state.work (m.state.work + code_steps put) pc v
               (R (suc n) rest m1) stand straight (omega arith) (omega arith)
               (λ mid u. subst (λ j. G (suc n) (m.state.work + code_steps put) mid v1
-              (R (suc n) rest (told_machine t (stand_so r s j low1 low2) c m))) (sym size)
-              (related_passes r s t a b bytes low1 low2 c rest n mid (m.state.work + code_steps put) need1 m v1 it ia ib size
-              (same ∙ size) (omega arith) (subst (λ j. value v1.at (base a) j ≡ low1) size left)
-              (subst (λ j. value v1.at (base b) j ≡ low2) size right) (omega (arith, take, eight, wide))
-              (subst (λ j. HasAt e ((relation_code r s (home a) (home b) j ++ conversion_code false (InRegisters 30) (home t) 1 w)
-              ++ items rest) mid end) size u) (other_needed op t a b a.bytes b.bytes (needs at rest)) matches f))
+              (R (suc n) rest (told_machine t (stand_so r sign j low1 low2) c m))) (sym is_size)
+              (related_passes r sign t a b bytes low1 low2 c rest n mid (m.state.work + code_steps put) need1 m v1 it ia ib
+              (omega (arith, is_size, within)) (omega (arith, is_size, within, same)) (omega (arith, is_size, within, eight))
+              (subst (λ j. value v1.at (base a) j ≡ low1) is_size left)
+              (subst (λ j. value v1.at (base b) j ≡ low2) is_size right) (omega (arith, take, eight, wide))
+              (subst (λ j. HasAt e ((relation_code r sign (home a) (home b) j ++ conversion_code false (InRegisters 30) (home t) 1 w)
+              ++ items rest) mid end) is_size u) (other_needed op t a b size b.bytes (needs at rest)) matches f))
 
   -- ---- products
 
@@ -2888,7 +2914,7 @@ module _ (p : PlainProgram) (functions : List PlainIrFunction) (e : Env) (slots 
   told_number_passes : (start l : ℕ) (r : Relation) (s : Bool) (t x1 : Temp) (bytes x z number c : ℕ) (rest : List PlainIr)
       (n pc : ℕ) (need0 : Need) (m : Mach) (v : View) → Ready start all → AreCovered p results me y.called slots rest
       → IsLiveBy at rest → ((b : ℕ) → Contains (called_in rest) b → Contains (called_in all) b) → HasHome slots t
-      → HasHome slots x1 → x1.bytes ≡ suc bytes → value v.at (base x1) (suc bytes) ≡ x → number % 256 ^ suc bytes ≡ z → 102 ≤ c
+      → HasHome slots x1 → suc bytes ≤ x1.bytes → value v.at (base x1) (suc bytes) ≡ x → number % 256 ^ suc bytes ≡ z → 102 ≤ c
       → wanted (either (needs at rest) (labels l)) t ≡ 0
       → HasAt e (compared_with_code (home x1) number (suc bytes) ++ (unless_code r s (link.label_of l) ++ items rest)) pc end
       → ((k : ℕ) → k ≢ t.at → either (needs at rest) (labels l) k ≤ need0 k) → M need0 m v → Onward n
@@ -2902,10 +2928,9 @@ module _ (p : PlainProgram) (functions : List PlainIrFunction) (e : Env) (slots 
       let v1 = block e code v in
       let m1 = told_machine t truth c m in
       let s1 = has_parts e code (unless_code r s (link.label_of l) ++ items rest) pc end stands in
-      let sa : StandsFrom e (home x1) (suc bytes) (base x1) Own =
-      subst (λ j. StandsFrom e (home x1) j (base x1) Own) q1 (y.layout.temps_at x1 i1) in
+      let sa : StandsFrom e (home x1) (suc bytes) (base x1) Own = stand p e slots home base place y x1 (suc bytes) i1 q1 in
       let outside : Outside (base x1) (suc bytes) 30 =
-      subst (λ j. Outside (base x1) j 30) q1 (work_outside (base x1) x1.bytes (y.layout.temps_work x1 i1)) in
+      narrower (base x1) x1.bytes (suc bytes) 30 q1 (work_outside (base x1) x1.bytes (y.layout.temps_work x1 i1)) in
       let k = y.numbers.compared e (home x1) number bytes (base x1) v sa outside h.bytes in
       let empty : value v1.at (base t) 0 ≡ low % 256 ^ 0 = omega arith in
       let matches : M both m1 v1 =
@@ -3011,20 +3036,23 @@ module _ (p : PlainProgram) (functions : List PlainIrFunction) (e : Env) (slots 
 
   -- the same with a known number
   told_number_follows : (start l : ℕ) (op : BinOp) (r : Relation) → family_of op ≡ Compared r false
-      → (s : Bool) (ty : PlainType) (mode : Mode) (t a b : Temp) (k : ℤ) (rest : List PlainIr) (n pc : ℕ) (m : Mach) (v : View)
-      → Ready start all → AreCovered p results me y.called slots rest → IsLiveBy at rest
+      → (s sign : Bool) (size : ℕ) (ty : PlainType) (mode : Mode) (t a b : Temp) (k : ℤ) (rest : List PlainIr) (n pc : ℕ) (m : Mach)
+      (v : View) → Ready start all → AreCovered p results me y.called slots rest → IsLiveBy at rest
       → ((c : ℕ) → Contains (called_in rest) c → Contains (called_in all) c) → HasHome slots t → HasHome slots a
-      → HasHome slots b → b.bytes ≡ a.bytes → IsKnown b k m → wanted (either (needs at rest) (labels l)) t ≡ 0
-      → HasAt e (compared_with_code (home a) (low_bytes 16 k) a.bytes ++ (unless_code r s (link.label_of l) ++ items rest)) pc end
-      → M (at_least a.at (operand_wanted op a.bytes (wanted (needs at (branch_zero t l ∷ rest)) t))
+      → HasHome slots b → b.bytes ≡ a.bytes → AreComparedBy a b k s size sign m → wanted (either (needs at rest) (labels l)) t ≡ 0
+      → HasAt e (compared_with_code (home a) (low_bytes 16 k) size ++ (unless_code r sign (link.label_of l) ++ items rest)) pc end
+      → M (at_least a.at (operand_wanted op size (wanted (needs at (branch_zero t l ∷ rest)) t))
       (without t.at (needs at (branch_zero t l ∷ rest)))) m v
       → Onward n
       → G (suc n) m.state.work pc v
       (P n (binary_op op ty mode t a (integer s a.bytes) b (integer s b.bytes)) (branch_zero t l ∷ rest) m)
-  told_number_follows start l op r is s ty mode t a b k rest n pc m v ready covered live inside it ia ib same known none stands h f =
+  told_number_follows start l op r is s sign size ty mode t a b k rest n pc m v ready covered live inside it ia ib same by none stands h f =
       compared_numbers op r false is s ty mode t a b (branch_zero t l ∷ rest) n pc
-      (at_least a.at (operand_wanted op a.bytes (wanted need t)) (without t.at need)) m v ia ib same h
-      (λ low1 low2 qa qb below1 below2. let some = ia.some in by_size low1 low2 qa qb below1 (a.bytes - 1) (omega arith))
+      (at_least a.at (operand_wanted op size (wanted need t)) (without t.at need)) m v ia ib same h
+      (λ low1 low2 qa qb below1 below2.
+      subst (λ (x : Bool). G (suc n) m.state.work pc v (R (suc n) (branch_zero t l ∷ rest) (told_machine t x c m)))
+      (sym (by.same r low1 low2 qa qb))
+      (let some = by.some in by_size low1 low2 qa qb below1 (size - 1) (omega arith)))
     where
       need : Need
       need = needs at (branch_zero t l ∷ rest)
@@ -3036,7 +3064,7 @@ module _ (p : PlainProgram) (functions : List PlainIrFunction) (e : Env) (slots 
       number = low_bytes 16 k
 
       need0 : Need
-      need0 = at_least a.at a.bytes (without t.at need)
+      need0 = at_least a.at size (without t.at need)
 
       tested_needed : (wanted need t == 0) ≡ false
       tested_needed =
@@ -3045,37 +3073,36 @@ module _ (p : PlainProgram) (functions : List PlainIrFunction) (e : Env) (slots 
           ne_eqb (wanted need t) 0 (λ q. absurd (omega (arith, here, some, q)))
 
       all_needed : M need0 m v
-      all_needed = subst (λ x. M (at_least a.at x (without t.at need)) m v) (all_wanted op r false is a.bytes
+      all_needed = subst (λ x. M (at_least a.at x (without t.at need)) m v) (all_wanted op r false is size
           (wanted need t) tested_needed) h
 
       more : (u : ℕ) → u ≢ t.at → either (needs at rest) (labels l) u ≤ need0 u
       more u d =
           let x = without_other t.at u need d in
-          let w = least_other a.at a.bytes u (without t.at need) in
+          let w = least_other a.at size u (without t.at need) in
           let z = least_other t.at t.bytes u (either (needs at rest) (labels l)) in
           omega (arith, x, w, z)
 
       by_size : (low1 low2 : ℕ) → m.temps a.at ≡ Some (record { bytes = a.bytes; content = bits low1 })
           → m.temps b.at ≡ Some (record { bytes = b.bytes; content = bits low2 }) → low1 < 256 ^ a.bytes → (bytes : ℕ)
-          → a.bytes ≡ suc bytes
-          → G (suc n) m.state.work pc v
-          (R (suc n) (branch_zero t l ∷ rest) (told_machine t (stand_so r s a.bytes low1 low2) c m))
-      by_size low1 low2 qa qb below1 bytes size =
-          let here = least_here a.at a.bytes (without t.at need) in
-          let left : value v.at (base a) a.bytes ≡ low1 =
-          (at_width p e slots home base place y need0 m v a _ a.bytes all_needed ia qa refl (omega (arith, here))).0
-          ∙ kept_below low1 (256 ^ a.bytes) below1 in
-          let eight = ia.most in
-          let right : number % 256 ^ a.bytes ≡ low2 =
-          number_low k a.bytes a.bytes (omega arith) (omega arith) ∙ kept_below (low_bytes a.bytes k) (256 ^ a.bytes) (low_below a.bytes k)
-          ∙ ap (λ j. low_bytes j k) (sym same) ∙ sym (known low2 qb) in
+          → size ≡ suc bytes
+          → G (suc n) m.state.work pc v (R (suc n) (branch_zero t l ∷ rest) (told_machine t (stand_so r sign size low1 low2) c m))
+      by_size low1 low2 qa qb below1 bytes is_size =
+          let here = least_here a.at size (without t.at need) in
+          let within = by.within in
+          let left : value v.at (base a) size ≡ low1 =
+          (at_width p e slots home base place y need0 m v a _ size all_needed ia qa refl (omega (arith, here, within))).0
+          ∙ kept_below low1 (256 ^ size) (by.left low1 low2 qa below1) in
           subst
-          (λ j. G (suc n) m.state.work pc v (R (suc n) (branch_zero t l ∷ rest) (told_machine t (stand_so r s j low1 low2) c m))) (sym size)
-          (told_number_passes start l r s t a bytes low1 low2 number c rest n pc need0 m v ready covered live inside it ia size
-          (subst (λ j. value v.at (base a) j ≡ low1) size left) (subst (λ j. number % 256 ^ j ≡ low2) size right)
+          (λ j. G (suc n) m.state.work pc v (R (suc n) (branch_zero t l ∷ rest) (told_machine t (stand_so r sign j low1 low2) c m)))
+          (sym is_size)
+          (told_number_passes start l r sign t a bytes low1 low2 number c rest n pc need0 m v ready covered live inside it ia
+          (omega (arith, is_size, within))
+          (subst (λ j. value v.at (base a) j ≡ low1) is_size left)
+          (subst (λ j. number % 256 ^ j ≡ low2) is_size (by.right low2 qb))
           (relation_big op ty (integer s a.bytes) (integer s b.bytes)) none
-          (subst (λ j. HasAt e (compared_with_code (home a) number j ++ (unless_code r s (link.label_of l) ++ items rest)) pc end) size
-          stands) more all_needed f)
+          (subst (λ j. HasAt e (compared_with_code (home a) number j ++ (unless_code r sign (link.label_of l) ++ items rest)) pc end)
+          is_size stands) more all_needed f)
 
   -- ---- labels
 
@@ -3140,7 +3167,7 @@ module _ (p : PlainProgram) (functions : List PlainIrFunction) (e : Env) (slots 
       → M (plain_needs (binary_op op ty mode t a aty b bty) rest) m v
       → Rest (suc n) rest → G (suc n) m.state.work pc v (P n (binary_op op ty mode t a aty b bty) rest m)
   integers_follow start ready n go op ty mode t a aty b bty pc rest m v integers r own_stands h f =
-      by_told (tells_next at (binary_op op ty mode t a aty b bty) rest) refl
+      by_told (plain_told (binary_op op ty mode t a aty b bty) rest) refl
     where
       fx : (is_fixed aty || is_fixed bty) ≡ false
       fx = no_kind is_fixed (λ s n. refl) (family_of op) t a b ty aty bty integers
@@ -3224,7 +3251,7 @@ module _ (p : PlainProgram) (functions : List PlainIrFunction) (e : Env) (slots 
           (by_family (family_of op) refl told (subst (λ x. told_by x (family_of op) (is_signed aty) ≡ Some told) ax q) l ops integers
           r.covered.1 r.live r.inside none flags h1)
 
-      at_next : (ops : List PlainIr) (told : Told) → tells_next at (binary_op op ty mode t a aty b bty) ops ≡ Some told
+      at_next : (ops : List PlainIr) (told : Told) → plain_told (binary_op op ty mode t a aty b bty) ops ≡ Some told
           → Behind ops → M (plain_needs (binary_op op ty mode t a aty b bty) ops) m v
           → HasAt e (plain_items (binary_op op ty mode t a aty b bty) ops) pc end
           → G (suc n) m.state.work pc v (P n (binary_op op ty mode t a aty b bty) ops m)
@@ -3234,7 +3261,7 @@ module _ (p : PlainProgram) (functions : List PlainIrFunction) (e : Env) (slots 
       at_next [] told q r h stands = absurd (cc)
       at_next (i ∷ ops) told q r h stands = absurd (cc)
 
-      by_told : (told : Option Told) → tells_next at (binary_op op ty mode t a aty b bty) rest ≡ told
+      by_told : (told : Option Told) → plain_told (binary_op op ty mode t a aty b bty) rest ≡ told
           → G (suc n) m.state.work pc v (P n (binary_op op ty mode t a aty b bty) rest m)
       by_told None q =
           operator_follows op ty mode t a aty b bty rest n pc m v integers
@@ -3276,33 +3303,41 @@ module _ (p : PlainProgram) (functions : List PlainIrFunction) (e : Env) (slots 
   are_testing t (i ∷ ops) x told q = absurd cc
 
   -- its code, and what comes after it
-  abbrev number_items : BinOp → PlainType → Mode → (t a : Temp) → PlainType → Temp → PlainType → ℤ → List PlainIr → List AsmItem
+  abbrev number_told : BinOp → PlainType → Mode → Temp → (aty bty : PlainType) → RightNumber → List PlainIr → Option Told
+  number_told op ty mode t aty bty k rest =
+      if is_only_tested t (slice_get rest 0) (slice_index (wanted_bytes at rest) 0)
+      then told_by (is_apart (family_of op) mode ty aty bty) (family_of op) (compared_signed (Some k) (is_signed aty)) else None
+
+  abbrev number_items : BinOp → PlainType → Mode → (t a : Temp) → PlainType → Temp → PlainType → RightNumber → List PlainIr
+      → List AsmItem
   number_items op ty mode t a aty b bty k rest =
-      taking_code (Some k) (tells_next at (binary_op op ty mode t a aty b bty) rest) (family_of op) (is_signed aty) (is_signed bty)
+      taking_code (Some k) (number_told op ty mode t aty bty k rest) (family_of op) (is_signed aty) (is_signed bty)
       (home a) (home b) (home t) a.bytes (wanted (needs at rest) t)
-      ++ items_told (tells_next at (binary_op op ty mode t a aty b bty) rest) rest
+      ++ items_told (number_told op ty mode t aty bty k rest) rest
 
   -- what is needed before it
-  abbrev number_needs : BinOp → (t a : Temp) → List PlainIr → Need
-  number_needs op t a rest = at_least a.at (operand_wanted op a.bytes (wanted (needs at rest) t)) (without t.at (needs at rest))
+  abbrev number_needs : BinOp → (t a : Temp) → RightNumber → List PlainIr → Need
+  number_needs op t a k rest =
+      at_least a.at (operand_wanted op (compared_bytes (Some k) a.bytes) (wanted (needs at rest) t)) (without t.at (needs at rest))
 
   -- what is shown of it
-  abbrev NumberCase : BinOp → PlainType → Mode → (t a : Temp) → PlainType → Temp → PlainType → ℤ → ℕ → List PlainIr → (n : ℕ)
+  abbrev NumberCase : BinOp → PlainType → Mode → (t a : Temp) → PlainType → Temp → PlainType → RightNumber → ℕ → List PlainIr → (n : ℕ)
       → Mach → View → Type 0
   NumberCase op ty mode t a aty b bty k pc rest n m v =
-      Behind rest → HasAt e (number_items op ty mode t a aty b bty k rest) pc end → M (number_needs op t a rest) m v
+      Behind rest → HasAt e (number_items op ty mode t a aty b bty k rest) pc end → M (number_needs op t a k rest) m v
       → Rest (suc n) rest → G (suc n) m.state.work pc v (P n (binary_op op ty mode t a aty b bty) rest m)
 
   -- a sum, a difference, AND or OR tells nothing
   combined_number : (op : BinOp) (o : Operator) → family_of op ≡ Combined o → is_changed o ≡ true → (ty : PlainType) (mode : Mode)
-      (t a : Temp) (aty : PlainType) (b : Temp) (bty : PlainType) (k : ℤ) (pc : ℕ) (rest : List PlainIr) (n : ℕ) (m : Mach) (v : View)
-      → AreIntegers slots t a b ty aty bty → IsKnown b k m → NumberCase op ty mode t a aty b bty k pc rest n m v
+      (t a : Temp) (aty : PlainType) (b : Temp) (bty : PlainType) (k : RightNumber) (pc : ℕ) (rest : List PlainIr) (n : ℕ) (m : Mach)
+      (v : View)
+      → AreIntegers slots t a b ty aty bty → IsKnown b k.number m → NumberCase op ty mode t a aty b bty k pc rest n m v
   combined_number op o is changed ty mode t a aty b bty k pc rest n m v i known =
       (subst (λ x. NumberCase op x mode t a aty b bty k pc rest n m v) (sym i.result_type)
       (subst (λ x. NumberCase op (integer i.signed t.bytes) mode t a x b bty k pc rest n m v) (sym i.left_type)
       (subst (λ x. NumberCase op (integer i.signed t.bytes) mode t a (integer i.left_signed a.bytes) b x k pc rest n m v)
       (sym i.right_type)
-      (λ behind stands h f. combined_number_follows op o is changed i.signed i.left_signed i.right_signed mode t a b k rest n pc m v
+      (λ behind stands h f. combined_number_follows op o is changed i.signed i.left_signed i.right_signed mode t a b k.number rest n pc m v
       i.result i.left i.right i.left_bytes i.right_bytes known
       (subst (λ x. HasAt e (taking_code (Some k) None x i.left_signed i.right_signed (home a) (home b) (home t) a.bytes
       (wanted (needs at rest) t) ++ items rest) pc end) is
@@ -3310,9 +3345,10 @@ module _ (p : PlainProgram) (functions : List PlainIrFunction) (e : Env) (slots 
       (wanted (needs at rest) t) ++ items_told x rest) pc end)
       (untold (is_only_tested t (slice_get rest 0) (slice_index (wanted_bytes at rest) 0))
       (is_apart (family_of op) mode (integer i.signed t.bytes) (integer i.left_signed a.bytes)
-      (integer i.right_signed b.bytes)) i.left_signed)
+      (integer i.right_signed b.bytes)) (compared_signed (Some k) i.left_signed))
       stands))
-      (subst (λ x. M (at_least a.at x (without t.at (needs at rest))) m v) (low_bytes_wanted op o is a.bytes (wanted (needs at rest) t)) h)
+      (subst (λ x. M (at_least a.at x (without t.at (needs at rest))) m v)
+      (low_bytes_wanted op o is (compared_bytes (Some k) a.bytes) (wanted (needs at rest) t)) h)
       f))))
     where
       untold : (only apart s : Bool) → (if only then told_by apart (family_of op) s else None) ≡ None
@@ -3320,54 +3356,122 @@ module _ (p : PlainProgram) (functions : List PlainIrFunction) (e : Env) (slots 
       untold true true s = refl
       untold true false s = ap (λ x. told_of x s) is
 
+  -- where both operands are below 256, what is known of the first one
+  abbrev IsByte : Temp → RightNumber → Mach → Type 0
+  IsByte a k m =
+      k.in_byte ≡ true → (1 < a.bytes) × (is_byte k.number ≡ true)
+      × ((low : ℕ) → m.temps a.at ≡ Some (record { bytes = a.bytes; content = bits low }) → low < 256)
+
+  -- all bytes are compared
+  by_all : (a b : Temp) (k : ℤ) (s : Bool) (m : Mach) → HasHome slots a → b.bytes ≡ a.bytes → IsKnown b k m
+      → AreComparedBy a b k s a.bytes s m
+  by_all a b k s m ia same known =
+      record {
+        some = ia.some;
+        within = omega arith;
+        left = λ low1 low2 qa below. below;
+        right = λ low2 qb.
+            let eight = ia.most in
+            number_low k a.bytes a.bytes (omega arith) (omega arith)
+            ∙ kept_below (low_bytes a.bytes k) (256 ^ a.bytes) (low_below a.bytes k)
+            ∙ ap (λ j. low_bytes j k) (sym same) ∙ sym (known low2 qb);
+        same = λ r low1 low2 qa qb. refl;
+      }
+
+  -- the lowest one alone is
+  by_byte : (a b : Temp) (k : ℤ) (s : Bool) (m : Mach) → HasHome slots a → b.bytes ≡ a.bytes → IsKnown b k m → 1 < a.bytes
+      → is_byte k ≡ true
+      → ((low : ℕ) → m.temps a.at ≡ Some (record { bytes = a.bytes; content = bits low }) → low < 256)
+      → AreComparedBy a b k s 1 false m
+  by_byte a b k s m ia same known more byte below =
+      record {
+        some = omega arith;
+        within = omega (arith, more);
+        left = λ low1 low2 qa l. below low1 qa;
+        right = λ low2 qb. low_is 16 (omega arith) ∙ sym (number_is low2 qb);
+        same = λ r low1 low2 qa qb.
+            byte_order r s a.bytes low1 low2 more (below low1 qa) (subst (λ x. x < 256) (sym (number_is low2 qb)) v.below);
+      }
+    where
+      v : ByteNumber k
+      v = byte_value k byte
+
+      low_is : (n : ℕ) → 1 ≤ n → low_bytes n k % 256 ^ 1 ≡ v.value
+      low_is n l = ap (λ x. x % 256 ^ 1) (byte_bytes k n byte l) ∙ kept_below v.value (256 ^ 1) v.below
+
+      number_is : (low2 : ℕ) → m.temps b.at ≡ Some (record { bytes = b.bytes; content = bits low2 }) → low2 ≡ v.value
+      number_is low2 qb = known low2 qb ∙ byte_bytes k b.bytes byte (omega (arith, same, more))
+
   -- a comparison
   compared_number : (start : ℕ) → Ready start all → (n : ℕ) → Onward n → (op : BinOp) (r : Relation) → family_of op ≡ Compared r false
-      → (ty : PlainType) (mode : Mode) (t a : Temp) (aty : PlainType) (b : Temp) (bty : PlainType) (k : ℤ) (pc : ℕ)
-      (rest : List PlainIr) (m : Mach) (v : View) → AreCompared slots t a b aty bty → IsKnown b k m
+      → (ty : PlainType) (mode : Mode) (t a : Temp) (aty : PlainType) (b : Temp) (bty : PlainType) (k : RightNumber) (pc : ℕ)
+      (rest : List PlainIr) (m : Mach) (v : View) → AreCompared slots t a b aty bty → IsKnown b k.number m → IsByte a k m
       → NumberCase op ty mode t a aty b bty k pc rest n m v
-  compared_number start ready n go op r is ty mode t a aty b bty k pc rest m v i known =
+  compared_number start ready n go op r is ty mode t a aty b bty k pc rest m v i known byte =
       (subst (λ x. NumberCase op ty mode t a x b bty k pc rest n m v) (sym i.left_type)
       (subst (λ x. NumberCase op ty mode t a (integer i.signed a.bytes) b x k pc rest n m v) (sym i.right_type)
-      (λ behind stands h f. by_told (tells_next at own rest) refl behind stands h f)))
+      (λ behind stands h f. by_told (telling rest) refl behind stands h f)))
     where
       own : PlainIr
       own = binary_op op ty mode t a (integer i.signed a.bytes) b (integer i.signed b.bytes)
+
+      size : ℕ
+      size = compared_bytes (Some k) a.bytes
+
+      sign : Bool
+      sign = compared_signed (Some k) i.signed
+
+      by : AreComparedBy a b k.number i.signed size sign m
+      by = by_kind k.in_byte refl
+        where
+          by_kind : (x : Bool) → k.in_byte ≡ x
+              → AreComparedBy a b k.number i.signed (if x then min 1 a.bytes else a.bytes) (if x then false else i.signed) m
+          by_kind true q =
+              let z = byte q in
+              let more = z.0 in
+              let one : 1 ≡ min 1 a.bytes = omega (arith, more) in
+              subst (λ x. AreComparedBy a b k.number i.signed x false m) one
+              (by_byte a b k.number i.signed m i.left i.same_bytes known more z.1 z.2)
+          by_kind false q = by_all a b k.number i.signed m i.left i.same_bytes known
+
+      telling : List PlainIr → Option Told
+      telling ops = number_told op ty mode t (integer i.signed a.bytes) (integer i.signed b.bytes) k ops
 
       code : Option Told → List PlainIr → List AsmItem
       code told ops =
           taking_code (Some k) told (family_of op) i.signed i.signed (home a) (home b) (home t) a.bytes (wanted (needs at ops) t)
           ++ items_told told ops
 
-      by_told : (told : Option Told) → tells_next at own rest ≡ told → Behind rest → HasAt e (code (tells_next at own rest) rest) pc end
-          → M (number_needs op t a rest) m v → Rest (suc n) rest → G (suc n) m.state.work pc v (P n own rest m)
+      by_told : (told : Option Told) → telling rest ≡ told → Behind rest → HasAt e (code (telling rest) rest) pc end
+          → M (number_needs op t a k rest) m v → Rest (suc n) rest → G (suc n) m.state.work pc v (P n own rest m)
       by_told None q behind stands h f =
-          related_number_follows op r is i.signed ty mode t a b k rest n pc m v i.result i.left i.right i.same_bytes known
+          related_number_follows op r is i.signed sign size ty mode t a b k.number rest n pc m v i.result i.left i.right i.same_bytes known by
           (subst (λ x. HasAt e (taking_code (Some k) None x i.signed i.signed (home a) (home b) (home t) a.bytes
           (wanted (needs at rest) t) ++ items rest) pc end) is (subst (λ x. HasAt e (code x rest) pc end) q stands)) h f
       by_told (Some told) q behind stands h f =
-          let z = are_testing t rest (told_by false (family_of op) i.signed) told q in
+          let z = are_testing t rest (told_by false (family_of op) sign) told q in
           subst
-          (λ ops. Behind ops → HasAt e (code (Some told) ops) pc end → M (number_needs op t a ops) m v
+          (λ ops. Behind ops → HasAt e (code (Some told) ops) pc end → M (number_needs op t a k ops) m v
           → G (suc n) m.state.work pc v (P n own ops m)) (sym z.is)
           (λ behind1 stands1 h1.
-          let by : Some (record { relation = r; signed = i.signed }) ≡ Some told = ap (λ x. told_of x i.signed) (sym is) ∙ z.by in
-          let same : record { relation = r; signed = i.signed } ≡ told = cc in
-          told_number_follows start z.l op r is i.signed ty mode t a b k z.rest n pc m v ready behind1.covered.1 behind1.live behind1.inside
-          i.result i.left i.right i.same_bytes known z.none
-          (subst (λ (x : Told). HasAt e (compared_with_code (home a) (low_bytes 16 k) a.bytes
+          let by_flag : Some (record { relation = r; signed = sign }) ≡ Some told = ap (λ x. told_of x sign) (sym is) ∙ z.by in
+          let same : record { relation = r; signed = sign } ≡ told = cc in
+          told_number_follows start z.l op r is i.signed sign size ty mode t a b k.number z.rest n pc m v ready behind1.covered.1 behind1.live
+          behind1.inside i.result i.left i.right i.same_bytes by z.none
+          (subst (λ (x : Told). HasAt e (compared_with_code (home a) (low_bytes 16 k.number) size
           ++ (unless_code x.relation x.signed (link.label_of z.l) ++ items z.rest)) pc end) (sym same) stands1) h1 go)
           behind (subst (λ x. HasAt e (code x rest) pc end) q stands) h
 
   number_follows : (start : ℕ) → Ready start all → (n : ℕ) → Onward n → (op : BinOp) (ty : PlainType) (mode : Mode)
-      (t a : Temp) (aty : PlainType) (b : Temp) (bty : PlainType) (k : ℤ) (pc : ℕ) (rest : List PlainIr) (m : Mach) (v : View)
-      → takes_number op ≡ true → IsBinary (family_of op) slots t a b ty aty bty → IsKnown b k m
+      (t a : Temp) (aty : PlainType) (b : Temp) (bty : PlainType) (k : RightNumber) (pc : ℕ) (rest : List PlainIr) (m : Mach) (v : View)
+      → takes_number op ≡ true → IsBinary (family_of op) slots t a b ty aty bty → IsKnown b k.number m → IsByte a k m
       → NumberCase op ty mode t a aty b bty k pc rest n m v
-  number_follows start ready n go op ty mode t a aty b bty k pc rest m v taken i known =
+  number_follows start ready n go op ty mode t a aty b bty k pc rest m v taken i known byte =
       ⊎_elim
       (λ (x : TakesSum op). combined_number op x.operator x.is x.changed ty mode t a aty b bty k pc rest n m v
       (subst (λ z. IsBinary z slots t a b ty aty bty) x.is i) known)
       (λ (x : TakesOrder op). compared_number start ready n go op x.relation x.is ty mode t a aty b bty k pc rest m v
-      (subst (λ z. IsBinary z slots t a b ty aty bty) x.is i) known)
+      (subst (λ z. IsBinary z slots t a b ty aty bty) x.is i) known byte)
       (takes op taken)
 
   -- ---- operators on numbers of one fixed-point format, which are those of the integers of their bytes
@@ -3443,13 +3547,13 @@ module _ (p : PlainProgram) (functions : List PlainIrFunction) (e : Env) (slots 
 
       code : is_on_integers (family_of op) mode ty (fixed k s1) (fixed k s2) ≡ true → plain_items i rest ≡ plain_items i1 rest
       code on =
-          let tells_same : tells_next at i rest ≡ tells_next at i1 rest =
+          let tells_same : plain_told i rest ≡ plain_told i1 rest =
           ap (λ z. if only then told_by (not z) (family_of op) sign else None) on in
-          ap (λ z. (if z then operator_code (tells_next at i rest) (family_of op) sign sign (home a) (home b) (home t) a.bytes w
+          ap (λ z. (if z then operator_code (plain_told i rest) (family_of op) sign sign (home a) (home b) (home t) a.bytes w
           else (if is_placed op mode ty (fixed k s1) (fixed k s2) && not (same_location (home b) (home t))
           then placed_binary op sign (home a) (home b) (home t) a.bytes w
           else answer_code (fixed_binary_code op ty (fixed k s1) (fixed k s2) mode (home a) (home b) answer_location work_location)
-          (home t) w)) ++ items_told (tells_next at i rest) rest) on
+          (home t) w)) ++ items_told (plain_told i rest) rest) on
           ∙ ap (λ z. operator_code z (family_of op) sign sign (home a) (home b) (home t) a.bytes w ++ items_told z rest) tells_same
 
       fewer : (u : ℕ) → plain_needs i1 rest u ≤ plain_needs i rest u
@@ -3496,7 +3600,7 @@ module _ (p : PlainProgram) (functions : List PlainIrFunction) (e : Env) (slots 
           (operand_of p (fixed k s2) (Number (whole_of k low2)) st)) refl))
 
   -- where an operand is no integer, no number is taken
-  none_taken : (op : BinOp) (known : Option ℤ) (whole : Bool) → whole ≡ true → number_taken known whole op ≡ None
+  none_taken : (op : BinOp) (known : Option RightNumber) (whole : Bool) → whole ≡ true → number_taken known whole op ≡ None
   none_taken op None whole q = refl
   none_taken op (Some k) whole q = ap (λ x. if not x && takes_number op then Some k else None) q
 
@@ -3534,14 +3638,14 @@ module _ (p : PlainProgram) (functions : List PlainIrFunction) (e : Env) (slots 
       (λ (k : IsFixedBinary slots op t a b ty aty bty). on_fixed k)
       (λ (k : IsPointerBinary p slots op t a b ty aty bty).
       pointer_binary_follows p functions e slots home base place y labels all end results me link stack op ty mode t a aty b bty
-      rest n pc m v k (own_stands (or_right is_fx is_px k.pointer)) (own_needs (either_whole aty bty k.pointer)) f)
+      rest n pc m v k (own_stands (or_right is_fx is_px k.pointer) (either_whole aty bty k.pointer)) (own_needs (either_whole aty bty k.pointer)) f)
       j)
       r.covered.0
     where
       i : PlainIr
       i = binary_op op ty mode t a aty b bty
 
-      known : Option ℤ
+      known : Option RightNumber
       known = at.known (i ∷ rest)
 
       telling : Option Told
@@ -3565,21 +3669,29 @@ module _ (p : PlainProgram) (functions : List PlainIrFunction) (e : Env) (slots 
       of_pointers : List AsmItem
       of_pointers = pointer_binary (is_pointer aty) (is_pointer bty) p op aty bty (home a) (home b) (home t) a.bytes b.bytes w
 
-      of_integers : Option ℤ → List AsmItem
+      -- what it tells where so much of the second operand is taken
+      telling_with : Option RightNumber → Option Told
+      telling_with taken =
+          if is_only_tested t (slice_get rest 0) (slice_index (wanted_bytes at rest) 0)
+          then told_by (is_apart (family_of op) mode ty aty bty) (family_of op) (compared_signed taken (is_signed aty)) else None
+
+      of_integers : Option RightNumber → List AsmItem
       of_integers taken =
           taking_code taken telling (family_of op) (is_signed aty) (is_signed bty) (home a) (home b) (home t) a.bytes w
 
       behind : Behind rest
       behind = record { covered = r.covered.1; live = r.live; inside = r.inside }
 
-      own_stands : (is_fx || is_px) ≡ true → HasAt e (plain_items i rest) pc end
-      own_stands q =
-          subst (λ x. HasAt e (x ++ items_told telling rest) pc end)
-          (kinds_same is_fx is_px of_fixed of_pointers (of_integers (number_taken known false op)) (of_integers None) q) r.stands
+      own_stands : (is_fx || is_px) ≡ true → is_wx ≡ true → HasAt e (plain_items i rest) pc end
+      own_stands q w =
+          subst (λ x. HasAt e (op_code p home link None (telling_with x) None (needs at rest) i ++ items_told (telling_with x) rest) pc end)
+          (none_taken op known is_wx w)
+          (subst (λ x. HasAt e (x ++ items_told telling rest) pc end)
+          (kinds_same is_fx is_px of_fixed of_pointers (of_integers (number_taken known false op)) (of_integers None) q) r.stands)
 
-      needs_with : Option ℤ → Need
+      needs_with : Option RightNumber → Need
       needs_with taken =
-          at_least a.at (first_wanted is_wx op a.bytes w)
+          at_least a.at (first_wanted is_wx op (compared_bytes taken a.bytes) w)
           (right_needed taken b.at (second_wanted is_wx op b.bytes w) (without t.at (needs at rest)))
 
       own_needs : is_wx ≡ true → M (plain_needs i rest) m v
@@ -3587,8 +3699,9 @@ module _ (p : PlainProgram) (functions : List PlainIrFunction) (e : Env) (slots 
 
       on_fixed : IsFixedBinary slots op t a b ty aty bty → G (suc n) m.state.work pc v (P n i rest m)
       on_fixed k =
-          let stands = own_stands (ap (λ x. x || is_px) (either_fixed is_fixed type_fixed aty bty k.types.fixed)) in
-          let needed = own_needs (either_fixed is_whole type_whole aty bty k.types.fixed) in
+          let whole = either_fixed is_whole type_whole aty bty k.types.fixed in
+          let stands = own_stands (ap (λ x. x || is_px) (either_fixed is_fixed type_fixed aty bty k.types.fixed)) whole in
+          let needed = own_needs whole in
           ⊎_elim
           (λ (q : is_on_integers (family_of op) mode ty aty bty ≡ true).
           on_integers_follow start ready n go op ty mode t a aty b bty pc rest m v q (on_wholes slots op mode t a b ty aty bty k q) f behind
@@ -3597,34 +3710,44 @@ module _ (p : PlainProgram) (functions : List PlainIrFunction) (e : Env) (slots 
           fixed_binary_follows op ty mode t a aty b bty rest n pc m v k q stands needed f)
           (cases_Bool (is_on_integers (family_of op) mode ty aty bty))
 
-      on_integers : IsBinary (family_of op) slots t a b ty aty bty → (taken : Option ℤ) → number_taken known false op ≡ taken
+      on_integers : IsBinary (family_of op) slots t a b ty aty bty → (taken : Option RightNumber) → number_taken known false op ≡ taken
           → G (suc n) m.state.work pc v (P n i rest m)
       on_integers k taken q = by_taken taken q
         where
           wx : is_wx ≡ false
           wx = no_kind is_whole (λ s n. refl) (family_of op) t a b ty aty bty k
 
-          taken_so : (x : Option ℤ) → number_taken known false op ≡ x → number_taken known is_wx op ≡ x
+          taken_so : (x : Option RightNumber) → number_taken known false op ≡ x → number_taken known is_wx op ≡ x
           taken_so x q = ap (λ z. number_taken known z op) wx ∙ q
 
-          by_taken : (x : Option ℤ) → number_taken known false op ≡ x → G (suc n) m.state.work pc v (P n i rest m)
+          items_with : Option RightNumber → Option Told → List AsmItem
+          items_with x told =
+              taking_code x told (family_of op) (is_signed aty) (is_signed bty) (home a) (home b) (home t) a.bytes w
+
+          by_taken : (x : Option RightNumber) → number_taken known false op ≡ x → G (suc n) m.state.work pc v (P n i rest m)
           by_taken None q =
               integers_follow start ready n go op ty mode t a aty b bty pc rest m v k behind
+              (subst (λ x. HasAt e (code_by_kind is_fx
+              (fixed_binary (telling_with x) op ty aty bty mode (home a) (home b) (home t) a.bytes w)
+              (code_by_kind is_px of_pointers (items_with None (telling_with x))) ++ items_told (telling_with x) rest) pc end)
+              (taken_so None q)
               (subst (λ x. HasAt e (code_by_kind is_fx of_fixed (code_by_kind is_px of_pointers (of_integers x))
-              ++ items_told telling rest) pc end) q r.stands)
+              ++ items_told telling rest) pc end) q r.stands))
               (subst (λ x. M (needs_with x) m v) (taken_so None q) h) f
           by_taken (Some number) q =
               let fx = no_kind is_fixed (λ s n. refl) (family_of op) t a b ty aty bty k in
               let px = no_kind is_pointer (λ s n. refl) (family_of op) t a b ty aty bty k in
               let is = taken_is op known number q in
-              number_follows start ready n go op ty mode t a aty b bty number pc rest m v is.1 k
-              (λ low qb. number_held (known_at all (i ∷ rest) b.at) (m.temps b.at) b.bytes low number held is.0 qb) behind
+              let row = right_held (known_at all (i ∷ rest)) a b number m.temps is.0 held in
+              number_follows start ready n go op ty mode t a aty b bty number pc rest m v is.1 k row.number row.byte behind
+              (subst (λ x. HasAt e (items_with (Some number) (telling_with x) ++ items_told (telling_with x) rest) pc end)
+              (taken_so (Some number) q)
               (subst (λ x. HasAt e (code_by_kind x of_pointers (of_integers (Some number)) ++ items_told telling rest) pc end) px
               (subst (λ x. HasAt e (code_by_kind x of_fixed (code_by_kind is_px of_pointers (of_integers (Some number)))
               ++ items_told telling rest) pc end) fx
               (subst (λ x. HasAt e (code_by_kind is_fx of_fixed (code_by_kind is_px of_pointers (of_integers x))
-              ++ items_told telling rest) pc end) q r.stands)))
-              (subst (λ x. M (at_least a.at (first_wanted x op a.bytes w) (without t.at (needs at rest))) m v) wx
+              ++ items_told telling rest) pc end) q r.stands))))
+              (subst (λ x. M (at_least a.at (first_wanted x op (compared_bytes (Some number) a.bytes) w) (without t.at (needs at rest))) m v) wx
               (subst (λ x. M (needs_with x) m v) (taken_so (Some number) q) h)) f
 
   -- what is shown of an operation whose second operand holds what is known of it, where it is of those behind it

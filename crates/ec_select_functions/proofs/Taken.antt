@@ -1,17 +1,18 @@
 -- The operators that take a known number in place of their second operand.
-use Rattle.std.proofs.Common.{◌≡◌, ◌⊎◌, inl, inr, Bool, true, false, Option, Some, None, ℤ, refl}
-use Rattle.std.specs.Prelude.{if◌then◌else◌}
+use Rattle.std.proofs.Common.{◌≡◌, ◌⊎◌, inl, inr, ℕ, ◌≤◌, Bool, true, false, Option, Some, None, refl, arith}
+use Rattle.std.specs.Prelude.{if◌then◌else◌, min}
 use Rattle.ec_asm.specs.declared.pieces.Operator.{Operator}
 use Rattle.ec_asm.specs.declared.pieces.Operator.TheVariants.{Sum, Difference, BitAnd, BitOr, BitXor}
 use Rattle.ec_core.specs.declared.expressions.BinOp.{BinOp}
 use Rattle.ec_core.specs.declared.expressions.BinOp.TheVariants.{Add, Sub, Mul, Div, Rem, And, Or, Xor, Lt, Gt, Le, Ge}
 use Rattle.ec_core.specs.declared.expressions.BinOp.TheVariants.{Eq, Ne, Shl, Shr}
+use Rattle.ec_ir_known.specs.declared.known.RightNumber.{RightNumber}
 use Rattle.ec_select_order.specs.declared.relations.Relation.{Relation}
 use Rattle.ec_select_order.specs.declared.relations.Relation.TheVariants.{Less, NotLess, Equal, NotEqual}
 use Rattle.ec_select_operations.specs.declared.families.Family.{Family}
 use Rattle.ec_select_operations.specs.declared.families.Family.TheVariants.{Combined, Compared}
 use Rattle.ec_select_operations.specs.Code.{family_of}
-use Rattle.ec_select_operations.specs.Needs.{takes_number, number_taken}
+use Rattle.ec_select_operations.specs.Needs.{takes_number, number_taken, compared_bytes}
 
 -- the operators of bytes that have code for a number
 abbrev pub is_changed : Operator → Bool
@@ -46,7 +47,7 @@ takes Gt q = absurd cc
 takes Le q = absurd cc
 
 -- a number that is taken is the one that is known
-pub taken_is : (op : BinOp) (known : Option ℤ) (k : ℤ) → number_taken known false op ≡ Some k
+pub taken_is : (op : BinOp) (known : Option RightNumber) (k : RightNumber) → number_taken known false op ≡ Some k
     → (known ≡ Some k) × (takes_number op ≡ true)
 taken_is op None k q = absurd cc
 taken_is op (Some x) k q = by_test (takes_number op) refl q
@@ -55,3 +56,11 @@ taken_is op (Some x) k q = by_test (takes_number op) refl q
         → (Some x ≡ Some k) × (takes_number op ≡ true)
     by_test true t r = (r, t)
     by_test false t r = absurd cc
+
+-- no more bytes are compared than there are
+pub compared_few : (k : RightNumber) (bytes : ℕ) → compared_bytes (Some k) bytes ≤ bytes
+compared_few k bytes = by_test k.in_byte
+  where
+    by_test : (x : Bool) → (if x then min 1 bytes else bytes) ≤ bytes
+    by_test true = omega arith
+    by_test false = omega arith

@@ -11,10 +11,11 @@ use Rattle.ec_ir.specs.Operations.{PlainIr, constant, copy, address, field, load
 use Rattle.ec_ir.specs.Operations.{store_object, binary_op, unary_op, conversion, label, jump, branch_zero}
 use Rattle.ec_ir.specs.Operations.{call_function, return_from, port_in, port_out}
 use Rattle.ec_ir.specs.Valid.{count}
+use Rattle.ec_ir_known.specs.declared.known.RightNumber.{RightNumber}
 use Rattle.ec_select_operations.specs.Needs.{Need, at_least, without, either, wanted, is_of_low_bytes}
 use Rattle.ec_select_operations.specs.Needs.{is_whole, first_wanted, second_wanted, only_wanted}
 use Rattle.ec_select_operations.specs.Needs.{index_needed, all_or_none, operand_wanted, right_wanted, returned_need}
-use Rattle.ec_select_operations.specs.Needs.{number_taken, right_needed, before, Facts, facts_of, known_right}
+use Rattle.ec_select_operations.specs.Needs.{number_taken, compared_bytes, right_needed, before, Facts, facts_of, known_right}
 use Rattle.ec_select_operations.specs.Needs.{needs}
 use Rattle.ec_select_operations.specs.Needs.{IsLiveBy, IsLive}
 use Rattle.ec_select_live.specs.Least.{HasLabel, HaveLabels, IsLeast}
@@ -85,12 +86,12 @@ more_index s (Some t) a b h = more_least s t.at 1 1 a b (omega arith) h
 same_needs : (s : ℕ) (a : Need) → NeedsNoMore s a a
 same_needs s a place l = omega arith
 
-more_second_needed : (s : ℕ) (taken : Option ℤ) (at n m : ℕ) (a b : Need) → n ≤ m → NeedsNoMore s a b
+more_second_needed : (s : ℕ) (taken : Option RightNumber) (at n m : ℕ) (a b : Need) → n ≤ m → NeedsNoMore s a b
     → NeedsNoMore s (right_needed taken at n a) (right_needed taken at m b)
 more_second_needed s None at n m a b e h = more_least s at n m a b e h
 more_second_needed s (Some k) at n m a b e h = h
 
-pub before_more : (n s : ℕ) (at other : ℕ → Need) (known : Option ℤ) (i : PlainIr) (a b : Need) → HasPlaces s i → HasLabel n i
+pub before_more : (n s : ℕ) (at other : ℕ → Need) (known : Option RightNumber) (i : PlainIr) (a b : Need) → HasPlaces s i → HasLabel n i
     → TellNoMore n s at other → NeedsNoMore s a b → NeedsNoMore s (before at known i a) (before other known i b)
 before_more n s at other known (constant t x) a b l k q h = more_without s t.at a b h
 before_more n s at other known (copy to from) a b l k q h = more_value s to from a b l.0 h
@@ -99,10 +100,10 @@ before_more n s at other known (store_object o offset t) a b l k q h = more_leas
 before_more n s at other known (binary_op op ty mode to x xty y yty) a b l k q h =
     let w = is_whole xty || is_whole yty in
     let taken = number_taken known w op in
-    more_least s x.at (first_wanted w op x.bytes (wanted a to)) (first_wanted w op x.bytes (wanted b to))
+    more_least s x.at (first_wanted w op (compared_bytes taken x.bytes) (wanted a to)) (first_wanted w op (compared_bytes taken x.bytes) (wanted b to))
     (right_needed taken y.at (second_wanted w op y.bytes (wanted a to)) (without to.at a))
     (right_needed taken y.at (second_wanted w op y.bytes (wanted b to)) (without to.at b))
-    (more_first w op x.bytes (wanted a to) (wanted b to) (more_wanted s to a b l.0 h))
+    (more_first w op (compared_bytes taken x.bytes) (wanted a to) (wanted b to) (more_wanted s to a b l.0 h))
     (more_second_needed s taken y.at (second_wanted w op y.bytes (wanted a to)) (second_wanted w op y.bytes (wanted b to)) (without to.at a)
     (without to.at b) (more_second w op y.bytes (wanted a to) (wanted b to) (more_wanted s to a b l.0 h)) (more_without s to.at a b h))
 before_more n s at other known (unary_op op ty mode to x) a b l k q h = more_alone s (is_whole ty) to x a b l.0 h
@@ -189,7 +190,7 @@ pub record NoMore (s : ℕ) (code : List PlainIr) (t0 t : List (List ℕ)) (need
       → TellNoMore labels s (needs_of t0) other → NeedsNoMore s (need_of need) (needs (facts_of other code) rest)
 
 pub no_more : (s : ℕ) (code : List PlainIr) (t0 t t1 : List (List ℕ)) (need need1 : List ℕ) (rest : List PlainIr)
-    (n : Option ℤ) (i : PlainIr) (k : ℕ) → n ≡ known_right code (i ∷ rest) → HasPlaces s i → drop k code ≡ i ∷ rest
+    (n : Option RightNumber) (i : PlainIr) (k : ℕ) → n ≡ known_right code (i ∷ rest) → HasPlaces s i → drop k code ≡ i ∷ rest
     → NoMore s code t0 t need rest
     → ((labels : ℕ) (other : ℕ → Need) → TellNoMore labels s (needs_of t) other → IsJoined s other i (need_of need)
     → TellNoMore labels s (needs_of t1) other)
@@ -211,7 +212,7 @@ no_more s code t0 t t1 need need1 rest n i k number p is z j b =
           let x = b place m in
           let y = before_more labels s (needs_of t1) other n i (need_of need) (needs (facts_of other code) rest) p l.0
           (tells labels other h live q) (z.here labels other h live q) place m in
-          let w = ap (λ (v : Option ℤ). before other v i (needs (facts_of other code) rest) place) number in
+          let w = ap (λ (v : Option RightNumber). before other v i (needs (facts_of other code) rest) place) number in
           omega (arith, x, y, w));
     }
 

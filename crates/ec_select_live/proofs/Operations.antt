@@ -10,10 +10,11 @@ use Rattle.ec_ir.specs.Operations.{PlainIr, constant, copy, address, field, load
 use Rattle.ec_ir.specs.Operations.{store_object, binary_op, unary_op, conversion, label, jump, branch_zero}
 use Rattle.ec_ir.specs.Operations.{call_function, return_from, port_in, port_out}
 use Rattle.ec_select_operations.specs.Code.{result_wanted, wanted_behind}
+use Rattle.ec_ir_known.specs.declared.known.RightNumber.{RightNumber}
 use Rattle.ec_select_operations.specs.Needs.{Need, nothing, at_least, without, either, wanted, is_of_low_bytes}
 use Rattle.ec_select_operations.specs.Needs.{all_or_none, is_whole, first_wanted, second_wanted, only_wanted}
 use Rattle.ec_select_operations.specs.Needs.{index_needed, operand_wanted, right_wanted, returned_need, without_result}
-use Rattle.ec_select_operations.specs.Needs.{number_taken, right_needed, before, facts_of, known_right, needs}
+use Rattle.ec_select_operations.specs.Needs.{number_taken, compared_bytes, right_needed, before, facts_of, known_right, needs}
 use Rattle.ec_select_live.specs.Places.{HasPlace, MayHavePlace, HasPlaces, HavePlaces}
 use Rattle.ec_select_live.specs.Tables.{AreSame, IsBounded, AreBounded}
 
@@ -55,12 +56,12 @@ same_index : (s : ℕ) (index : Option Temp) (a b : Need) → AreSame s a b
 same_index s None a b h = h
 same_index s (Some t) a b h = same_least s t.at 1 1 a b refl h
 
-same_right : (s : ℕ) (taken : Option ℤ) (at n m : ℕ) (a b : Need) → n ≡ m → AreSame s a b
+same_right : (s : ℕ) (taken : Option RightNumber) (at n m : ℕ) (a b : Need) → n ≡ m → AreSame s a b
     → AreSame s (right_needed taken at n a) (right_needed taken at m b)
 same_right s None at n m a b e h = same_least s at n m a b e h
 same_right s (Some k) at n m a b e h = h
 
-pub before_same : (s : ℕ) (at : ℕ → Need) (k : Option ℤ) (i : PlainIr) (a b : Need) → HasPlaces s i → AreSame s a b
+pub before_same : (s : ℕ) (at : ℕ → Need) (k : Option RightNumber) (i : PlainIr) (a b : Need) → HasPlaces s i → AreSame s a b
     → AreSame s (before at k i a) (before at k i b)
 before_same s at k (constant t n) a b l h = same_without s t.at a b h
 before_same s at k (copy to from) a b l h = same_value s to from a b l.0 h
@@ -69,10 +70,10 @@ before_same s at k (store_object o offset t) a b l h = same_least s t.at t.bytes
 before_same s at k (binary_op op ty mode to x xty y yty) a b l h =
     let w = is_whole xty || is_whole yty in
     let taken = number_taken k w op in
-    same_least s x.at (first_wanted w op x.bytes (wanted a to)) (first_wanted w op x.bytes (wanted b to))
+    same_least s x.at (first_wanted w op (compared_bytes taken x.bytes) (wanted a to)) (first_wanted w op (compared_bytes taken x.bytes) (wanted b to))
     (right_needed taken y.at (second_wanted w op y.bytes (wanted a to)) (without to.at a))
     (right_needed taken y.at (second_wanted w op y.bytes (wanted b to)) (without to.at b))
-    (ap (first_wanted w op x.bytes) (same_wanted s to a b l.0 h))
+    (ap (first_wanted w op (compared_bytes taken x.bytes)) (same_wanted s to a b l.0 h))
     (same_right s taken y.at (second_wanted w op y.bytes (wanted a to)) (second_wanted w op y.bytes (wanted b to)) (without to.at a)
     (without to.at b) (ap (second_wanted w op y.bytes) (same_wanted s to a b l.0 h)) (same_without s to.at a b h))
 before_same s at k (unary_op op ty mode to x) a b l h = same_only s (is_whole ty) to x a b l.0 h
@@ -184,11 +185,19 @@ bounded_returned : (s : ℕ) (from : Option Temp) → MayHavePlace s from → Is
 bounded_returned s None l = bounded_nothing
 bounded_returned s (Some t) l = bounded_least t.at t.bytes nothing l.1 bounded_nothing
 
-bounded_right : (taken : Option ℤ) (at n : ℕ) (a : Need) → n ≤ 16 → IsBounded a → IsBounded (right_needed taken at n a)
+compared_most : (taken : Option RightNumber) (bytes : ℕ) → bytes ≤ 16 → compared_bytes taken bytes ≤ 16
+compared_most None bytes l = l
+compared_most (Some k) bytes l = by_test k.in_byte
+  where
+    by_test : (x : Bool) → (if x then min 1 bytes else bytes) ≤ 16
+    by_test true = omega arith
+    by_test false = l
+
+bounded_right : (taken : Option RightNumber) (at n : ℕ) (a : Need) → n ≤ 16 → IsBounded a → IsBounded (right_needed taken at n a)
 bounded_right None at n a l h = bounded_least at n a l h
 bounded_right (Some k) at n a l h = h
 
-pub before_bounded : (s : ℕ) (at : ℕ → Need) (n : Option ℤ) (i : PlainIr) (a : Need) → HasPlaces s i → AreBounded at
+pub before_bounded : (s : ℕ) (at : ℕ → Need) (n : Option RightNumber) (i : PlainIr) (a : Need) → HasPlaces s i → AreBounded at
     → IsBounded a → IsBounded (before at n i a)
 before_bounded s at n (constant t x) a l k h = bounded_without t.at a h
 before_bounded s at n (copy to from) a l k h = bounded_value to from a l.0.1 h
@@ -197,9 +206,9 @@ before_bounded s at n (store_object o offset t) a l k h = bounded_least t.at t.b
 before_bounded s at n (binary_op op ty mode to x xty y yty) a l k h =
     let w = is_whole xty || is_whole yty in
     let taken = number_taken n w op in
-    bounded_least x.at (first_wanted w op x.bytes (wanted a to))
+    bounded_least x.at (first_wanted w op (compared_bytes taken x.bytes) (wanted a to))
     (right_needed taken y.at (second_wanted w op y.bytes (wanted a to)) (without to.at a))
-    (first_most w op x.bytes (wanted a to) l.1.1 (wanted_most a to l.0.1))
+    (first_most w op (compared_bytes taken x.bytes) (wanted a to) (compared_most taken x.bytes l.1.1) (wanted_most a to l.0.1))
     (bounded_right taken y.at (second_wanted w op y.bytes (wanted a to)) (without to.at a)
     (second_most w op y.bytes (wanted a to) l.2.1 (wanted_most a to l.0.1)) (bounded_without to.at a h))
 before_bounded s at n (unary_op op ty mode to x) a l k h = bounded_only (is_whole ty) to x a l.0.1 l.1.1 h

@@ -6,6 +6,7 @@ use Rattle.std.proofs.lemmas.List.{drop_more, get_or-map, get_or_past, length-ma
 use Rattle.ec_ir.specs.Operations.{PlainIr, constant, copy, address, field, load_at, store_at, load_object}
 use Rattle.ec_ir.specs.Operations.{store_object, binary_op, unary_op, conversion, label, jump, branch_zero}
 use Rattle.ec_ir.specs.Operations.{call_function, return_from, port_in, port_out}
+use Rattle.ec_ir_known.specs.declared.known.RightNumber.{RightNumber}
 use Rattle.ec_ir_known.specs.Known.{numbers_left, right_numbers}
 use Rattle.ec_select_operations.specs.Code.{wanted_behind, wanted_bytes}
 use Rattle.ec_select_operations.specs.Needs.{Need, before, facts_of, known_right, needs, IsLiveBy}
@@ -67,7 +68,7 @@ live_more s at all (port_out from port index width) rest need t h j same live = 
 
 -- ---- one operation
 
-pub need_bounded : (s : ℕ) (at : ℕ → Need) (n : Option ℤ) (i : PlainIr) (need need1 : List ℕ) → HasPlaces s i → IsTable s at
+pub need_bounded : (s : ℕ) (at : ℕ → Need) (n : Option RightNumber) (i : PlainIr) (need need1 : List ℕ) → HasPlaces s i → IsTable s at
     → length need1 ≡ s → IsBounded (need_of need) → AreSame s (need_of need1) (before at n i (need_of need))
     → IsBounded (need_of need1)
 need_bounded s at n i need need1 p t e b same place =
@@ -76,13 +77,13 @@ need_bounded s at n i need need1 p t e b same place =
     (λ (l : s ≤ place). let x : need_of need1 place ≡ 16 = get_or_past need1 place 16 (omega arith) in omega arith)
     (below_or_not place s)
 
-pub need_more : (s : ℕ) (at : ℕ → Need) (all code rest : List PlainIr) (n : Option ℤ) (i : PlainIr) (need need1 : List ℕ)
+pub need_more : (s : ℕ) (at : ℕ → Need) (all code rest : List PlainIr) (n : Option RightNumber) (i : PlainIr) (need need1 : List ℕ)
     → n ≡ known_right all (i ∷ rest) → HasPlaces s i → code ≡ i ∷ rest → AreSame s (need_of need) (needs (facts_of at all) rest)
     → AreSame s (need_of need1) (before at n i (need_of need)) → AreSame s (need_of need1) (needs (facts_of at all) code)
 need_more s at all code rest n i need need1 number p is h b =
     subst (λ (x : List PlainIr). AreSame s (need_of need1) (needs (facts_of at all) x)) (sym is)
     (λ place l. b place l ∙ before_same s at n i (need_of need) (needs (facts_of at all) rest) p h place l
-    ∙ ap (λ (k : Option ℤ). before at k i (needs (facts_of at all) rest) place) number)
+    ∙ ap (λ (k : Option RightNumber). before at k i (needs (facts_of at all) rest) place) number)
 
 -- the rest of all operations was passed over: first there was the table t0
 pub record Passed (s : ℕ) (all : List PlainIr) (t0 t : List (List ℕ)) (need : List ℕ) (rest : List PlainIr) (grown : Bool) : Type 0 where
@@ -111,7 +112,7 @@ more_before s code t0 t need rest true j = let x = j.grew refl in omega arith
 more_before s code t0 t need rest false j = let x = ap room (j.same refl) in omega arith
 
 pub passed_more : (s : ℕ) (whole : List PlainIr) (t0 t t1 : List (List ℕ)) (need need1 : List ℕ) (rest code : List PlainIr)
-    (n : Option ℤ) (i : PlainIr) (grown more all : Bool) → n ≡ known_right whole (i ∷ rest) → HasPlaces s i → HavePlaces s rest
+    (n : Option RightNumber) (i : PlainIr) (grown more all : Bool) → n ≡ known_right whole (i ∷ rest) → HasPlaces s i → HavePlaces s rest
     → length need1 ≡ s → code ≡ i ∷ rest
     → ((all ≡ false) → (grown ≡ false) × (more ≡ false)) → ((all ≡ true) → (grown ≡ true) ⊎ (more ≡ true))
     → Passed s whole t0 t need rest grown → Joined s t t1 need i more
@@ -173,14 +174,14 @@ wanted_more s at all code rest i need wanted k n p is h r z l w =
 
 -- ---- the number that the second operand of an operation is known to hold
 
-pub number_here : (all rest : List PlainIr) (j : ℕ) (i : PlainIr) (behind : List PlainIr) (n : Option ℤ)
+pub number_here : (all rest : List PlainIr) (j : ℕ) (i : PlainIr) (behind : List PlainIr) (n : Option RightNumber)
     → drop j rest ≡ i ∷ behind → n ≡ get_or (numbers_left all rest) j None → n ≡ known_right all (i ∷ behind)
 number_here all [] zero i behind n is g = absurd cc
 number_here all [] (suc j) i behind n is g = absurd cc
 number_here all (x ∷ rest) zero i behind n is g = g ∙ ap (known_right all) is
 number_here all (x ∷ rest) (suc j) i behind n is g = number_here all rest j i behind n is g
 
-pub number_is : (numbers : List (Option ℤ)) (code : List PlainIr) (j : ℕ) (i : PlainIr) (behind : List PlainIr) (n : Option ℤ)
+pub number_is : (numbers : List (Option RightNumber)) (code : List PlainIr) (j : ℕ) (i : PlainIr) (behind : List PlainIr) (n : Option RightNumber)
     → numbers ≡ right_numbers code → drop j code ≡ i ∷ behind → n ≡ get_or numbers j None → n ≡ known_right code (i ∷ behind)
 number_is numbers code j i behind n are is g =
-    number_here code code j i behind n is (subst (λ (xs : List (Option ℤ)). n ≡ get_or xs j None) are g)
+    number_here code code j i behind n is (subst (λ (xs : List (Option RightNumber)). n ≡ get_or xs j None) are g)

@@ -12,6 +12,7 @@ use crate::needs::before;
 use crate::rows::clear;
 use crate::table::{LabelNeeds, zeros};
 use ec_ir::{Ir, Temp};
+use ec_ir_known::RightNumber;
 use ec_select_operations::number_at;
 use ec_space::{NoMemory, Seq};
 use std::alloc::Global;
@@ -85,7 +86,7 @@ fn keep_all(
     alloc: Global,
     table: &LabelNeeds,
     code: &[Ir],
-    numbers: &[Option<i128>],
+    numbers: &[Option<RightNumber>],
     need: &mut [u8],
     rows: &mut [Vec<u8>],
 ) -> Result<(), NoMemory>
@@ -111,7 +112,7 @@ pub fn kept(
     alloc: Global,
     table: &LabelNeeds,
     code: &Seq<Ir>,
-    numbers: &[Option<i128>],
+    numbers: &[Option<RightNumber>],
     slots: u16,
 ) -> Result<Vec<Vec<u8>>, NoMemory>
     requires places { HavePlaces slots (map plain_ir code.now.items) }

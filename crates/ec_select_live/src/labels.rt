@@ -12,6 +12,7 @@ use crate::needs::before;
 use crate::rows::{clear, wanted_of};
 use crate::table::{LabelNeeds, zeros};
 use ec_ir::Ir;
+use ec_ir_known::RightNumber;
 use ec_select_operations::number_at;
 use ec_space::{NoMemory, Seq};
 use std::alloc::Global;
@@ -35,7 +36,12 @@ fn join_label(table: &mut LabelNeeds, i: &Ir, need: &[u8]) -> bool
 }
 
 /// Goes over the operations from the last to the first. Answers whether more is needed at a label than the table told.
-fn pass(table: &mut LabelNeeds, code: &[Ir], numbers: &[Option<i128>], need: &mut [u8]) -> bool
+fn pass(
+    table: &mut LabelNeeds,
+    code: &[Ir],
+    numbers: &[Option<RightNumber>],
+    need: &mut [u8],
+) -> bool
     requires numbers { numbers.now ≡ right_numbers (map plain_ir code.now) }
     requires places { HavePlaces (length need.old) (map plain_ir code.now) }
     requires known { IsTable (length need.old) (needs_of table.old) }
@@ -60,7 +66,7 @@ fn pass(table: &mut LabelNeeds, code: &[Ir], numbers: &[Option<i128>], need: &mu
 }
 
 /// Passes over the operations until a table tells all that is needed.
-fn settle(table: &mut LabelNeeds, code: &[Ir], numbers: &[Option<i128>], need: &mut [u8])
+fn settle(table: &mut LabelNeeds, code: &[Ir], numbers: &[Option<RightNumber>], need: &mut [u8])
     requires numbers { numbers.now ≡ right_numbers (map plain_ir code.now) }
     requires places { HavePlaces (length need.old) (map plain_ir code.now) }
     requires known { IsTable (length need.old) (needs_of table.old) }
@@ -107,7 +113,7 @@ fn label_count(code: &[Ir]) -> Result<usize, NoMemory>
 pub fn live(
     alloc: Global,
     code: &Seq<Ir>,
-    numbers: &[Option<i128>],
+    numbers: &[Option<RightNumber>],
     slots: u16,
 ) -> Result<LabelNeeds, NoMemory>
     requires places { HavePlaces slots (map plain_ir code.now.items) }
@@ -149,7 +155,7 @@ fn wanted_behind(table: &LabelNeeds, need: &[u8], i: &Ir) -> u8
 fn want(
     table: &LabelNeeds,
     code: &[Ir],
-    numbers: &[Option<i128>],
+    numbers: &[Option<RightNumber>],
     need: &mut [u8],
     wanted: &mut [u8],
 )
@@ -173,7 +179,7 @@ pub fn wanted(
     alloc: Global,
     table: &LabelNeeds,
     code: &Seq<Ir>,
-    numbers: &[Option<i128>],
+    numbers: &[Option<RightNumber>],
     slots: u16,
 ) -> Result<Vec<u8>, NoMemory>
     requires places { HavePlaces slots (map plain_ir code.now.items) }

@@ -3,7 +3,7 @@ ghost use Rattle.std.specs.Prelude.{◌<◌, length};
 ghost use Rattle.ec_ir.specs.Operations.{plain_ir};
 ghost use Rattle.ec_select_operations.specs.Needs.{before, either, at_least, without, wanted, index_needed};
 ghost use Rattle.ec_select_operations.specs.Needs.{returned_need, without_result, first_wanted, second_wanted};
-ghost use Rattle.ec_select_operations.specs.Needs.{only_wanted, number_taken, right_needed};
+ghost use Rattle.ec_select_operations.specs.Needs.{only_wanted, number_taken, right_needed, compared_bytes};
 ghost use Rattle.ec_select_live.specs.Places.{MayHavePlace, HasPlaces};
 ghost use Rattle.ec_select_live.specs.Tables.{need_of, needs_of, AreSame};
 
@@ -11,7 +11,8 @@ use crate::rows::{clear, first_wanted, forget, keep, only_wanted, second_wanted,
 use crate::table::{LabelNeeds, zeros};
 use ec_core::BinOp;
 use ec_ir::{Ir, Temp};
-use ec_select_operations::{is_whole, number_taken};
+use ec_ir_known::RightNumber;
+use ec_select_operations::{compared_bytes, is_whole, number_taken};
 use ec_space::{NoMemory, Seq};
 use std::alloc::Global;
 
@@ -29,7 +30,7 @@ fn pass_on(need: &mut [u8], whole: bool, to: Temp, from: Temp)
 }
 
 /// So many bytes of a second operand are needed, but none where it is taken as a number.
-fn keep_right(need: &mut [u8], taken: Option<i128>, b: Temp, n: u8)
+fn keep_right(need: &mut [u8], taken: Option<RightNumber>, b: Temp, n: u8)
     requires { b.at < length need.old }
     ensures { AreSame (length need.old) (need_of need.new) (right_needed taken b.at n (need_of need.old)) }
 {
@@ -43,7 +44,7 @@ fn keep_right(need: &mut [u8], taken: Option<i128>, b: Temp, n: u8)
 fn pass_operands(
     need: &mut [u8],
     whole: bool,
-    taken: Option<i128>,
+    taken: Option<RightNumber>,
     op: BinOp,
     to: Temp,
     a: Temp,
@@ -53,14 +54,15 @@ fn pass_operands(
     requires left { a.at < length need.old }
     requires right { b.at < length need.old }
     ensures { AreSame (length need.old) (need_of need.new)
-        (at_least a.at (first_wanted whole op a.bytes (wanted (need_of need.old) to))
+        (at_least a.at (first_wanted whole op (compared_bytes taken a.bytes) (wanted (need_of need.old) to))
         (right_needed taken b.at (second_wanted whole op b.bytes (wanted (need_of need.old) to))
         (without to.at (need_of need.old)))) }
 {
     let n = wanted_of(need, to);
     forget(need, to);
     keep_right(need, taken, b, second_wanted(whole, op, b.bytes, n));
-    keep(need, a, first_wanted(whole, op, a.bytes, n));
+    let compared = compared_bytes(taken, a.bytes);
+    keep(need, a, first_wanted(whole, op, compared, n));
 }
 
 /// What is needed at a label.
@@ -167,7 +169,7 @@ fn at_write(need: &mut [u8], from: Temp, index: Option<Temp>, width: u8)
 
 /// What is needed before an operation, in place of what is needed after it: `need` has a byte for each of the first
 /// places. Its second operand may be known to hold a number.
-pub fn before(table: &LabelNeeds, known: Option<i128>, i: &Ir, need: &mut [u8])
+pub fn before(table: &LabelNeeds, known: Option<RightNumber>, i: &Ir, need: &mut [u8])
     requires { HasPlaces (length need.old) (plain_ir i.now) }
     ensures { AreSame (length need.old) (need_of need.new)
         (before (needs_of table.now) known (plain_ir i.now) (need_of need.old)) }

@@ -1,7 +1,7 @@
 -- Code that is written operation by operation.
 use Rattle.std.proofs.Common.{◌≡◌, ℕ, zero, suc, ◌+◌, ◌-◌, ◌<◌, List, [], ◌∷◌, ◌++◌, Some, length, refl, sym, ap, ◌∙◌}
 use Rattle.std.proofs.Common.{subst, arith, append_assoc, append-nil}
-use Rattle.std.specs.Prelude.{slice_get, slice_index, get_or, Option, None, ℤ}
+use Rattle.std.specs.Prelude.{slice_get, slice_index, get_or, Option, None}
 use Rattle.ec_asm.specs.declared.items.AsmItem.{AsmItem}
 use Rattle.ec_asm.specs.declared.pieces.Location.{Location}
 use Rattle.ec_asm.specs.Items.{chain}
@@ -14,6 +14,7 @@ use Rattle.ec_select_operations.specs.Code.{Linkage, register_places, save_place
 use Rattle.ec_select_operations.specs.declared.families.Told.{Told}
 use Rattle.ec_select_operations.specs.Code.{restore_code, operation_code, tells, wanted_behind, wanted_bytes, op_code}
 use Rattle.ec_select_operations.specs.Code.{tells_next, ops_code}
+use Rattle.ec_ir_known.specs.declared.known.RightNumber.{RightNumber}
 use Rattle.ec_ir_known.specs.Known.{known_at, right_number, right_numbers, numbers_left}
 use Rattle.ec_select_operations.specs.Needs.{Need, without_result, facts_of, Facts, needs}
 use Rattle.ec_select_operations.specs.Written.{need_in, operation_at, told_from, told_at, written_code, row_from}
@@ -65,7 +66,7 @@ module _ (p : PlainProgram) (home : Temp → Location) (k : Linkage) where
       (λ j. restore_place k.homes j (need j)) (register_places k.slots)
       (λ j l. ap (restore_place k.homes j) (kept_here need j l))
 
-  same_code : (at : ℕ → Need) (told telling : Option Told) (known : Option ℤ) (need : Need) (i : PlainIr)
+  same_code : (at : ℕ → Need) (told telling : Option Told) (known : Option RightNumber) (need : Need) (i : PlainIr)
       → operation_code p home k told telling known (wanted_behind at need i) (need_in (kept_row k.slots need i)) i
       ≡ op_code p home k told telling known need i
   same_code at told telling known need (call_function f to) =
@@ -94,8 +95,8 @@ module _ (p : PlainProgram) (home : Temp → Location) (k : Linkage) where
   abbrev piece : (labels : ℕ → Need) (all : List PlainIr) → Option Told → List PlainIr → ℕ → List AsmItem
   piece labels all first code j =
       let at = facts_of labels all in
-      operation_at p home k (told_from first (wanted_bytes at code) code j) (told_from first (wanted_bytes at code) code (suc j))
-      (get_or (numbers_left all code) j None) (slice_index (wanted_bytes at code) j) (get_or (kept_rows k.slots at code) j [])
+      operation_at p home k (told_from first (wanted_bytes at code) (numbers_left all code) code j)
+      (told_from first (wanted_bytes at code) (numbers_left all code) code (suc j)) (get_or (numbers_left all code) j None) (slice_index (wanted_bytes at code) j) (get_or (kept_rows k.slots at code) j [])
       (slice_get code j)
 
   -- those behind the first operation are those of the other ones
@@ -130,20 +131,21 @@ chain_more f j first before after p q =
 
 -- one operation more
 pub one_more : (p : PlainProgram) (home : Temp → Location) (k : Linkage) (wanted : List ℕ) (kept : List (List ℕ))
-    (known : List (Option ℤ)) (code : List PlainIr) (j : ℕ) (i : PlainIr) (told telling : Option Told) (number : Option ℤ)
+    (known : List (Option RightNumber)) (code : List PlainIr) (j : ℕ) (i : PlainIr) (told telling : Option Told)
+    (number : Option RightNumber)
     (row : List ℕ) (first before after : List AsmItem)
-    → slice_get code j ≡ Some i → told ≡ told_at wanted code j → telling ≡ told_at wanted code (j + 1)
+    → slice_get code j ≡ Some i → told ≡ told_at wanted known code j → telling ≡ told_at wanted known code (j + 1)
     → get_or known j None ≡ number → get_or kept j [] ≡ row → before ≡ first ++ written_code p home k wanted kept known code j
     → after ≡ before ++ operation_code p home k told telling number (slice_index wanted j) (need_in row) i
     → after ≡ first ++ written_code p home k wanted kept known code (j + 1)
 one_more p home k wanted kept known code j i told telling number row first before after is told_is telling_is number_is row_is start q =
     let e : j + 1 ≡ suc j = omega arith in
-    let next : telling ≡ told_at wanted code (suc j) = telling_is ∙ ap (told_at wanted code) e in
-    let here : operation_at p home k (told_at wanted code j) (told_at wanted code (suc j)) (get_or known j None)
+    let next : telling ≡ told_at wanted known code (suc j) = telling_is ∙ ap (told_at wanted known code) e in
+    let here : operation_at p home k (told_at wanted known code j) (told_at wanted known code (suc j)) (get_or known j None)
     (slice_index wanted j) (get_or kept j []) (slice_get code j)
     ≡ operation_code p home k told telling number (slice_index wanted j) (need_in row) i = rw
     (told_is, next, is, row_is, number_is) refl in
-    chain_more (λ j. operation_at p home k (told_at wanted code j) (told_at wanted code (suc j)) (get_or known j None)
+    chain_more (λ j. operation_at p home k (told_at wanted known code j) (told_at wanted known code (suc j)) (get_or known j None)
     (slice_index wanted j) (get_or kept j []) (slice_get code j)) j first before after start (q ∙ ap (λ l. before ++ l) (sym here))
 
 -- an item of a list
@@ -154,9 +156,10 @@ item_there (z ∷ xs) zero x l q = (let g : x ≡ z = q in ap Some (sym g))
 item_there (z ∷ xs) (suc k) x l q = item_there xs k x (omega arith) q
 
 -- what an operation behind another one has been told
-pub told_here : (code : List PlainIr) (wanted : List ℕ) (k : ℕ) (i next : PlainIr) → 0 < k → slice_get code (k - 1) ≡ Some i
-    → slice_get code k ≡ Some next → tells i (Some next) (slice_index wanted k) ≡ told_at wanted code k
-told_here code wanted zero i next z p q = absurd (omega arith)
-told_here code wanted (suc k) i next z p q = let e : suc k - 1 ≡ k = omega arith in
+pub told_here : (code : List PlainIr) (wanted : List ℕ) (known : List (Option RightNumber)) (k : ℕ) (i next : PlainIr) → 0 < k
+    → slice_get code (k - 1) ≡ Some i → slice_get code k ≡ Some next
+    → tells (get_or known (k - 1) None) i (Some next) (slice_index wanted k) ≡ told_at wanted known code k
+told_here code wanted known zero i next z p q = absurd (omega arith)
+told_here code wanted known (suc k) i next z p q = let e : suc k - 1 ≡ k = omega arith in
     let here : slice_get code k ≡ Some i = subst (λ (j : ℕ). slice_get code j ≡ Some i) e p in
-    rw (here, q) refl
+    rw (here, q, e) refl

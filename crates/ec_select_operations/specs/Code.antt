@@ -61,7 +61,8 @@ use Rattle.ec_fxcode_limits.specs.Limits.{limited_code}
 use Rattle.ec_fxcode_placed.specs.Shifts.{placed_code}
 use Rattle.ec_select_fixed.specs.Codes.{fixed_binary_code, fixed_unary_code, fixed_conversion_code}
 use Rattle.ec_select_fixed.specs.Types.{format_in}
-use Rattle.ec_select_operations.specs.Needs.{is_fixed, is_whole, number_taken}
+use Rattle.ec_ir_known.specs.declared.known.RightNumber.{RightNumber}
+use Rattle.ec_select_operations.specs.Needs.{is_fixed, is_whole, number_taken, compared_bytes as bytes_compared}
 use Rattle.ec_select_operations.specs.Needs.{Need, nothing, wanted, wanted_result, without_result, either}
 use Rattle.ec_select_operations.specs.Needs.{Facts, facts_of, needs}
 use Rattle.ec_select_operations.specs.Places.{object_location}
@@ -226,12 +227,19 @@ abbrev pub is_only_tested : (to : Temp) → (next : Option PlainIr) → (needed 
 is_only_tested to (Some (branch_zero t l)) needed = needed == 0 && (t.at == to.at && t.bytes == to.bytes)
 is_only_tested to next needed = false
 
--- what an operation tells the next one by a flag, in place of its result
-abbrev pub tells : PlainIr → (next : Option PlainIr) → (needed : ℕ) → Option Told
-tells (binary_op op ty mode to a aty b bty) next needed =
+-- whether a comparison minds signs: bytes have none
+abbrev pub compared_signed : (taken : Option RightNumber) → (signed : Bool) → Bool
+compared_signed None signed = signed
+compared_signed (Some n) signed = if n.in_byte then false else signed
+
+-- what an operation, whose second operand may be known to hold a number, tells the next one by a flag, in place of its
+-- result
+abbrev pub tells : (known : Option RightNumber) → PlainIr → (next : Option PlainIr) → (needed : ℕ) → Option Told
+tells known (binary_op op ty mode to a aty b bty) next needed =
     if is_only_tested to next needed
-    then told_by (is_apart (family_of op) mode ty aty bty) (family_of op) (is_signed aty) else None
-tells i next needed = None
+    then told_by (is_apart (family_of op) mode ty aty bty) (family_of op)
+    (compared_signed (number_taken known (is_whole aty || is_whole bty) op) (is_signed aty)) else None
+tells known i next needed = None
 
 -- the comparison alone
 abbrev pub flag_code : Family → (a b : Location) → (bytes : ℕ) → List AsmItem
@@ -255,21 +263,24 @@ changed_by_code BitOr to number n = changed_code Set to number n
 changed_by_code BitXor to number n = []
 
 -- the first operand is brought to the result's place, and changed there. A truth value needs the number at the place of
--- the second operand, and it is put there first
-abbrev pub by_number_code : Family → (left right : Bool) → (a b to : Location) → (bytes number n : ℕ) → List AsmItem
-by_number_code (Combined op) left right a b to bytes number n = move_code a to n ++ changed_by_code op to number n
-by_number_code f left right a b to bytes number n =
-    if n == 0 then [] else constant_code b number bytes ++ binary_code f left right a b to bytes n
+-- the second operand, and all its bytes are put there first; so many of them are compared
+abbrev pub by_number_code : Family → (signed : Bool) → (a b to : Location) → (bytes compared number n : ℕ) → List AsmItem
+by_number_code (Combined op) signed a b to bytes compared number n = move_code a to n ++ changed_by_code op to number n
+by_number_code (Compared r exchanged) signed a b to bytes compared number n =
+    if n == 0 then [] else constant_code b number bytes ++ compared_code r signed a b to compared n
+by_number_code f signed a b to bytes compared number n = []
 
 -- where the second operand is taken as a number, in two's complement of 16 bytes
-abbrev pub taking_code : (taken : Option ℤ) → (telling : Option Told) → Family → (left right : Bool) → (a b to : Location)
+abbrev pub taking_code : (taken : Option RightNumber) → (telling : Option Told) → Family → (left right : Bool) → (a b to : Location)
     → (bytes n : ℕ) → List AsmItem
 taking_code None telling f left right a b to bytes n = operator_code telling f left right a b to bytes n
-taking_code (Some k) None f left right a b to bytes n = by_number_code f left right a b to bytes (low_bytes 16 k) n
-taking_code (Some k) (Some told) f left right a b to bytes n = compared_with_code a (low_bytes 16 k) bytes
+taking_code (Some k) None f left right a b to bytes n =
+    by_number_code f (compared_signed (Some k) left) a b to bytes (bytes_compared (Some k) bytes) (low_bytes 16 k.number) n
+taking_code (Some k) (Some told) f left right a b to bytes n =
+    compared_with_code a (low_bytes 16 k.number) (bytes_compared (Some k) bytes)
 
 -- operands that are integers, of which the second one may be known to hold a number
-abbrev pub integer_binary : (known : Option ℤ) → (telling : Option Told) → BinOp → (left right : Bool) → (a b to : Location)
+abbrev pub integer_binary : (known : Option RightNumber) → (telling : Option Told) → BinOp → (left right : Bool) → (a b to : Location)
     → (bytes n : ℕ) → List AsmItem
 integer_binary known telling op left right a b to bytes n =
     taking_code (number_taken known false op) telling (family_of op) left right a b to bytes n
@@ -512,7 +523,7 @@ pointer_conversion aty from to m k n =
 -- An operation, of whose result so many bytes are needed, and after a call so many of other places; what the one before
 -- it told, and what it tells itself; and the number that its second operand is known to hold. A constant is taken in two's
 -- complement of 16 bytes, since no temporary has more
-abbrev pub operation_code : PlainProgram → (Temp → Location) → Linkage → (told telling : Option Told) → Option ℤ → ℕ
+abbrev pub operation_code : PlainProgram → (Temp → Location) → Linkage → (told telling : Option Told) → Option RightNumber → ℕ
     → Need → PlainIr → List AsmItem
 operation_code p home k told telling known bytes kept (constant t n) = constant_code (home t) (low_bytes 16 n) bytes
 operation_code p home k told telling known bytes kept (copy to from) = move_code (home from) (home to) bytes
@@ -576,14 +587,14 @@ kept_need need (call_function f to) = without_result to need
 kept_need need i = nothing
 
 -- an operation, where so much is needed after it
-abbrev pub op_code : PlainProgram → (Temp → Location) → Linkage → (told telling : Option Told) → Option ℤ → Need
+abbrev pub op_code : PlainProgram → (Temp → Location) → Linkage → (told telling : Option Told) → Option RightNumber → Need
     → PlainIr → List AsmItem
 op_code p home k told telling known need i =
     operation_code p home k told telling known (result_wanted need i) (kept_need need i) i
 
 -- what an operation tells those behind it
 abbrev pub tells_next : Facts → PlainIr → List PlainIr → Option Told
-tells_next at i code = tells i (slice_get code 0) (slice_index (wanted_bytes at code) 0)
+tells_next at i code = tells (at.known (i ∷ code)) i (slice_get code 0) (slice_index (wanted_bytes at code) 0)
 
 abbrev pub ops_code : PlainProgram → (Temp → Location) → Linkage → Facts → (told : Option Told)
     → List PlainIr → List AsmItem

@@ -1,7 +1,7 @@
 -- How many low bytes of what each place of temporaries holds are still needed. Code computes only these bytes.
 use Rattle.std.specs.Prelude.{ℕ, zero, suc, ◌≤◌, ◌==◌, ⊤, Bool, true, false, ◌||◌, ◌&&◌, not, if◌then◌else◌, min, max, List, []}
 use Rattle.std.specs.Prelude.{◌∷◌}
-use Rattle.std.specs.Prelude.{Option, Some, None, ℤ}
+use Rattle.std.specs.Prelude.{Option, Some, None}
 use Rattle.ec_core.specs.declared.expressions.BinOp.{BinOp}
 use Rattle.ec_core.specs.declared.expressions.BinOp.TheVariants.{Add, Sub, And, Or, Xor, Shl, Shr, Lt, Ge, Eq, Ne}
 use Rattle.ec_core.specs.Plain.{PlainType, fixed, pointer}
@@ -9,6 +9,7 @@ use Rattle.ec_ir.specs.declared.operations.Temp.{Temp}
 use Rattle.ec_ir.specs.Operations.{PlainIr, constant, copy, address, field, load_at, store_at, load_object}
 use Rattle.ec_ir.specs.Operations.{store_object, binary_op, unary_op, conversion, label, jump, branch_zero}
 use Rattle.ec_ir.specs.Operations.{call_function, return_from, port_in, port_out}
+use Rattle.ec_ir_known.specs.declared.known.RightNumber.{RightNumber}
 use Rattle.ec_ir_known.specs.Known.{known_at, right_number}
 
 -- for each place the number of its low bytes that are needed
@@ -116,12 +117,17 @@ takes_number op = false
 
 -- the number that an operator takes, where its second operand is known to hold one: none of operands that are fixed-point
 -- numbers or pointers
-abbrev pub number_taken : (known : Option ℤ) → (whole : Bool) → BinOp → Option ℤ
+abbrev pub number_taken : (known : Option RightNumber) → (whole : Bool) → BinOp → Option RightNumber
 number_taken None whole op = None
 number_taken (Some n) whole op = if not whole && takes_number op then Some n else None
 
+-- how many bytes of the first operand, which has so many, are compared: one where both operands are below 256
+abbrev pub compared_bytes : (taken : Option RightNumber) → (bytes : ℕ) → ℕ
+compared_bytes None bytes = bytes
+compared_bytes (Some n) bytes = if n.in_byte then min 1 bytes else bytes
+
 -- of a second operand that is taken as a number nothing is needed
-abbrev pub right_needed : Option ℤ → (at bytes : ℕ) → Need → Need
+abbrev pub right_needed : Option RightNumber → (at bytes : ℕ) → Need → Need
 right_needed None at bytes need = at_least at bytes need
 right_needed (Some n) at bytes need = need
 
@@ -129,7 +135,7 @@ right_needed (Some n) at bytes need = need
 
 -- what is needed before an operation, whose second operand may be known to hold a number. `at` tells what is needed at
 -- each label, and `need` what is after the operation
-abbrev pub before : (ℕ → Need) → Option ℤ → PlainIr → Need → Need
+abbrev pub before : (ℕ → Need) → Option RightNumber → PlainIr → Need → Need
 before at n (constant t k) need = without t.at need
 before at n (copy to from) need = at_least from.at (wanted need to) (without to.at need)
 before at n (address t o offset) need = without t.at need
@@ -139,7 +145,9 @@ before at n (store_at ptr space from) need = at_least from.at from.bytes (at_lea
 before at n (load_object t o offset) need = without t.at need
 before at n (store_object o offset t) need = at_least t.at t.bytes need
 before at n (binary_op op ty mode to a aty b bty) need =
-    at_least a.at (first_wanted (is_whole aty || is_whole bty) op a.bytes (wanted need to))
+    at_least a.at
+    (first_wanted (is_whole aty || is_whole bty) op
+    (compared_bytes (number_taken n (is_whole aty || is_whole bty) op) a.bytes) (wanted need to))
     (right_needed (number_taken n (is_whole aty || is_whole bty) op) b.at
     (second_wanted (is_whole aty || is_whole bty) op b.bytes (wanted need to)) (without to.at need))
 before at n (unary_op op ty mode to a) need =
@@ -160,10 +168,10 @@ before at n (port_out from port index width) need = at_least from.at width (inde
 -- operations that are left is known to hold
 pub record Facts : Type 0 where
   pub needed : ℕ → Need
-  pub known : List PlainIr → Option ℤ
+  pub known : List PlainIr → Option RightNumber
 
 -- the number of the operations that are left of the code of a function
-abbrev pub known_right : (code rest : List PlainIr) → Option ℤ
+abbrev pub known_right : (code rest : List PlainIr) → Option RightNumber
 known_right code [] = None
 known_right code (i ∷ rest) = right_number (known_at code (i ∷ rest)) i
 

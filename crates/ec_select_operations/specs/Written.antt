@@ -1,6 +1,6 @@
 -- The code of a list of operations, for each of which numbers tell how many bytes are wanted.
 use Rattle.std.specs.Prelude.{◌≡◌, ℕ, zero, suc, List, [], ◌∷◌, Option, Some, None, slice_get, slice_index, get_or}
-use Rattle.std.specs.Prelude.{option_and_then, length, ℤ}
+use Rattle.std.specs.Prelude.{option_and_then, length}
 use Rattle.ec_asm.specs.declared.items.AsmItem.{AsmItem}
 use Rattle.ec_asm.specs.declared.items.AsmItem.TheVariants.{Label}
 use Rattle.ec_asm.specs.declared.pieces.Location.{Location}
@@ -8,6 +8,7 @@ use Rattle.ec_asm.specs.Items.{chain}
 use Rattle.ec_core.specs.Plain.{PlainProgram}
 use Rattle.ec_ir.specs.declared.operations.Temp.{Temp}
 use Rattle.ec_ir.specs.Operations.{PlainIr, call_function}
+use Rattle.ec_ir_known.specs.declared.known.RightNumber.{RightNumber}
 use Rattle.ec_ir_known.specs.Known.{right_numbers}
 use Rattle.ec_select_operations.specs.declared.calls.Linking.{Linking}
 use Rattle.ec_select_operations.specs.declared.families.Told.{Told}
@@ -22,17 +23,19 @@ abbrev pub need_in : List ℕ → Need
 need_in row place = get_or row place 0
 
 -- what operation j has been told, where the first one has been told so much
-abbrev pub told_from : (first : Option Told) → (wanted : List ℕ) → List PlainIr → ℕ → Option Told
-told_from first wanted code zero = first
-told_from first wanted code (suc j) =
-    option_and_then (λ i. tells i (slice_get code (suc j)) (slice_index wanted (suc j))) (slice_get code j)
+abbrev pub told_from : (first : Option Told) → (wanted : List ℕ) → (known : List (Option RightNumber)) → List PlainIr
+    → ℕ → Option Told
+told_from first wanted known code zero = first
+told_from first wanted known code (suc j) =
+    option_and_then (λ i. tells (get_or known j None) i (slice_get code (suc j)) (slice_index wanted (suc j)))
+    (slice_get code j)
 
 -- no operation stands before the first one
-abbrev pub told_at : (wanted : List ℕ) → List PlainIr → ℕ → Option Told
-told_at wanted code j = told_from None wanted code j
+abbrev pub told_at : (wanted : List ℕ) → (known : List (Option RightNumber)) → List PlainIr → ℕ → Option Told
+told_at wanted known code j = told_from None wanted known code j
 
 abbrev pub operation_at : PlainProgram → (Temp → Location) → Linkage → (told telling : Option Told)
-    → (known : Option ℤ) → (wanted : ℕ) → (row : List ℕ) → Option PlainIr → List AsmItem
+    → (known : Option RightNumber) → (wanted : ℕ) → (row : List ℕ) → Option PlainIr → List AsmItem
 operation_at p home k told telling known wanted row None = []
 operation_at p home k told telling known wanted row (Some i) =
     operation_code p home k told telling known wanted (need_in row) i
@@ -40,14 +43,14 @@ operation_at p home k told telling known wanted row (Some i) =
 -- the code of the first n operations: `wanted` has for each the bytes that are needed behind it, `kept` what a call
 -- keeps, and `known` the number that the second operand is known to hold
 abbrev pub written_code : PlainProgram → (Temp → Location) → Linkage → (wanted : List ℕ) → (kept : List (List ℕ))
-    → (known : List (Option ℤ)) → List PlainIr → ℕ → List AsmItem
+    → (known : List (Option RightNumber)) → List PlainIr → ℕ → List AsmItem
 written_code p home k wanted kept known code n =
-    chain (λ j. operation_at p home k (told_at wanted code j) (told_at wanted code (suc j)) (get_or known j None)
+    chain (λ j. operation_at p home k (told_at wanted known code j) (told_at wanted known code (suc j)) (get_or known j None)
     (slice_index wanted j) (get_or kept j []) (slice_get code j)) n
 
 -- that of a function, which begins with its label
 abbrev pub written_function : PlainProgram → Linkage → (f : ℕ) → (wanted : List ℕ) → (kept : List (List ℕ))
-    → (known : List (Option ℤ)) → List PlainIr → List AsmItem
+    → (known : List (Option RightNumber)) → List PlainIr → List AsmItem
 written_function p k f wanted kept known code =
     Label (k.entry_of f) ∷ written_code p (home k.homes) k wanted kept known code (length code)
 

@@ -4,14 +4,18 @@ ghost use Rattle.ec_runs.specs.Behaviours.{BeginWith};
 ghost use Rattle.ec_asm.specs.Pieces.{HasBytes};
 ghost use Rattle.ec_ir.specs.Temporaries.{low_bytes};
 ghost use Rattle.ec_select_operations.specs.Code.{family_of, changed_by_code, by_number_code, integer_binary};
+ghost use Rattle.ec_select_operations.specs.Code.{compared_signed};
 ghost use Rattle.ec_select_operations.specs.Emitted.{BinaryHasBytes, TakesNumbers};
 ghost use Rattle.ec_select_operations.specs.Homes.{home};
-ghost use Rattle.ec_select_operations.specs.Needs.{takes_number, number_taken};
+ghost use Rattle.ec_select_operations.specs.Needs.{takes_number, number_taken, compared_bytes};
 
-use crate::families::{BinaryOperation, Family, Told, binary, family_of, move_number, operator};
+use crate::families::{
+    BinaryOperation, Family, Operands, Told, family_of, move_number, operator, tell,
+};
 use crate::homes::{Homes, home};
 use ec_asm::{AsmItem, Location, Operator};
 use ec_core::BinOp;
+use ec_ir_known::RightNumber;
 use ec_select_bytes::constant;
 use ec_select_numbers::{ByNumber, add_number, change_by, compare_with};
 use ec_space::{NoMemory, Seq};
@@ -43,7 +47,7 @@ fn takes_number(op: BinOp) -> bool
 
 /// The number that an operator takes in place of its second operand, which is known to hold it: none where an operand is
 /// a fixed-point number or a pointer.
-pub fn number_taken(known: Option<i128>, whole: bool, op: BinOp) -> Option<i128>
+pub fn number_taken(known: Option<RightNumber>, whole: bool, op: BinOp) -> Option<RightNumber>
     ensures { result ≡ number_taken known whole op }
 {
     match known {
@@ -52,8 +56,29 @@ pub fn number_taken(known: Option<i128>, whole: bool, op: BinOp) -> Option<i128>
     }
 }
 
+/// How many bytes of the first operand are compared, which has so many: one where both operands are below 256.
+pub fn compared_bytes(taken: Option<RightNumber>, bytes: u8) -> u8
+    ensures value { result ≡ compared_bytes taken bytes }
+    ensures few { result ≤ bytes }
+{
+    match taken {
+        Some(k) if k.in_byte => bytes.min(1),
+        _ => bytes,
+    }
+}
+
+/// Whether a comparison minds signs: bytes have none.
+pub(crate) fn compared_signed(taken: Option<RightNumber>, signed: bool) -> bool
+    ensures { result ≡ compared_signed taken signed }
+{
+    match taken {
+        Some(k) if k.in_byte => false,
+        _ => signed,
+    }
+}
+
 /// The number that the second operand of the operation with a number is known to hold.
-pub fn number_at(known: &[Option<i128>], k: usize) -> Option<i128>
+pub fn number_at(known: &[Option<RightNumber>], k: usize) -> Option<RightNumber>
     ensures { result ≡ get_or known.now k None }
 {
     match known.get(k) {
@@ -85,23 +110,26 @@ fn change(
     }
 }
 
-/// Appends code for an operator with a known number: so many bytes of the result stand at the result's place. Where
-/// memory runs out, a part of the code is appended.
+/// Appends code for an operator with a known number: so many bytes of the result stand at the result's place. A
+/// comparison is one of so many bytes of the operands. Where memory runs out, a part of the code is appended.
 #[tactic(auto, using(crate::proofs::Emits::fewer_bytes))]
 fn by_number(
     out: &mut Seq<AsmItem>,
     homes: Homes,
     op: BinOp,
     of: BinaryOperation,
+    signed: bool,
+    compared: u8,
     number: u128,
     wanted: u8,
 ) -> Result<(), NoMemory>
     requires bytes { BinaryHasBytes (family_of op) wanted of.to of.a of.b }
     requires right { of.a.bytes ≤ of.b.bytes }
     requires most { of.a.bytes ≤ 16 }
+    requires few { compared ≤ of.a.bytes }
     ensures ok { OnOk result (out.new.items ≡ out.old.items
-        ++ by_number_code (family_of op) of.left_signed of.right_signed (home homes of.a) (home homes of.b)
-        (home homes of.to) of.a.bytes number wanted) }
+        ++ by_number_code (family_of op) signed (home homes of.a) (home homes of.b) (home homes of.to) of.a.bytes
+        compared number wanted) }
     ensures err { OnErr result (BeginWith out.old.items out.new.items) }
 {
     let to = home(homes, of.to);
@@ -110,13 +138,20 @@ fn by_number(
             move_number(out, home(homes, of.a), to, wanted)?;
             change(out, op, to, number, wanted)
         }
-        _ => {
+        Family::Compared { relation, .. } => {
             if wanted == 0 {
                 return Ok(());
             }
-            constant(out, number, home(homes, of.b), of.a.bytes)?;
-            binary(out, homes, op, of, wanted)
+            let operands = Operands {
+                signed,
+                bytes: compared,
+                left: home(homes, of.a),
+                right: home(homes, of.b),
+            };
+            constant(out, number, operands.right, of.a.bytes)?;
+            tell(out, relation, operands, to, wanted)
         }
+        _ => Ok(()),
     }
 }
 
@@ -127,7 +162,7 @@ fn by_number(
 pub fn integer_binary(
     out: &mut Seq<AsmItem>,
     homes: Homes,
-    known: Option<i128>,
+    known: Option<RightNumber>,
     telling: Option<Told>,
     op: BinOp,
     of: BinaryOperation,
@@ -141,10 +176,17 @@ pub fn integer_binary(
     ensures err { OnErr result (BeginWith out.old.items out.new.items) }
 {
     match known {
-        Some(k) if takes_number(op) => match telling {
-            None => by_number(out, homes, op, of, bits_of(k), wanted),
-            Some(_) => compare_with(out, home(homes, of.a), bits_of(k), of.a.bytes),
-        },
+        Some(k) if takes_number(op) => {
+            let number = bits_of(k.number);
+            let bytes = compared_bytes(known, of.a.bytes);
+            match telling {
+                None => {
+                    let signed = compared_signed(known, of.left_signed);
+                    by_number(out, homes, op, of, signed, bytes, number, wanted)
+                }
+                Some(_) => compare_with(out, home(homes, of.a), number, bytes),
+            }
+        }
         _ => operator(out, homes, telling, op, of, wanted),
     }
 }

@@ -14,13 +14,14 @@ use crate::families::{
 };
 use crate::fixed::{fixed_binary, fixed_conversion, fixed_unary, is_apart};
 use crate::homes::{home, index_place};
-use crate::numbers::{bits_of, integer_binary, number_at};
+use crate::numbers::{bits_of, compared_signed, integer_binary, number_at, number_taken};
 use crate::pointers::{
     load_object, load_through, object_location, pointer_binary, pointer_conversion, put_address,
 };
-use crate::types::{is_fixed, is_pointer, is_signed};
+use crate::types::{is_fixed, is_pointer, is_signed, is_whole};
 use ec_asm::{AsmItem, Location, copy};
 use ec_ir::{Ir, IrProgram, Temp};
+use ec_ir_known::RightNumber;
 use ec_select_bytes::{PortAccess, constant, jump, read_port, write_port};
 use ec_select_pointers::{field, store_data};
 use ec_space::{NoMemory, Seq};
@@ -42,9 +43,10 @@ fn is_only_tested(to: Temp, next: &Ir, needed: u8) -> bool
     }
 }
 
-/// What an operation tells the next one by a flag, in place of its result.
-fn tells(i: &Ir, next: &Ir, needed: u8) -> Option<Told>
-    ensures { result ≡ tells (plain_ir i.now) (Some (plain_ir next.now)) needed }
+/// What an operation, whose second operand may be known to hold a number, tells the next one by a flag, in place of its
+/// result.
+fn tells(known: Option<RightNumber>, i: &Ir, next: &Ir, needed: u8) -> Option<Told>
+    ensures { result ≡ tells known (plain_ir i.now) (Some (plain_ir next.now)) needed }
 {
     match i {
         Ir::Bin {
@@ -58,10 +60,11 @@ fn tells(i: &Ir, next: &Ir, needed: u8) -> Option<Told>
         } => {
             if is_only_tested(*to, next, needed) {
                 let family = family_of(*op);
+                let taken = number_taken(known, is_whole(aty) || is_whole(bty), *op);
                 told_by(
                     is_apart(family, *mode, ty, aty, bty),
                     family,
-                    is_signed(aty),
+                    compared_signed(taken, is_signed(aty)),
                 )
             } else {
                 None
@@ -72,14 +75,14 @@ fn tells(i: &Ir, next: &Ir, needed: u8) -> Option<Told>
 }
 
 /// What the operation at a place has been told by the one before it.
-fn told_at(wanted: &[u8], code: &[Ir], k: usize) -> Option<Told>
+fn told_at(wanted: &[u8], known: &[Option<RightNumber>], code: &[Ir], k: usize) -> Option<Told>
     requires { length code.now ≡ length wanted.now }
-    ensures { result ≡ told_at wanted.now (map plain_ir code.now) k }
+    ensures { result ≡ told_at wanted.now known.now (map plain_ir code.now) k }
 {
     if k == 0 || k >= code.len() {
         return None;
     }
-    tells(&code[k - 1], &code[k], wanted[k])
+    tells(number_at(known, k - 1), &code[k - 1], &code[k], wanted[k])
 }
 
 /// Appends the code of an operation of a function. Of its result so many bytes are wanted, and no more than its
@@ -92,7 +95,7 @@ pub fn operation(
     program: &IrProgram,
     of: Linking,
     flags: Flags,
-    known: Option<i128>,
+    known: Option<RightNumber>,
     wanted: u8,
     kept: &[u8],
     i: &Ir,
@@ -246,7 +249,7 @@ pub fn all_operations(
     code: &[Ir],
     wanted: &[u8],
     kept: &[Vec<u8>],
-    known: &[Option<i128>],
+    known: &[Option<RightNumber>],
 ) -> Result<(), NoMemory>
     requires numbers { length code.now ≡ length wanted.now }
     requires rows { length code.now ≡ length kept.now }
@@ -258,8 +261,8 @@ pub fn all_operations(
     ensures err { OnErr result (BeginWith out.old.items out.new.items) }
 {
     for k in 0..code.len() {
-        let told = told_at(wanted, code, k);
-        let telling = told_at(wanted, code, k + 1);
+        let told = told_at(wanted, known, code, k);
+        let telling = told_at(wanted, known, code, k + 1);
         let flags = Flags { told, telling };
         let number = number_at(known, k);
         operation(
@@ -286,7 +289,7 @@ pub fn function(
     code: &[Ir],
     wanted: &[u8],
     kept: &[Vec<u8>],
-    known: &[Option<i128>],
+    known: &[Option<RightNumber>],
 ) -> Result<(), NoMemory>
     requires label { IsLabel (of.first_entry + f) }
     requires numbers { length code.now ≡ length wanted.now }
