@@ -112,7 +112,7 @@ fn program_by(main: Option<u16>, state: State) -> Option<Program>
     let Scope { names, objects } = scope;
     drop((names, tags, declared));
     Some(Program {
-        structs,
+        structs: structs.into_list(),
         objs: objects,
         funcs: functions,
         main,

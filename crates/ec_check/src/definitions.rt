@@ -170,7 +170,7 @@ fn define(
     };
     let context = Context {
         tags: &state.tags,
-        structs: &state.structs,
+        structs: state.structs.list(),
         ports: setting.ports,
         modes: state.modes,
     };
@@ -207,7 +207,7 @@ fn declared(
         alloc,
         faults,
         &state.tags,
-        state.structs.len(),
+        state.structs.list().len(),
         true,
         said,
         &f.result.stars,

@@ -20,7 +20,7 @@ use crate::object_types::is_object_type;
 use crate::objects::typed_declarator;
 use crate::scopes::copied_name;
 use ec_check_expressions::Known;
-use ec_check_names::{Specified, Tags, is_function, judge_specs, struct_place};
+use ec_check_names::{Specified, StructTable, Tags, is_function, judge_specs, struct_key};
 use ec_check_operands::Faults;
 use ec_core::{CType, Member, StructDef, size_of, structs_are_laid_out};
 use ec_grammar::{Declarator, NextDeclarator, Structure};
@@ -320,7 +320,7 @@ pub fn defined_struct(
     struct_of(alloc, known.structs, &s.tag.name, members)
 }
 
-fn place_struct(structs: &mut Seq<StructDef>, def: StructDef) -> Result<u32, NoMemory>
+fn place_struct(alloc: Global, structs: &mut StructTable, def: StructDef) -> Result<u32, NoMemory>
     requires structs { AreStructs (map plain_struct structs.old.items) }
     requires counted { AreCounted (map plain_struct structs.old.items) }
     requires follows { may_follow (map plain_struct structs.old.items) (plain_struct def).members ≡ true }
@@ -332,11 +332,15 @@ fn place_struct(structs: &mut Seq<StructDef>, def: StructDef) -> Result<u32, NoM
     ensures counted { OnOk result (AreCounted (map plain_struct structs.new.items)) }
 {
     structs_are_laid_out();
-    match struct_place(&def, structs.as_slice()) {
+    let Ok(key) = struct_key(alloc, &def) else {
+        drop(def);
+        return Err(NoMemory);
+    };
+    match structs.place(&key, &def) {
         Some(i) => Ok(i as u32),
         None => {
-            let n = structs.len() as u32;
-            structs.push(def)?;
+            let n = structs.list().len() as u32;
+            structs.push(alloc, key, def)?;
             Ok(n)
         }
     }
@@ -347,7 +351,7 @@ fn place_struct(structs: &mut Seq<StructDef>, def: StructDef) -> Result<u32, NoM
 pub fn add_struct(
     alloc: Global,
     tags: &mut Tags,
-    structs: &mut Seq<StructDef>,
+    structs: &mut StructTable,
     tag: &Name,
     def: Option<StructDef>,
 ) -> Result<(), NoMemory>
@@ -365,7 +369,7 @@ pub fn add_struct(
     let index = match def {
         None => None,
         Some(def) => {
-            let n = place_struct(structs, def)?;
+            let n = place_struct(alloc, structs, def)?;
             Some(n)
         }
     };

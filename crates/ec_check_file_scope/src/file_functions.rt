@@ -164,7 +164,7 @@ fn declared(
         alloc,
         faults,
         &state.tags,
-        state.structs.len(),
+        state.structs.list().len(),
         false,
         said,
         &d.declarator.stars,

@@ -14,9 +14,9 @@ use crate::file_names::FileName;
 use crate::file_table::FileNames;
 use ec_check_declarations::{Scope, copied_name};
 use ec_check_expressions::Known;
-use ec_check_names::{Definition, Named, Names, Tags};
+use ec_check_names::{Definition, Named, Names, StructTable, Tags};
 use ec_check_operands::Modes;
-use ec_core::{Func, Obj, StructDef};
+use ec_core::{Func, Obj};
 use ec_iohw::IoTable;
 use ec_space::{Name, NoMemory, Seq};
 use std::alloc::Global;
@@ -37,7 +37,7 @@ pub struct State {
     /// The names of the unit, and the objects of the program.
     pub scope: Scope,
     pub tags: Tags,
-    pub structs: Seq<StructDef>,
+    pub structs: StructTable,
     pub functions: Seq<Func>,
     /// The declarations at file scope, of all units.
     pub declared: FileNames,
@@ -67,7 +67,7 @@ pub fn known_of<'a>(ports: &'a IoTable, state: &'a State) -> Known<'a>
     Known {
         names: &state.scope.names,
         tags: &state.tags,
-        structs: &state.structs,
+        structs: state.structs.list(),
         ports,
         modes: state.modes,
     }
@@ -85,7 +85,7 @@ impl State {
                 objects: Seq::new(alloc),
             },
             tags: Tags::new(alloc),
-            structs: Seq::new(alloc),
+            structs: StructTable::new(alloc),
             functions: Seq::new(alloc),
             declared: FileNames::new(alloc),
             modes: default_modes(),

@@ -6,5 +6,6 @@ mod Tabled
 mod Numbered
 mod Walks
 mod Alike
+mod FoundStructs
 mod Finding
 mod Samples

@@ -11,4 +11,5 @@ pub mod Linkage
 pub mod Counts
 pub mod Definitions
 pub mod Structs
+pub mod StructTables
 pub mod Spellings

@@ -12,6 +12,7 @@ mod qualifiers;
 mod specifiers;
 mod spellings;
 mod stars;
+mod struct_table;
 mod structs;
 mod tags;
 mod words;
@@ -35,6 +36,7 @@ pub use specifiers::{
 };
 pub use spellings::{is_main, register_number};
 pub use stars::{Declared, pointed};
-pub use structs::{same_struct, struct_place};
+pub use struct_table::{StructTable, struct_key};
+pub use structs::same_struct;
 pub use tags::{TagState, Tags};
 pub use words::{BaseType, Times, Words, lone_type};

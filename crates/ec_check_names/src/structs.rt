@@ -2,7 +2,7 @@
 ghost use Rattle.std.specs.Prelude.{◌≡◌, map, option_map};
 ghost use Rattle.std.specs.Option.{option_copied};
 ghost use Rattle.ec_core.specs.Plain.{plain_member, plain_struct};
-ghost use Rattle.ec_check_names.specs.Structs.{same_member, same_from, same_members, same_struct, struct_place};
+ghost use Rattle.ec_check_names.specs.Structs.{same_member, same_from, same_members, same_struct};
 
 use ec_core::{Member, StructDef};
 use ec_space::Seq;
@@ -37,18 +37,4 @@ pub fn same_struct(a: &StructDef, b: &StructDef) -> bool
     a.tag == b.tag
         && a.members.len() == b.members.len()
         && same_from_first(a.members.as_slice(), &b.members)
-}
-
-/// The place of the first struct of a list that is the same, or None where there is none.
-pub fn struct_place(new: &StructDef, structs: &[StructDef]) -> Option<usize>
-    ensures { result ≡ struct_place (plain_struct new.now) (map plain_struct structs.now) }
-{
-    let mut place = 0;
-    for old in structs {
-        if same_struct(new, old) {
-            return Some(place);
-        }
-        place += 1;
-    }
-    None
 }

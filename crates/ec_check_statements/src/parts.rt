@@ -2,7 +2,7 @@
 //! 9899:1999, 6.8.3 to 6.8.6).
 ghost use Rattle.std.specs.Prelude.{◌≡◌, IfOk, OnOk, List, ◌∷◌, [], Some, None, option_map};
 ghost use Rattle.ec_core.specs.Plain.{plain_expr, plain_kind, return_value};
-ghost use Rattle.ec_grammar.specs.Views.{view_option, view_expression};
+ghost use Rattle.ec_grammar.specs.Views.{view_optional, view_expression};
 ghost use Rattle.ec_check_names.specs.Names.{plain_names};
 ghost use Rattle.ec_check_operands.specs.Operands.{plain_operand, as_value};
 ghost use Rattle.ec_check_operands.specs.Passing.{passed, passing_rules};
@@ -81,12 +81,12 @@ pub(crate) fn optional_test(
     context: &Context,
     names: &Names,
     faults: &mut Faults,
-    x: &Option<Expression>,
+    x: &Option<Box<Expression>>,
     at: u32,
 ) -> Result<Optional, NoMemory>
     requires { IsSoundContext (plain_context context.now) }
     ensures { let c = plain_context context.now in let n = plain_names names.now in
-        let t = view_option view_expression x.now in
+        let t = view_optional x.now in
         IfOk result (λ e. Walked faults.old.least faults.new.least (optional_test_sites c n t at)
         (option_map (λ e. option_map (λ b. plain_expr b.value) e) e) (optional_test c n t)) }
 {
@@ -138,11 +138,11 @@ pub(crate) fn optional_evaluation(
     context: &Context,
     names: &Names,
     faults: &mut Faults,
-    x: &Option<Expression>,
+    x: &Option<Box<Expression>>,
 ) -> Result<Optional, NoMemory>
     requires { IsSoundContext (plain_context context.now) }
     ensures { let c = plain_context context.now in let n = plain_names names.now in
-        let t = view_option view_expression x.now in
+        let t = view_optional x.now in
         IfOk result (λ e. Walked faults.old.least faults.new.least (optional_evaluation_sites c n t)
         (option_map (λ e. option_map (λ b. plain_expr b.value) e) e) (optional_evaluation c n t)) }
 {
@@ -199,12 +199,12 @@ pub(crate) fn returned(
     around: &Around,
     names: &Names,
     faults: &mut Faults,
-    x: &Option<Expression>,
+    x: &Option<Box<Expression>>,
     at: u32,
 ) -> Result<Option<StmtKind>, NoMemory>
     requires { IsSoundContext (plain_context context.now) }
     ensures { let c = plain_context context.now in let r = plain_around around.now in let n = plain_names names.now in
-        let t = view_option view_expression x.now in
+        let t = view_optional x.now in
         IfOk result (λ s. Walked faults.old.least faults.new.least (return_sites c r n t at)
         (option_map plain_kind s) (returned c r n t)) }
 {

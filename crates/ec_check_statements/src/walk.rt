@@ -1,7 +1,7 @@
 //! The walk over the statements of a body.
 ghost use Rattle.std.specs.Prelude.{◌≡◌, IfOk, OnOk, List, Some, None, option_map};
 ghost use Rattle.ec_core.specs.Plain.{plain_expr, plain_kind, plain_stmt, block, last_stmt, evaluate};
-ghost use Rattle.ec_grammar.specs.Views.{view_option, view_expression, view_heading, view_compound, views_items};
+ghost use Rattle.ec_grammar.specs.Views.{view_optional, view_heading, view_compound, views_items};
 ghost use Rattle.ec_grammar.specs.Views.{view_item, view_statement};
 ghost use Rattle.ec_check_names.specs.Names.{plain_names};
 ghost use Rattle.ec_check_declarations.specs.Scopes.{IsSoundContext, plain_context, plain_scope};
@@ -47,11 +47,11 @@ fn evaluation(
     context: &Context,
     names: &Names,
     faults: &mut Faults,
-    x: &Option<Expression>,
+    x: &Option<Box<Expression>>,
 ) -> Result<Option<StmtKind>, NoMemory>
     requires { IsSoundContext (plain_context context.now) }
     ensures { let c = plain_context context.now in let n = plain_names names.now in
-        let t = view_option view_expression x.now in
+        let t = view_optional x.now in
         IfOk result (λ k. Walked faults.old.least faults.new.least (optional_evaluation_sites c n t)
         (option_map plain_kind k) (evaluation c n t)) }
 {

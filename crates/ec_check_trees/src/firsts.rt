@@ -2,7 +2,7 @@
 ghost use Rattle.std.specs.Prelude.{◌≡◌};
 ghost use Rattle.ec_grammar.specs.Views.{view_expression, view_assignment, view_conditional, view_binary, view_cast};
 ghost use Rattle.ec_grammar.specs.Views.{view_unary, view_postfix, view_primary, view_spec, view_specs, view_type_name};
-ghost use Rattle.ec_grammar.specs.Views.{view_option, view_param, view_initialiser, view_declaration, view_compound};
+ghost use Rattle.ec_grammar.specs.Views.{view_optional, view_param, view_initialiser, view_declaration, view_compound};
 ghost use Rattle.ec_grammar.specs.Views.{view_item, view_statement};
 ghost use Rattle.ec_check_trees.specs.Firsts.{first_expression, first_assignment, first_conditional, first_binary};
 ghost use Rattle.ec_check_trees.specs.Firsts.{first_cast, first_unary, first_postfix, first_primary, first_spec, first_specs};
@@ -131,8 +131,8 @@ pub fn first_declaration(declaration: &Declaration) -> u32
     first_specs(&declaration.specs)
 }
 
-fn first_optional(e: &Option<Expression>, s: Spot) -> u32
-    ensures { result ≡ first_optional (view_option view_expression e.now) s }
+fn first_optional(e: &Option<Box<Expression>>, s: Spot) -> u32
+    ensures { result ≡ first_optional (view_optional e.now) s }
 {
     match e {
         None => s.index,

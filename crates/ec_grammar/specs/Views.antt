@@ -1,5 +1,7 @@
 -- The pointer-free tree that a program's tree stands for.
 use Rattle.std.specs.Prelude.{List, [], ◌∷◌, Option, Some, None, map}
+use Rattle.std.specs.Global.{Global}
+use Rattle.std.specs.declared.boxed.Box.{Box}
 use Rattle.ec_grammar.specs.declared.Identifier as identifier
 use Rattle.ec_grammar.specs.declared.Star as star
 use Rattle.ec_grammar.specs.declared.Spec as spec
@@ -128,6 +130,10 @@ abbrev mutual
   view_primary (primaries.Operation' s op l n shape more r) =
       t.operation s op l (view_identifier n) (view_further more) r
 
+-- an expression that may be left out, as the types that hold it have it
+abbrev pub view_optional : Option (Box expression.Expression Global) → Option t.Expression
+view_optional e = view_option (λ b. view_expression b.value) e
+
 abbrev pub views_further : List argument.Argument → t.Further
 views_further [] = t.no_further
 views_further (a ∷ rest) = t.further a.comma (view_assignment a.value) (views_further rest)
@@ -199,13 +205,13 @@ abbrev pub view_condition : condition.Condition → t.Condition
 view_condition c = t.condition c.opening (view_expression c.value) c.closing
 
 abbrev pub view_first : first.First → t.First
-view_first (firsts.Declared d) = t.first_declared (view_declaration d)
-view_first (firsts.Evaluated e s) = t.first_evaluated (view_option view_expression e) s
+view_first (firsts.Declared d) = t.first_declared (view_declaration d.value)
+view_first (firsts.Evaluated e s) = t.first_evaluated (view_optional e) s
 
 abbrev pub view_heading : heading.Heading → t.Heading
 view_heading h =
-    t.heading h.opening (view_first h.first) (view_option view_expression h.condition) h.semicolon
-    (view_option view_expression h.last) h.closing
+    t.heading h.opening (view_first h.first) (view_optional h.condition) h.semicolon
+    (view_optional h.last) h.closing
 
 abbrev mutual
   pub view_items : {m : _} → compound.Row_of-Item m → t.Items
@@ -213,22 +219,22 @@ abbrev mutual
   view_items (compound.more_of-Item i rest) = t.items (view_item i) (view_items rest)
 
   pub view_item : item.Item → t.Item
-  view_item (item_kinds.Declaration d) = t.declared (view_declaration d)
+  view_item (item_kinds.Declaration d) = t.declared (view_declaration d.value)
   view_item (item_kinds.Statement s) = t.stated (view_statement s)
 
   pub view_statement : statement.Statement → t.Statement
   view_statement (statements.Compound' opening pragmas shape items closing) =
       t.block (t.compound opening pragmas.items (view_items items) closing)
-  view_statement (statements.Simple e s) = t.simple (view_option view_expression e) s
-  view_statement (statements.If' s c b_at b) = t.if_then s (view_condition c) (view_statement b)
+  view_statement (statements.Simple e s) = t.simple (view_optional e) s
+  view_statement (statements.If' s c b_at b) = t.if_then s (view_condition c.value) (view_statement b)
   view_statement (statements.IfElse' s c b_at b e o_at o) =
-      t.if_else s (view_condition c) (view_statement b) e (view_statement o)
-  view_statement (statements.While' s c b_at b) = t.while_loop s (view_condition c) (view_statement b)
-  view_statement (statements.Do' s b_at b w c e) = t.do_loop s (view_statement b) w (view_condition c) e
-  view_statement (statements.For' s h b_at b) = t.for_loop s (view_heading h) (view_statement b)
+      t.if_else s (view_condition c.value) (view_statement b) e (view_statement o)
+  view_statement (statements.While' s c b_at b) = t.while_loop s (view_condition c.value) (view_statement b)
+  view_statement (statements.Do' s b_at b w c e) = t.do_loop s (view_statement b) w (view_condition c.value) e
+  view_statement (statements.For' s h b_at b) = t.for_loop s (view_heading h.value) (view_statement b)
   view_statement (statements.Break s e) = t.break_loop s e
   view_statement (statements.Continue s e) = t.continue_loop s e
-  view_statement (statements.Return s v e) = t.return_value s (view_option view_expression v) e
+  view_statement (statements.Return s v e) = t.return_value s (view_optional v) e
 
 abbrev pub views_items : List item.Item → t.Items
 views_items [] = t.no_items

@@ -328,9 +328,9 @@ pub struct Condition {
 /// The first part of a `for` (6.8.5).
 #[derive(Drop)]
 pub enum First {
-    Declared(Declaration),
+    Declared(Box<Declaration>),
     /// The expression, where it is given, and `;`.
-    Evaluated(Option<Expression>, Spot),
+    Evaluated(Option<Box<Expression>>, Spot),
 }
 
 /// The parts of a `for` in its parentheses: `(`, the first part, the condition, `;`, the last part and `)`.
@@ -338,9 +338,9 @@ pub enum First {
 pub struct Heading {
     pub opening: Spot,
     pub first: First,
-    pub condition: Option<Expression>,
+    pub condition: Option<Box<Expression>>,
     pub semicolon: Spot,
-    pub last: Option<Expression>,
+    pub last: Option<Box<Expression>>,
     pub closing: Spot,
 }
 
@@ -358,7 +358,7 @@ pub struct Compound {
 #[derive(Drop)]
 #[cycle(statement)]
 pub enum Item {
-    Declaration(Declaration),
+    Declaration(Box<Declaration>),
     Statement(Statement),
 }
 
@@ -368,18 +368,18 @@ pub enum Item {
 pub enum Statement {
     Compound(Compound),
     /// The expression, where it is given, and `;`.
-    Simple(Option<Expression>, Spot),
-    If(Spot, Condition, Box<Statement>),
+    Simple(Option<Box<Expression>>, Spot),
+    If(Spot, Box<Condition>, Box<Statement>),
     /// `if`, the condition, the statement, `else` and the other statement.
-    IfElse(Spot, Condition, Box<Statement>, Spot, Box<Statement>),
-    While(Spot, Condition, Box<Statement>),
+    IfElse(Spot, Box<Condition>, Box<Statement>, Spot, Box<Statement>),
+    While(Spot, Box<Condition>, Box<Statement>),
     /// `do`, the statement, `while`, the condition and `;`.
-    Do(Spot, Box<Statement>, Spot, Condition, Spot),
-    For(Spot, Heading, Box<Statement>),
+    Do(Spot, Box<Statement>, Spot, Box<Condition>, Spot),
+    For(Spot, Box<Heading>, Box<Statement>),
     Break(Spot, Spot),
     Continue(Spot, Spot),
     /// `return`, the expression, where it is given, and `;`.
-    Return(Spot, Option<Expression>, Spot),
+    Return(Spot, Option<Box<Expression>>, Spot),
 }
 
 /// The definition of a function (6.9.1): its result, name, `(`, parameters, `)` and body.

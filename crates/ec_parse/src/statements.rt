@@ -6,7 +6,7 @@ ghost use Rattle.ec_grammar.specs.Nesting.{height_option, height_expression, hei
 ghost use Rattle.ec_grammar.specs.Nesting.{height_heading, height_compound, height_items, height_item};
 ghost use Rattle.ec_grammar.specs.Nesting.{height_statement};
 ghost use Rattle.ec_grammar.specs.Trees as t;
-ghost use Rattle.ec_grammar.specs.Views.{view_option, view_expression, view_condition, view_first, view_heading};
+ghost use Rattle.ec_grammar.specs.Views.{view_optional, view_condition, view_first, view_heading};
 ghost use Rattle.ec_grammar.specs.Views.{view_compound, view_item, view_statement};
 ghost use Rattle.ec_parse_laws.specs.Reading.{within, many, ends, expected, expression_by, condition_by};
 ghost use Rattle.ec_parse_laws.specs.Reading.{optional_by, first_by, heading_by, substatement, items_of, item_at};
@@ -64,8 +64,8 @@ fn optional(
     end: PunctKind,
     tokens: &[Token],
 ) -> Result<(Option<Box<Expression>>, Spot, u8, &[Token]), ReadError>
-    ensures { Reads (λ x. ((view_option (λ e. view_expression e.value) x.0, x.1), leaves_of source.count x.3.now))
-        (λ x. IsHeight 64 (height_option height_expression (view_option (λ e. view_expression e.value) x.0)) x.2) result
+    ensures { Reads (λ x. ((view_optional x.0, x.1), leaves_of source.count x.3.now))
+        (λ x. IsHeight 64 (height_option height_expression (view_optional x.0)) x.2) result
         (optional_by (expression_by (within 64 left) 64) end (leaves_of source.count tokens.now)) }
 {
     if let Some((end, rest)) = take(source, tokens, end) {
@@ -74,16 +74,6 @@ fn optional(
     let (value, height, rest) = expression(source, left, LIMIT, tokens)?;
     let (end, rest) = expect(source, rest, end)?;
     Ok((Some(value), end, height, rest))
-}
-
-/// The expression out of its box.
-fn unboxed(value: Option<Box<Expression>>) -> Option<Expression>
-    ensures { view_option view_expression result ≡ view_option (λ e. view_expression e.value) value }
-{
-    match value {
-        Some(value) => Some(Box::into_inner(value)),
-        None => None,
-    }
 }
 
 /// The first part of a `for` (6.8.5).
@@ -99,11 +89,11 @@ fn first(
 {
     if begins_specs(source, tokens) {
         let (declaration, height, rest) = declaration(source, left, tokens)?;
-        let tree = boxed(source, First::Declared(Box::into_inner(declaration)))?;
+        let tree = boxed(source, First::Declared(declaration))?;
         return Ok((tree, height, rest));
     }
     let (value, end, height, rest) = optional(source, left, PunctKind::Semicolon, tokens)?;
-    let tree = boxed(source, First::Evaluated(unboxed(value), end))?;
+    let tree = boxed(source, First::Evaluated(value, end))?;
     Ok((tree, height, rest))
 }
 
@@ -137,9 +127,9 @@ fn heading(
     let tree = Heading {
         opening,
         first: Box::into_inner(first),
-        condition: unboxed(condition),
+        condition,
         semicolon,
-        last: unboxed(last),
+        last,
         closing,
     };
     let tree = boxed(source, tree)?;
@@ -185,7 +175,7 @@ fn item(
 {
     if begins_specs(source, tokens) {
         let (declaration, height, rest) = declaration(source, left, tokens)?;
-        let tree = boxed(source, Item::Declaration(Box::into_inner(declaration)))?;
+        let tree = boxed(source, Item::Declaration(declaration))?;
         return Ok(Some((tree, height, rest)));
     }
     if take(source, tokens, PunctKind::RightBrace).is_some() {
@@ -318,12 +308,12 @@ fn selection(
     let (first, height, rest) = substatement(source, left, last, rest)?;
     let below = higher(test_height, height);
     let Some((other, rest)) = take_word(source, rest, WordKind::Else) else {
-        let tree = Statement::If(word, Box::into_inner(test), first);
+        let tree = Statement::If(word, test, first);
         return stated(source, tree, below + 1, rest);
     };
     let last = room_behind(room, below);
     let (second, height, rest) = substatement(source, left, last, rest)?;
-    let tree = Statement::IfElse(word, Box::into_inner(test), first, other, second);
+    let tree = Statement::IfElse(word, test, first, other, second);
     stated(source, tree, higher(below, height) + 1, rest)
 }
 
@@ -345,7 +335,7 @@ fn loop_while(
     let (test, below, rest) = condition(source, left, tokens)?;
     let last = room_behind(room, below);
     let (body, height, rest) = substatement(source, left, last, rest)?;
-    let tree = Statement::While(word, Box::into_inner(test), body);
+    let tree = Statement::While(word, test, body);
     stated(source, tree, higher(below, height) + 1, rest)
 }
 
@@ -367,7 +357,7 @@ fn loop_for(
     let (heading, below, rest) = heading(source, left, tokens)?;
     let last = room_behind(room, below);
     let (body, height, rest) = substatement(source, left, last, rest)?;
-    let tree = Statement::For(word, Box::into_inner(heading), body);
+    let tree = Statement::For(word, heading, body);
     stated(source, tree, higher(below, height) + 1, rest)
 }
 
@@ -403,7 +393,6 @@ fn do_end(
         (do_after (within 64 left) room word (view_statement body.value) (leaves_of source.count tokens.now)) }
 {
     let (again, test, semicolon, test_height, rest) = again(source, left, tokens)?;
-    let test = Box::into_inner(test);
     let tree = Statement::Do(word, body, again, test, semicolon);
     finished(source, room, higher(body_height, test_height), tree, rest)
 }
@@ -458,7 +447,7 @@ fn jumped(
                 PunctKind::Semicolon,
                 tokens,
             )?;
-            let tree = Statement::Return(word, unboxed(value), semicolon);
+            let tree = Statement::Return(word, value, semicolon);
             finished(source, room, below, tree, rest)
         }
     }
@@ -508,6 +497,6 @@ fn statement(
         return blocked(source, compound, height, rest);
     }
     let (value, semicolon, below, rest) = optional(source, left, PunctKind::Semicolon, tokens)?;
-    let tree = Statement::Simple(unboxed(value), semicolon);
+    let tree = Statement::Simple(value, semicolon);
     finished(source, room, below, tree, rest)
 }
