@@ -31,7 +31,7 @@ where_true false o i h q = cc
 -- the instruction whose bytes stand there is fetched there
 pub fetch_stands : FlashLaws → (e : Env) (i : Instr) (pc : ℕ) → 65536 ≤ e.base → StandsAt i e.flash pc → fetch e pc ≡ Some i
 fetch_stands laws e i pc free h =
-    let s : State = record { mem = record { flash = e.flash; «data» = [] }; pc = pc } in
+    let s : State = record { mem = record { flash = e.flash; «data» = [] }; pc = pc; core = e.core } in
     fetch_kept e pc i (where_true (is_whole s) (instruction_at s pc) i (laws.whole s i h) (laws.is s i pc h))
     (free_keeps e.base i free)
 

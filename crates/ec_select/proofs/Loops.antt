@@ -1,32 +1,34 @@
 -- The pieces of code that jump within themselves fit.
 use Rattle.std.proofs.Common.{◌≡◌, ℕ, zero, suc, ◌+◌, ◌-◌, ◌*◌, ◌<◌, ◌≤◌, Bool, true, false, [], ◌∷◌, ◌++◌, refl}
 use Rattle.std.proofs.Common.{arith}
-use Rattle.std.proofs.lemmas.Bool.{lt-ltb}
-use Rattle.ec_isa.specs.declared.instructions.Instr.TheVariants.{Eor, Mov, Ldi, Mul}
+use Rattle.std.specs.Prelude.{◌%◌, ◌==◌, nat_lt, if◌then◌else◌}
+use Rattle.std.proofs.lemmas.Bool.{lt-ltb, eqb-true}
+use Rattle.std.proofs.lemmas.Bool.Decides.{nat_tests}
+use Rattle.ec_isa.specs.declared.instructions.Instr.TheVariants.{Movw, Ldi, Mul}
 use Rattle.ec_isa.specs.Table.{in_table}
 use Rattle.ec_asm.specs.declared.items.AsmItem.TheVariants.{Plain}
 use Rattle.ec_asm.specs.declared.pieces.Location.{Location}
 use Rattle.ec_asm.specs.declared.pieces.Location.TheVariants.{InRegisters, InMemory}
 use Rattle.ec_asm.specs.declared.pieces.Operator.TheVariants.{Sum, Difference}
-use Rattle.ec_asm.specs.Pieces.{copy_code, operate_code, compare_code, halves, halve_byte}
+use Rattle.ec_asm.specs.Items.{chain}
+use Rattle.ec_asm.specs.Pieces.{copy_code, operate_code, halves, halve_byte}
 use Rattle.ec_asm.specs.Valid.{Sizes}
-use Rattle.ec_select_bytes.specs.Complements.{negation_code}
 use Rattle.ec_select_products.specs.Products.{factors_code, less_code, corrected_code, multiply_code, put_byte}
 use Rattle.ec_select_products.specs.Products.{puts_code}
 use Rattle.ec_select_products.specs.Products.{product_code}
-use Rattle.ec_select_quotients.specs.Quotients.{divisor_row, remainder_row, rotate_byte, rotate_code, rows_code}
-use Rattle.ec_select_quotients.specs.Quotients.{bring_code}
-use Rattle.ec_select_quotients.specs.Quotients.{mark_code, mark_words, take_code, take_words, bring_words, skip_code}
-use Rattle.ec_select_quotients.specs.Quotients.{count_code, divide_code}
-use Rattle.ec_select_quotients.specs.Signs.{negation_words, sign_test, sign_skip, negate_if_code, top_code, cross_code}
-use Rattle.ec_select_quotients.specs.Signs.{signs_code, clear_byte, clear_code, start_code, result_code, sign_code}
-use Rattle.ec_select_quotients.specs.Signs.{finish_code, divided_code, quotient_code}
+use Rattle.ec_select_quotients.specs.Quotients.{remainder_row, divisor_register, rotate_byte, rotate_code, test_byte}
+use Rattle.ec_select_quotients.specs.Quotients.{test_code, rows_code, bring_code, bring_words, less_byte, less_code as lessen_code, note_code}
+use Rattle.ec_select_quotients.specs.Quotients.{note_words, take_code, take_words, skip_code, back_words, count_code, divide_code}
+use Rattle.ec_select_quotients.specs.Signs.{fetch_byte, fetch_pairs, fetch_code, spread_code, top_code, divisor_top_code}
+use Rattle.ec_select_quotients.specs.Signs.{turn_byte, turn_code as quotient_turn_code, turn_divisor_byte, turn_divisor_code}
+use Rattle.ec_select_quotients.specs.Signs.{cross_code, number_sign_code, divisor_sign_code, signs_code, clear_byte, clear_code}
+use Rattle.ec_select_quotients.specs.Signs.{put_pairs, put_code, start_code, result_code, sign_code, finish_code, divided_code, quotient_code}
 use Rattle.ec_select_shifts.specs.declared.shifts.Direction.{Direction}
 use Rattle.ec_select_shifts.specs.declared.shifts.Direction.TheVariants.{Left, Right}
 use Rattle.ec_select_shifts.specs.Shifts.{turn_code, turn_words, jump_code, end_code, shift_code}
 use Rattle.ec_select.proofs.Fitting.{fits, Fit, joined, chained, ByteFits, BytesFit, registers_fit}
 use Rattle.ec_select.proofs.Fitting.{reg}
-use Rattle.ec_select.proofs.Pieces.{copy_fits, operate_fits, compare_fits, negation_fits}
+use Rattle.ec_select.proofs.Pieces.{copy_fits, operate_fits, compares_fits, instruction_fits}
 
 module _ (sizes : Sizes) where
   -- ---- shifts
@@ -90,107 +92,184 @@ module _ (sizes : Sizes) where
 
   -- ---- quotients
 
-  rotate_fits : (m : ℕ) → m ≤ 5 → Fit sizes (rotate_code m)
-  rotate_fits m few =
-      chained (fits sizes) rotate_byte m
-      (λ i l. rw (reg (26 + i) (omega arith)) refl)
+  -- the divisor's registers
+  divisor_reg : (i : ℕ) → i < 4 → divisor_register i < 32
+  divisor_reg zero l = omega arith
+  divisor_reg (suc zero) l = omega arith
+  divisor_reg (suc (suc zero)) l = omega arith
+  divisor_reg (suc (suc (suc zero))) l = omega arith
+  divisor_reg (suc (suc (suc (suc i)))) l = absurd (omega arith)
 
-  clear_fits : (m : ℕ) → m ≤ 5 → Fit sizes (clear_code m)
-  clear_fits m few =
-      chained (fits sizes) clear_byte m
-      (λ i l. rw (reg (26 + i) (omega arith)) refl)
+  rotate_fits : (n : ℕ) → n ≤ 4 → Fit sizes (rotate_code n)
+  rotate_fits n few = chained (fits sizes) rotate_byte n (λ i l. rw (reg (8 + i) (omega arith)) refl)
+
+  clear_fits : (n : ℕ) → n ≤ 4 → Fit sizes (clear_code n)
+  clear_fits n few = chained (fits sizes) clear_byte n (λ i l. rw (reg (8 + i) (omega arith)) refl)
+
+  tests_fit : (n : ℕ) → n ≤ 4 → Fit sizes (test_code n)
+  tests_fit n few =
+      chained (fits sizes) test_byte n
+      (λ i l. rw (compares_fits sizes i (8 + i) (divisor_register i) (omega arith) (divisor_reg i (omega arith))) refl)
+
+  taking_fits : (n : ℕ) → n ≤ 4 → Fit sizes (lessen_code n)
+  taking_fits n few =
+      chained (fits sizes) less_byte n
+      (λ i l. rw (instruction_fits sizes Difference i (8 + i) (divisor_register i) (omega arith) (divisor_reg i (omega arith))) refl)
 
   bring_fits : (p : Location) (n : ℕ) → n ≤ 4 → BytesFit sizes p n → Fit sizes (bring_code p n)
   bring_fits p n few x =
-      let compared = compare_fits sizes divisor_row remainder_row (suc n) (registers_fit sizes 8 (suc n) (omega arith))
-      (registers_fit sizes 26 (suc n) (omega arith)) in
-      joined (fits sizes) (operate_code Sum p p n) (rows_code (suc n)) (operate_fits sizes Sum p p n x x)
-      (joined (fits sizes) (rotate_code (suc n)) (compare_code divisor_row remainder_row (suc n))
-      (rotate_fits (suc n) (omega arith)) compared)
+      joined (fits sizes) (operate_code Sum p p n) (rows_code n) (operate_fits sizes Sum p p n x x)
+      (joined (fits sizes) (rotate_code n) (test_code n) (rotate_fits n few) (tests_fit n few))
 
-  mark_fits : (p : Location) → ByteFits sizes p 0 → Fit sizes (mark_code p)
-  mark_fits (InRegisters r) x = rw (reg (r + 0) x) refl
-  mark_fits (InMemory o k) x = rw x refl
+  note_fits : (r : Bool) (p : Location) → ByteFits sizes p 0 → Fit sizes (note_code r p)
+  note_fits true p x = refl
+  note_fits false (InRegisters r) x = rw (reg (r + 0) x) refl
+  note_fits false (InMemory o k) x = rw x refl
 
-  few_marks : (p : Location) → mark_words p ≤ 5
-  few_marks (InRegisters r) = omega arith
-  few_marks (InMemory o k) = omega arith
+  few_notes : (r : Bool) (p : Location) → note_words r p ≤ 5
+  few_notes true p = omega arith
+  few_notes false (InRegisters r) = omega arith
+  few_notes false (InMemory o k) = omega arith
 
-  few_brought : (p : Location) (n : ℕ) → n ≤ 4 → bring_words p n ≤ 38
+  few_brought : (p : Location) (n : ℕ) → n ≤ 4 → bring_words p n ≤ 36
   few_brought (InRegisters r) n few = omega arith
   few_brought (InMemory o k) n few = omega arith
 
-  pub divide_fits : (p : Location) (n : ℕ) → 1 ≤ n → n ≤ 4 → BytesFit sizes p n → Fit sizes (divide_code p n)
-  divide_fits p n some few x =
-      let m : mark_words p ≤ 5 = few_marks p in
-      let b : bring_words p n ≤ 38 = few_brought p n few in
-      let skip : Fit sizes (skip_code p n) = rw (lt-ltb (take_words p n) 64 (omega arith)) refl in
-      let count : Fit sizes (count_code p n) = rw (lt-ltb (bring_words p n + 1 + take_words p n + 1) 64 (omega arith)) refl in
-      let taken = operate_fits sizes Difference divisor_row remainder_row (suc n)
-      (registers_fit sizes 8 (suc n) (omega arith)) (registers_fit sizes 26 (suc n) (omega arith)) in
-      joined (fits sizes) (bring_code p n) (skip_code p n ++ (take_code p n ++ count_code p n)) (bring_fits p n few x)
-      (joined (fits sizes) (skip_code p n) (take_code p n ++ count_code p n) skip
-      (joined (fits sizes) (take_code p n) (count_code p n)
-      (joined (fits sizes) (operate_code Difference divisor_row remainder_row (suc n)) (mark_code p) taken (mark_fits p (x 0 some))) count))
+  pub divide_fits : (r : Bool) (p : Location) (n : ℕ) → 1 ≤ n → n ≤ 4 → BytesFit sizes p n → Fit sizes (divide_code r p n)
+  divide_fits r p n some few x =
+      let m : note_words r p ≤ 5 = few_notes r p in
+      let b : bring_words p n ≤ 36 = few_brought p n few in
+      let skip : Fit sizes (skip_code r p n) = rw (lt-ltb (take_words r p n) 64 (omega arith)) refl in
+      let count : Fit sizes (count_code r p n) = rw (lt-ltb (back_words r p n) 64 (omega arith)) refl in
+      joined (fits sizes) (bring_code p n) (skip_code r p n ++ (take_code r p n ++ count_code r p n)) (bring_fits p n few x)
+      (joined (fits sizes) (skip_code r p n) (take_code r p n ++ count_code r p n) skip
+      (joined (fits sizes) (take_code r p n) (count_code r p n)
+      (joined (fits sizes) (lessen_code n) (note_code r p) (taking_fits n few) (note_fits r p (x 0 some))) count))
 
-  few_negations : (p : Location) (n : ℕ) → n ≤ 4 → negation_words p n ≤ 41
-  few_negations (InRegisters r) n few = omega arith
-  few_negations (InMemory o k) n few = omega arith
+  fetch_byte_fits : (p : Location) (i : ℕ) → i < 4 → ByteFits sizes p i → Fit sizes (fetch_byte p i)
+  fetch_byte_fits (InRegisters r) i l x = rw (reg (divisor_register i) (divisor_reg i l), reg (r + i) x) refl
+  fetch_byte_fits (InMemory o k) i l x = rw (reg (divisor_register i) (divisor_reg i l), x) refl
 
-  negate_if_fits : (r : ℕ) (p : Location) (n : ℕ) → r < 32 → n ≤ 4 → BytesFit sizes p n → Fit sizes (negate_if_code r p n)
-  negate_if_fits r p n l few x =
-      let w : negation_words p n ≤ 41 = few_negations p n few in
-      let test : Fit sizes (sign_test r) = rw (reg r l) refl in
-      let skip : Fit sizes (sign_skip p n) = rw (lt-ltb (negation_words p n) 64 (omega arith)) refl in
-      joined (fits sizes) (sign_test r) (sign_skip p n ++ negation_code p n) test
-      (joined (fits sizes) (sign_skip p n) (negation_code p n) skip (negation_fits sizes p n x))
+  fetch_bytes_fit : (p : Location) (n : ℕ) → n ≤ 4 → BytesFit sizes p n → Fit sizes (chain (fetch_byte p) n)
+  fetch_bytes_fit p n few x = chained (fits sizes) (fetch_byte p) n (λ i l. fetch_byte_fits p i (omega arith) (x i l))
+
+  first : (r : ℕ) → r + 0 < 32 → r < 32
+  first r l = omega (arith, l)
+
+  even_next : (r : ℕ) → (r % 2 == 0) ≡ true → ((r + 2) % 2 == 0) ≡ true
+  even_next r even = let z : (r + 2) % 2 ≡ 0 = omega (arith, eqb-true (r % 2) 0 even) in rw z refl
+
+  fetch_pairs_fit : (r top : ℕ) → top < 4 → (r % 2 == 0) ≡ true → BytesFit sizes (InRegisters r) (suc top)
+      → Fit sizes (fetch_pairs r top)
+  fetch_pairs_fit r top l even x = by_size (nat_lt top 2) refl
+    where
+      low : r < 32
+      low = first r (x 0 (omega arith))
+
+      high : nat_lt top 2 ≡ false → r + 2 < 32
+      high q = x 2 (grind (arith, nat_tests))
+
+      next : ((r + 2) % 2 == 0) ≡ true
+      next = even_next r even
+
+      by_size : (few : Bool) → nat_lt top 2 ≡ few
+          → Fit sizes (if few then Plain (Movw 12 r) ∷ [] else Plain (Movw 12 r) ∷ Plain (Movw 26 (r + 2)) ∷ [])
+      by_size true q = rw (reg r low, even) refl
+      by_size false q = rw (reg r low, even, reg (r + 2) (high q), next) refl
+
+  fetch_fits : (p : Location) (top : ℕ) → top < 4 → BytesFit sizes p (suc top) → Fit sizes (fetch_code p top)
+  fetch_fits (InRegisters r) top l x = by_evenness (r % 2 == 0) refl
+    where
+      by_evenness : (even : Bool) → (r % 2 == 0) ≡ even
+          → Fit sizes (if even then fetch_pairs r top else chain (fetch_byte (InRegisters r)) (suc top))
+      by_evenness true q = fetch_pairs_fit r top l q x
+      by_evenness false q = fetch_bytes_fit (InRegisters r) (suc top) (omega arith) x
+  fetch_fits (InMemory o k) top l x = fetch_bytes_fit (InMemory o k) (suc top) (omega arith) x
 
   top_fits : (p : Location) (top : ℕ) → ByteFits sizes p top → Fit sizes (top_code p top)
   top_fits (InRegisters r) top x = rw (reg (r + top) x) refl
   top_fits (InMemory o k) top x = rw x refl
 
-  cross_fits : (r : Bool) (top : ℕ) → top < 4 → Fit sizes (cross_code r top)
-  cross_fits true top l = refl
-  cross_fits false top l = rw (reg (8 + top) (omega arith)) refl
+  turn_byte_fits : (p : Location) (i : ℕ) → ByteFits sizes p i → Fit sizes (turn_byte p i)
+  turn_byte_fits (InRegisters r) i x =
+      rw (reg (r + i) x, instruction_fits sizes Difference i (r + i) 31 x (omega arith)) refl
+  turn_byte_fits (InMemory o k) i x = rw (x, instruction_fits sizes Difference i 0 31 (omega arith) (omega arith)) refl
+
+  turn_number_fits : (p : Location) (n : ℕ) → BytesFit sizes p n → Fit sizes (quotient_turn_code p n)
+  turn_number_fits p n x = chained (fits sizes) (turn_byte p) n (λ i l. turn_byte_fits p i (x i l))
+
+  turn_divisor_fits : (n : ℕ) → n ≤ 4 → Fit sizes (turn_divisor_code n)
+  turn_divisor_fits n few =
+      chained (fits sizes) turn_divisor_byte n
+      (λ i l. rw (
+        reg (divisor_register i) (divisor_reg i (omega arith)),
+        instruction_fits sizes Difference i (divisor_register i) 1 (divisor_reg i (omega arith)) (omega arith),
+      ) refl)
+
+  cross_fits : (r : Bool) → Fit sizes (cross_code r)
+  cross_fits true = refl
+  cross_fits false = refl
+
+  number_sign_fits : (p : Location) (top : ℕ) → BytesFit sizes p (suc top) → Fit sizes (number_sign_code p top)
+  number_sign_fits p top x =
+      joined (fits sizes) (top_code p top) (spread_code 31 ++ quotient_turn_code p (suc top)) (top_fits p top (x top (omega arith)))
+      (joined (fits sizes) (spread_code 31) (quotient_turn_code p (suc top)) refl (turn_number_fits p (suc top) x))
+
+  divisor_sign_fits : (r : Bool) (top : ℕ) → top < 4 → Fit sizes (divisor_sign_code r top)
+  divisor_sign_fits r top l =
+      let first : Fit sizes (divisor_top_code top) = rw (reg (divisor_register top) (divisor_reg top l)) refl in
+      joined (fits sizes) (divisor_top_code top) (spread_code 1 ++ (turn_divisor_code (suc top) ++ cross_code r)) first
+      (joined (fits sizes) (spread_code 1) (turn_divisor_code (suc top) ++ cross_code r) refl
+      (joined (fits sizes) (turn_divisor_code (suc top)) (cross_code r) (turn_divisor_fits (suc top) (omega arith)) (cross_fits r)))
 
   signs_fit : (r signed : Bool) (p : Location) (top : ℕ) → top < 4 → BytesFit sizes p (suc top)
       → Fit sizes (signs_code r signed p top)
   signs_fit r false p top l x = refl
   signs_fit r true p top l x =
-      let first = negate_if_fits 31 p (suc top) (omega arith) (omega arith) x in
-      let second = negate_if_fits (8 + top) divisor_row (suc top) (omega arith) (omega arith)
-      (registers_fit sizes 8 (suc top) (omega arith)) in
-      joined (fits sizes) (top_code p top) (negate_if_code 31 p (suc top)
-      ++ (cross_code r top ++ negate_if_code (8 + top) divisor_row (suc top))) (top_fits p top (x top (omega arith)))
-      (joined (fits sizes) (negate_if_code 31 p (suc top)) (cross_code r top ++ negate_if_code (8 + top) divisor_row (suc top)) first
-      (joined (fits sizes) (cross_code r top) (negate_if_code (8 + top) divisor_row (suc top)) (cross_fits r top l) second))
+      joined (fits sizes) (number_sign_code p top) (divisor_sign_code r top) (number_sign_fits p top x) (divisor_sign_fits r top l)
 
   start_fits : (n : ℕ) → n ≤ 4 → Fit sizes (start_code n)
   start_fits n few =
-      let row : Fit sizes (Plain (Ldi 30 (8 * n)) ∷ Plain (Mov 13 30) ∷ Plain (Eor (8 + n) (8 + n)) ∷ []) =
-      rw (lt-ltb (8 * n) 256 (omega arith), reg (8 + n) (omega arith)) refl in
-      joined (fits sizes) (Plain (Ldi 30 (8 * n)) ∷ Plain (Mov 13 30) ∷ Plain (Eor (8 + n) (8 + n)) ∷ []) (clear_code (suc n))
-      row (clear_fits (suc n) (omega arith))
+      let row : Fit sizes (Plain (Ldi 30 (8 * n)) ∷ []) = rw (lt-ltb (8 * n) 256 (omega arith)) refl in
+      joined (fits sizes) (Plain (Ldi 30 (8 * n)) ∷ []) (clear_code n) row (clear_fits n few)
+
+  put_pairs_fit : (r n : ℕ) → (r % 2 == 0) ≡ true → BytesFit sizes (InRegisters r) n → Fit sizes (put_pairs r n)
+  put_pairs_fit r zero even x = refl
+  put_pairs_fit r (suc zero) even x = rw (reg r (first r (x 0 (omega arith)))) refl
+  put_pairs_fit r (suc (suc zero)) even x = rw (reg r (first r (x 0 (omega arith))), even) refl
+  put_pairs_fit r (suc (suc (suc zero))) even x =
+      rw (reg r (first r (x 0 (omega arith))), even, reg (r + 2) (x 2 (omega arith))) refl
+  put_pairs_fit r (suc (suc (suc (suc n)))) even x =
+      rw (reg r (first r (x 0 (omega arith))), even, reg (r + 2) (x 2 (omega arith)), even_next r even) refl
+
+  put_fits : (p : Location) (n : ℕ) → n ≤ 4 → BytesFit sizes p n → Fit sizes (put_code p n)
+  put_fits (InRegisters r) n few x = by_evenness (r % 2 == 0) refl
+    where
+      by_evenness : (even : Bool) → (r % 2 == 0) ≡ even
+          → Fit sizes (if even then put_pairs r n else copy_code remainder_row (InRegisters r) n)
+      by_evenness true q = put_pairs_fit r n q x
+      by_evenness false q = copy_fits sizes remainder_row (InRegisters r) n (registers_fit sizes 8 n (omega arith)) x
+  put_fits (InMemory o k) n few x =
+      copy_fits sizes remainder_row (InMemory o k) n (registers_fit sizes 8 n (omega arith)) x
 
   result_fits : (r : Bool) (p : Location) (n : ℕ) → n ≤ 4 → BytesFit sizes p n → Fit sizes (result_code r p n)
-  result_fits true p n few x = copy_fits sizes remainder_row p n (registers_fit sizes 26 n (omega arith)) x
+  result_fits true p n few x = put_fits p n few x
   result_fits false p n few x = refl
 
-  sign_fits : (signed : Bool) (p : Location) (n : ℕ) → n ≤ 4 → BytesFit sizes p n → Fit sizes (sign_code signed p n)
-  sign_fits true p n few x = negate_if_fits 31 p n (omega arith) few x
-  sign_fits false p n few x = refl
+  sign_fits : (signed : Bool) (p : Location) (n : ℕ) → BytesFit sizes p n → Fit sizes (sign_code signed p n)
+  sign_fits true p n x = turn_number_fits p n x
+  sign_fits false p n x = refl
 
   finish_fits : (r signed : Bool) (p : Location) (n : ℕ) → 1 ≤ n → n ≤ 4 → BytesFit sizes p n
       → Fit sizes (finish_code r signed p n)
   finish_fits r signed p n some few x =
-      joined (fits sizes) (divide_code p n) (result_code r p n ++ sign_code signed p n) (divide_fits p n some few x)
-      (joined (fits sizes) (result_code r p n) (sign_code signed p n) (result_fits r p n few x) (sign_fits signed p n few x))
+      joined (fits sizes) (divide_code r p n) (result_code r p n ++ sign_code signed p n) (divide_fits r p n some few x)
+      (joined (fits sizes) (result_code r p n) (sign_code signed p n) (result_fits r p n few x) (sign_fits signed p n x))
 
   pub quotient_fits : (r signed : Bool) (p q : Location) (top : ℕ) → top < 4 → BytesFit sizes p (suc top)
       → BytesFit sizes q (suc top) → Fit sizes (quotient_code r signed p q top)
   quotient_fits r signed p q top l x y =
-      let row = copy_fits sizes q divisor_row (suc top) y (registers_fit sizes 8 (suc top) (omega arith)) in
-      joined (fits sizes) (copy_code q divisor_row (suc top)) (divided_code r signed p top) row
+      joined (fits sizes) (fetch_code q top) (divided_code r signed p top) (fetch_fits q top l y)
       (joined (fits sizes) (signs_code r signed p top) (start_code (suc top) ++ finish_code r signed p (suc top))
       (signs_fit r signed p top l x)
       (joined (fits sizes) (start_code (suc top)) (finish_code r signed p (suc top)) (start_fits (suc top) (omega arith))

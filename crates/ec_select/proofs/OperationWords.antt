@@ -289,10 +289,10 @@ module _ (laws : WordLaws) where
       let top = a.bytes - 1 in
       let whole : suc top ≤ a.bytes = omega arith in
       let y = move_words p r (suc top) in
-      let z = quotient_words laws.complements rem left r q top in
-      let w : code_words (long_code rem left p q r top) ≤ 63 * suc top + 40 =
+      let z = quotient_words rem left r q top in
+      let w : code_words (long_code rem left p q r top) ≤ 35 * suc top + 17 =
       omega (arith, joined_words (move_code p r (suc top)) (quotient_code rem left r q top), y, z) in
-      let v = unless_none n (63 * suc top + 40) (long_code rem left p q r top) w in
+      let v = unless_none n (35 * suc top + 17) (long_code rem left p q r top) w in
       within (code_words (divided_code rem left p q r a.bytes n)) (widest (ty ∷ aty ∷ bty ∷ [])) (omega (arith, x, whole, v))
       (some_within ty aty bty)
 

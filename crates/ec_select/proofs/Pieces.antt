@@ -80,7 +80,7 @@ module _ (sizes : Sizes) where
   abbrev IsOfRegisters : (ℕ → ℕ → Instr) → Type 0
   IsOfRegisters op = (d r : ℕ) → d < 32 → r < 32 → in_table (op d r) ≡ true
 
-  instruction_fits : (op : Operator) (i : ℕ) → IsOfRegisters (instruction op i)
+  pub instruction_fits : (op : Operator) (i : ℕ) → IsOfRegisters (instruction op i)
   instruction_fits Sum zero d r x y = two_fit d r x y
   instruction_fits Sum (suc i) d r x y = two_fit d r x y
   instruction_fits Difference zero d r x y = two_fit d r x y

@@ -1309,7 +1309,8 @@ module _ (p : PlainProgram) (functions : List PlainIrFunction) (e : Env) (slots 
       (λ j l. g.numbers (base t + j) (omega arith))) ∙ ap (λ j. j % 256 ^ wanted (needs at rest) t) number in
       let m1 = after_operator t (quotient_of r s top x z) c m in
       let frame : Wide v g.last (base t) t.bytes =
-      λ i d u low high o. g.same i d u low high (narrower (base t) t.bytes w i (omega (arith, qt)) o)
+      λ i d u low high o. g.same i d u low (λ l. let x = high l in omega arith) (λ l. let x = high (omega arith) in omega arith)
+      (narrower (base t) t.bytes w i (omega (arith, qt)) o)
       ∙ widened v v1 (base t) t.bytes frame1 i d u low high o in
       let matches =
       written_wide p e slots home base place y t (bits (quotient_of r s top x z)) (needs at rest) need0 m

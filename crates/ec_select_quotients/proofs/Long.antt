@@ -1,6 +1,7 @@
 -- Long division by numbers.
-use Rattle.std.proofs.Common.{◌≡◌, ℕ, zero, suc, ◌+◌, ◌-◌, ◌*◌, ◌/◌, ◌%◌, ◌^◌, ◌<◌, ◌≤◌, refl, sym, ap, ◌∙◌, arith, pow-add}
-use Rattle.std.proofs.lemmas.Nat.{mod-mul-add, div-mul-add}
+use Rattle.std.proofs.Common.{◌≡◌, ℕ, zero, suc, ◌+◌, ◌*◌, ◌/◌, ◌%◌, ◌^◌, ◌<◌, ◌≤◌, ⊎_elim, refl, sym, ap, ◌∙◌, arith, pow-add}
+use Rattle.std.proofs.lemmas.Bool.{cases_lt}
+use Rattle.std.proofs.lemmas.Nat.{mod-mul-add, div-mul-add, mul-le}
 use native.Mathlib.Nat.{pow-suc}
 
 -- After i bits of x, which is below p, of the division by d: the remainder, and the other bits of x with those of the
@@ -78,3 +79,54 @@ powers zero = refl
 powers (suc b) =
     let e : 8 * suc b ≡ 8 * b + 8 = omega arith in
     ap (λ k. 2 ^ k) e ∙ pow-add 2 (8 * b) 8 ∙ ap (λ t. t * 2 ^ 8) (powers b) ∙ sym (pow-suc 256 b)
+
+-- ---- the remainder is at most what the bits were that are brought
+
+pub rest_is_small : (x d p rest number i : ℕ) → 1 ≤ d → x < p → Long x d p rest number i → rest < 2 ^ i
+rest_is_small x d p rest number i some less h =
+    let q = h.quotient in
+    let w = h.whole in
+    let some_power : 1 ≤ d * p = mul-le 1 1 d p some (omega arith) in
+    let kept : q * 1 ≤ q * (d * p) = mul-le q 1 q (d * p) (omega arith) some_power in
+    let high : rest * p ≤ x * 2 ^ i = omega (arith, w, kept) in
+    ⊎_elim (λ (l : rest < 2 ^ i). l)
+    (λ (l : 2 ^ i ≤ rest).
+    let t : 2 ^ i * p ≤ rest * p = mul-le (2 ^ i) p rest p l (omega arith) in
+    let power : 0 < 2 ^ i = power_pos i in
+    let u : (x + 1) * 2 ^ i ≤ p * 2 ^ i = mul-le (x + 1) (2 ^ i) p (2 ^ i) (omega arith) (omega arith) in
+    absurd (omega (arith, high, t, u, power)))
+    (cases_lt rest (2 ^ i))
+  where
+    power_pos : (i : ℕ) → 0 < 2 ^ i
+    power_pos zero = omega arith
+    power_pos (suc i) = let h = power_pos i in rw pow-suc (omega arith)
+
+-- the remainder alone, where no bit of the quotient is noted in the number
+pub remainder_is : (x d p rest number low : ℕ) (i : ℕ) → 2 ^ i ≡ p → low < p → (h : Long x d p rest number i)
+    → low + h.quotient ≡ number → rest ≡ x % d
+remainder_is x d p rest number low i e l h k =
+    let q = h.quotient in
+    let w : rest * p + number + q * (d * p) ≡ x * 2 ^ i + q = h.whole in
+    let w1 : (rest + q * d) * p + low ≡ x * p + 0 = omega (arith, w, k, ap (λ z. x * z) e) in
+    let high : rest + q * d ≡ x =
+    sym (div-mul-add (rest + q * d) p low l) ∙ ap (λ z. z / p) w1 ∙ div-mul-add x p 0 (omega arith) in
+    let x_is : x ≡ q * d + rest = omega (arith, high) in
+    sym (ap (λ z. z % d) x_is ∙ mod-mul-add q d rest h.less)
+
+-- ---- the same, with the bits of the quotient that they leave
+
+pub begins : (x d p rest : ℕ) → 1 ≤ d → rest ≡ 0 → (h : Long x d p rest x 0) × (h.quotient ≡ 0)
+unfolding begun
+begins x d p rest some q = (begun x d p rest some q, refl)
+
+pub goes_without : (x d p rest number i b rest2 number2 : ℕ) → (h : Long x d p rest number i) → number2 + b * p ≡ number + number
+    → rest2 ≡ 2 * rest + b → rest2 < d → (k : Long x d p rest2 number2 (suc i)) × (k.quotient ≡ 2 * h.quotient)
+unfolding not_taken
+goes_without x d p rest number i b rest2 number2 h t r l = (not_taken x d p rest number i b rest2 number2 h t r l, refl)
+
+pub goes_with : (x d p rest number i b rest2 number2 rest3 number3 : ℕ) → (h : Long x d p rest number i)
+    → number2 + b * p ≡ number + number → rest2 ≡ 2 * rest + b → b ≤ 1 → rest3 + d ≡ rest2 → number3 ≡ number2 + 1
+    → (k : Long x d p rest3 number3 (suc i)) × (k.quotient ≡ 2 * h.quotient + 1)
+unfolding taken
+goes_with x d p rest number i b rest2 number2 rest3 number3 h t r bit r3 n3 =
+    (taken x d p rest number i b rest2 number2 rest3 number3 h t r bit r3 n3, refl)

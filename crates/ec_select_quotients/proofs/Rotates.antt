@@ -1,5 +1,5 @@
 -- The remainder doubled, with a bit from below.
-use Rattle.std.proofs.Common.{◌≡◌, ◌≢◌, ℕ, zero, suc, ◌+◌, ◌*◌, ◌/◌, ◌%◌, ◌^◌, ◌<◌, ◌≤◌, ⊎_elim, true, refl, sym, ap, ◌∙◌, subst, arith}
+use Rattle.std.proofs.Common.{◌≡◌, ◌≢◌, ℕ, suc, ◌+◌, ◌*◌, ◌/◌, ◌%◌, ◌^◌, ◌<◌, ◌≤◌, ⊎_elim, true, refl, sym, ap, ◌∙◌, subst, arith}
 use Rattle.std.proofs.lemmas.Bool.{cases_eq}
 use Rattle.std.proofs.lemmas.Nat.{mod_below, div-add-mod'}
 use native.Mathlib.Nat.{pow-suc}
@@ -15,10 +15,10 @@ use Rattle.ec_select_quotients.specs.Quotients.{rotate_byte, rotate_code}
 
 -- the first i bytes are doubled
 pub record RotatesTo (v0 : View) (c i : ℕ) (v : View) : Type 0 where
-  pub sum : value v.at 26 i + v.flags.c * 256 ^ i ≡ 2 * value v0.at 26 i + c
+  pub sum : value v.at 8 i + v.flags.c * 256 ^ i ≡ 2 * value v0.at 8 i + c
   pub bit : v.flags.c ≤ 1
   pub numbers : HoldsNumbers v
-  pub same : (k : ℕ) → Outside 26 i k → v.at k ≡ v0.at k
+  pub same : (k : ℕ) → Outside 8 i k → v.at k ≡ v0.at k
   pub inputs : v.inputs ≡ v0.inputs
   pub safe : v.safe ≡ v0.safe
   pub seen : v.seen ≡ v0.seen
@@ -34,22 +34,22 @@ step : (e : Env) (c : ℕ) (v0 : View) → HoldsNumbers v0 → (i : ℕ) → (v 
     → RotatesTo v0 c (suc i) (block e (rotate_byte i) v)
 step e c v0 h0 i v h =
     let w = block e (rotate_byte i) v in
-    let x = v0.at (26 + i) in
+    let x = v0.at (8 + i) in
     let d = v.flags.c in
     let bit = h.bit in
-    let ex : v.at (26 + i) ≡ x = h.same (26 + i) (λ l. omega arith) in
-    let small : x < 256 = h0 (26 + i) (omega arith) in
-    let other : (k : ℕ) → k ≢ 26 + i → w.at k ≡ v.at k = λ k n. put_other v.at (26 + i) _ k n in
-    let low : value w.at 26 i ≡ value v.at 26 i = value-same w.at v.at 26 i (λ j m. other (26 + j) (omega arith)) in
-    let here : w.at (26 + i) ≡ (x + x + d) % 256 = put_here v.at (26 + i) _ (26 + i) refl ∙ ap (λ t. (t + t + d) % 256) ex in
-    let below : w.at (26 + i) < 256 = subst (λ z. z < 256) (sym here) (mod_below (x + x + d) 256 (omega arith)) in
+    let ex : v.at (8 + i) ≡ x = h.same (8 + i) (λ l. omega arith) in
+    let small : x < 256 = h0 (8 + i) (omega arith) in
+    let other : (k : ℕ) → k ≢ 8 + i → w.at k ≡ v.at k = λ k n. put_other v.at (8 + i) _ k n in
+    let low : value w.at 8 i ≡ value v.at 8 i = value-same w.at v.at 8 i (λ j m. other (8 + j) (omega arith)) in
+    let here : w.at (8 + i) ≡ (x + x + d) % 256 = put_here v.at (8 + i) _ (8 + i) refl ∙ ap (λ t. (t + t + d) % 256) ex in
+    let below : w.at (8 + i) < 256 = subst (λ z. z < 256) (sym here) (mod_below (x + x + d) 256 (omega arith)) in
     let carry : w.flags.c ≡ (x + x + d) / 256 = ap (λ t. (t + t + d) / 256) ex in
     record {
-      sum = rw (low, here, carry, pow-suc 256 i) (doubled (value v.at 26 i) (value v0.at 26 i) x (256 ^ i) c d h.sum);
+      sum = rw (low, here, carry, pow-suc 256 i) (doubled (value v.at 8 i) (value v0.at 8 i) x (256 ^ i) c d h.sum);
       bit = rw carry (omega arith);
       numbers = λ k u.
-          ⊎_elim (λ (q : k ≡ 26 + i). subst (λ z. w.at z < 256) (sym q) below) (λ q. rw (other k q) (h.numbers k u)) (cases_eq k (26 + i));
-      same = λ k m. other k (not_here k 26 i m) ∙ h.same k (fewer k 26 i m);
+          ⊎_elim (λ (q : k ≡ 8 + i). subst (λ z. w.at z < 256) (sym q) below) (λ q. rw (other k q) (h.numbers k u)) (cases_eq k (8 + i));
+      same = λ k m. other k (not_here k 8 i m) ∙ h.same k (fewer k 8 i m);
       inputs = h.inputs;
       safe = h.safe;
       seen = h.seen;

@@ -1,34 +1,34 @@
 -- The stages of a division with signs.
-use Rattle.std.proofs.Common.{◌≡◌, ◌≢◌, ℕ, zero, suc, ◌+◌, ◌-◌, ◌*◌, ◌/◌, ◌%◌, ◌^◌, ◌<◌, ◌≤◌, ⊎_elim, Bool, true, false, [], ◌∷◌, refl, sym}
+use Rattle.std.proofs.Common.{◌≡◌, ◌≢◌, ℕ, zero, suc, ◌+◌, ◌-◌, ◌*◌, ◌/◌, ◌%◌, ◌^◌, ◌<◌, ◌≤◌, ⊎_elim, Bool, true, false, ◌++◌, refl, sym}
 use Rattle.std.proofs.Common.{ap, ◌∙◌, subst, arith, bit_xor}
 use Rattle.std.specs.Int.Bits.{xor_self}
 use Rattle.std.proofs.lemmas.Bool.{cases_lt, cases_eq}
-use Rattle.std.proofs.lemmas.Nat.{div-mul-add, xor_lt, mod_below}
-use Rattle.ec_isa.specs.declared.instructions.Instr.TheVariants.{Eor, Ldi, Mov}
-use Rattle.ec_asm.specs.declared.items.AsmItem.TheVariants.{Plain}
+use Rattle.std.proofs.lemmas.Nat.{div-mul-add, xor_shr, div-add-mod', mul-le}
+use native.Mathlib.Nat.{pow-suc}
 use Rattle.ec_asm.specs.declared.pieces.Location.{Location}
 use Rattle.ec_asm.specs.declared.pieces.Location.TheVariants.{InRegisters, InMemory}
 use Rattle.ec_asm.specs.View.{View}
-use Rattle.ec_asm.specs.Change.{Env, Own, set, change}
+use Rattle.ec_asm.specs.Change.{Env, Own, set}
 use Rattle.ec_asm.specs.Items.{HasAt, block, all_straight, code_steps}
 use Rattle.ec_asm.specs.Pieces.{address, KindIs, StandsFrom, Outside, value}
 use Rattle.ec_asm.specs.PieceLaws.{HoldsNumbers}
 use Rattle.ec_asm.specs.Takes.{Goes}
 use Rattle.ec_asm.proofs.Bytes.{put_here, put_other}
-use Rattle.ec_asm.proofs.Hoare.{block_goes, goes_on_to, chain_holds, chain_straight, steps-chain}
+use Rattle.ec_asm.proofs.Hoare.{block_goes, block-append, chain_holds, chain_straight, steps-chain, straight-append, steps-append}
 use Rattle.ec_asm.proofs.Numbers.{value_below}
 use Rattle.ec_asm.proofs.Sum.{value-same, not_here, fewer}
-use Rattle.ec_select_quotients.specs.Quotients.{divisor_row}
-use Rattle.ec_select_quotients.specs.Laws.{IsReady}
-use Rattle.ec_select_quotients.specs.Signs.{negated_if, top_byte, negate_if_code, top_code, clear_byte, clear_code, start_code}
-use Rattle.ec_select_quotients.proofs.Negated.{Negates, negates_if}
-use Rattle.ec_select_quotients.proofs.Turns.{IsFar, low_outside, high_outside}
-
-row : (r m : ℕ) (e : Env) → 2 ≤ r → StandsFrom e (InRegisters r) m r Own
-row r m e l = record { at = λ i z. refl; kind = λ i z. refl; clear = l }
+use Rattle.ec_select_quotients.specs.Quotients.{divisor_register, number_of}
+use Rattle.ec_select_quotients.specs.Laws.{divisor_bytes, IsReady}
+use Rattle.ec_select_quotients.specs.Signs.{negated_if, top_byte, sign_byte, spread_code, top_code, divisor_top_code, turn_byte, turn_code}
+use Rattle.ec_select_quotients.specs.Signs.{turn_divisor_byte, turn_divisor_code, cross_code, number_sign_code, divisor_sign_code, clear_byte}
+use Rattle.ec_select_quotients.specs.Signs.{clear_code, start_code}
+use Rattle.ec_select_quotients.proofs.Negated.{IsRow, turned, spreads, byte_is_turned, divisor_byte_is_turned, turn_straight, turn_steps}
+use Rattle.ec_select_quotients.proofs.Negated.{turn_divisor_straight, turn_divisor_steps}
+use Rattle.ec_select_quotients.proofs.Rows.{number_from, divisor_same, divisor_below, top_of, register_from, register_below, register_is, registers_apart}
+use Rattle.ec_select_quotients.proofs.Turns.{IsFar, high_outside, divisor_outside, divisor_above, beside}
 
 -- the highest byte of a number
-top_is : (f : ℕ → ℕ) (c top x : ℕ) → ((j : ℕ) → j < top → f (c + j) < 256) → value f c (suc top) ≡ x
+pub top_is : (f : ℕ → ℕ) (c top x : ℕ) → ((j : ℕ) → j < top → f (c + j) < 256) → value f c (suc top) ≡ x
     → f (c + top) ≡ top_byte top x
 top_is f c top x h q =
     let low = value_below f c top h in
@@ -50,8 +50,8 @@ top_steps (InMemory o k) top = refl
 
 -- the remainder is cleared
 record ClearsTo (v0 : View) (i : ℕ) (v : View) : Type 0 where
-  there : (j : ℕ) → j < i → v.at (26 + j) ≡ 0
-  same : (k : ℕ) → Outside 26 i k → v.at k ≡ v0.at k
+  there : (j : ℕ) → j < i → v.at (8 + j) ≡ 0
+  same : (k : ℕ) → Outside 8 i k → v.at k ≡ v0.at k
   inputs : v.inputs ≡ v0.inputs
   safe : v.safe ≡ v0.safe
   seen : v.seen ≡ v0.seen
@@ -59,12 +59,12 @@ record ClearsTo (v0 : View) (i : ℕ) (v : View) : Type 0 where
 clear_step : (e : Env) (v0 : View) (i : ℕ) (v : View) → ClearsTo v0 i v → ClearsTo v0 (suc i) (block e (clear_byte i) v)
 clear_step e v0 i v h =
     let w = block e (clear_byte i) v in
-    let other : (k : ℕ) → k ≢ 26 + i → w.at k ≡ v.at k = λ k n. put_other v.at (26 + i) _ k n in
-    let here : w.at (26 + i) ≡ 0 = put_here v.at (26 + i) _ (26 + i) refl ∙ xor_self (v.at (26 + i)) in
+    let other : (k : ℕ) → k ≢ 8 + i → w.at k ≡ v.at k = λ k n. put_other v.at (8 + i) _ k n in
+    let here : w.at (8 + i) ≡ 0 = put_here v.at (8 + i) _ (8 + i) refl ∙ xor_self (v.at (8 + i)) in
     record {
-      there = λ j l. ⊎_elim (λ (q : j ≡ i). ap (λ z. w.at (26 + z)) q ∙ here)
-          (λ (q : j ≢ i). other (26 + j) (omega arith) ∙ h.there j (omega arith)) (cases_eq j i);
-      same = λ k o. other k (not_here k 26 i o) ∙ h.same k (fewer k 26 i o);
+      there = λ j l. ⊎_elim (λ (q : j ≡ i). ap (λ z. w.at (8 + z)) q ∙ here)
+          (λ (q : j ≢ i). other (8 + j) (omega arith) ∙ h.there j (omega arith)) (cases_eq j i);
+      same = λ k o. other k (not_here k 8 i o) ∙ h.same k (fewer k 8 i o);
       inputs = h.inputs;
       safe = h.safe;
       seen = h.seen;
@@ -83,20 +83,46 @@ zeros f a (suc n) h =
     rw (x, z) (omega arith)
 
 start_straight : (n : ℕ) → all_straight (start_code n) ≡ true
-start_straight n = chain_straight clear_byte (suc n) (λ i. refl)
+start_straight n = chain_straight clear_byte n (λ i. refl)
 
-start_steps : (n : ℕ) → code_steps (start_code n) ≡ 3 + suc n * 1
-start_steps n = ap (λ k. 1 + (1 + (1 + k))) (steps-chain clear_byte (suc n) 1 (λ i. refl)) ∙ omega arith
+start_steps : (n : ℕ) → code_steps (start_code n) ≡ 1 + n * 1
+start_steps n = ap (λ k. 1 + k) (steps-chain clear_byte n 1 (λ i. refl))
+
+-- the sign of a quotient by the signs of both numbers
+signs_crossed : (a b : ℕ) → a ≤ 1 → b ≤ 1 → bit_xor (255 * a) (255 * b) ≡ 255 * bit_xor a b
+signs_crossed zero zero l m = refl
+signs_crossed zero (suc zero) l m = refl
+signs_crossed (suc zero) zero l m = refl
+signs_crossed (suc zero) (suc zero) l m = refl
+signs_crossed (suc (suc a)) b l m = absurd (omega arith)
+signs_crossed zero (suc (suc b)) l m = absurd (omega arith)
+signs_crossed (suc zero) (suc (suc b)) l m = absurd (omega arith)
+
+pub div_below : (x top : ℕ) → x < 256 ^ suc top → x / 256 ^ top < 256
+div_below x top l =
+    let p = 256 ^ top in
+    let s : 256 ^ suc top ≡ p * 256 = pow-suc 256 top in
+    let d = div-add-mod' x p in
+    small (x / p) p (x % p) x d (omega (arith, l, s))
+  where
+    small : (t p r x : ℕ) → t * p + r ≡ x → x < p * 256 → t < 256
+    small t p r x d l =
+        ⊎_elim (λ (g : t < 256). g)
+        (λ (g : 256 ≤ t). let m : 256 * p ≤ t * p = mul-le 256 p t p g (omega arith) in absurd (omega (arith, m, l, d))) (cases_lt t 256)
+
+-- nothing but the work registers and the number has changed
+abbrev pub Frame : (c n : ℕ) → View → View → Type 0
+Frame c n v0 v = (k : ℕ) → k ≢ 0 → k ≢ 1 → Outside 8 6 k → Outside 26 2 k → Outside 30 2 k → Outside c n k → v.at k ≡ v0.at k
 
 module _ (e : Env) (p : Location) (top c : ℕ) (st : StandsFrom e p (suc top) c Own) (far : IsFar c (suc top)) (most : suc top ≤ 4)
     (v0 : View) where
   -- the number, the divisor, and the byte with the sign
   pub record Holds (x z s : ℕ) (v : View) : Type 0 where
     pub number : value v.at c (suc top) ≡ x
-    pub divisor : value v.at 8 (suc top) ≡ z
+    pub divisor : number_of (divisor_bytes v) (suc top) ≡ z
     pub sign : v.at 31 ≡ s
     pub numbers : HoldsNumbers v
-    pub same : (k : ℕ) → k ≢ 0 → k ≢ 1 → Outside 8 6 k → Outside 26 6 k → Outside c (suc top) k → v.at k ≡ v0.at k
+    pub same : Frame c (suc top) v0 v
     pub inputs : v.inputs ≡ v0.inputs
     pub safe : v.safe ≡ v0.safe
     pub seen : v.seen ≡ v0.seen
@@ -108,131 +134,264 @@ module _ (e : Env) (p : Location) (top c : ℕ) (st : StandsFrom e p (suc top) c
     pub goes : Goes e steps pc v end last
     pub holds : Holds x z s last
 
-  pub then_stage : (i j pc mid end x z s x1 z1 s1 : ℕ) (v : View) → (a : Stage i pc v mid x z s)
-      → Stage j mid a.last end x1 z1 s1 → Stage (i + j) pc v end x1 z1 s1
-  then_stage i j pc mid end x z s x1 z1 s1 v a b =
-      let m = a.at_most in
-      let n = b.at_most in
-      record {
-        steps = a.steps + b.steps;
-        at_most = omega arith;
-        last = b.last;
-        goes = goes_on_to e a.steps b.steps pc mid end v a.last b.last a.goes b.goes;
-        holds = b.holds;
-      }
+  -- a byte of the number is none of the high work registers
+  high_beside : (j k : ℕ) → j < suc top → 26 ≤ k → k < 32 → c + j ≢ k
+  high_beside j k l a b q =
+      let o = high_outside c (suc top) k far a b in
+      let z = o (omega arith) in
+      omega arith
 
-  -- a byte of the number is none of the rows
-  not_31 : (j : ℕ) → j < suc top → c + j ≢ 31
-  not_31 j l q =
-      let o = high_outside c (suc top) 31 far (omega arith) (omega arith) in
-      ⊎_elim (λ (r : c < 26). let z = far.high r in omega arith) (λ (r : 26 ≤ c). let z = far.above_high r in omega arith) (cases_lt c 26)
+  divisor_beside : (j i : ℕ) → j < suc top → i < 4 → c + j ≢ divisor_register i
+  divisor_beside j i l m q =
+      let o = divisor_outside c (suc top) i far m in
+      let z = o (omega arith) in
+      omega arith
+
+  not_31 : (k : ℕ) → Outside 30 2 k → k ≢ 31
+  not_31 k o q = let z = o (omega arith) in omega arith
+
+  not_divisor : (k i : ℕ) → i < 4 → Outside 8 6 k → Outside 26 2 k → k ≢ divisor_register i
+  not_divisor k i l f g q =
+      ⊎_elim (λ x. let y = x.1 in let u = f (omega arith) in omega arith)
+      (λ x. let y = x.1 in let u = g (omega arith) in omega arith) (register_is i l)
 
   -- R31 alone has changed
   sign_set : (x z s b : ℕ) (v w : View) → Holds x z s v → w.at 31 ≡ b → b < 256 → ((k : ℕ) → k ≢ 31 → w.at k ≡ v.at k)
       → w.inputs ≡ v.inputs → w.safe ≡ v.safe → w.seen ≡ v.seen → Holds x z b w
   sign_set x z s b v w h here small other inputs safe seen = record {
-    number = value-same w.at v.at c (suc top) (λ j l. other (c + j) (not_31 j l)) ∙ h.number;
-    divisor = value-same w.at v.at 8 (suc top) (λ j l. other (8 + j) (omega arith)) ∙ h.divisor;
+    number = value-same w.at v.at c (suc top) (λ j l. other (c + j) (high_beside j 31 l (omega arith) (omega arith))) ∙ h.number;
+    divisor = divisor_same v w (suc top) most (λ j l.
+        let u = register_below j (omega arith) in other (divisor_register j) (omega arith)) ∙ h.divisor;
     sign = here;
     numbers = λ k u. ⊎_elim (λ (q : k ≡ 31). subst (λ i. w.at i < 256) (sym q) (subst (λ i. i < 256) (sym here) small))
         (λ (q : k ≢ 31). subst (λ i. i < 256) (sym (other k q)) (h.numbers k u)) (cases_eq k 31);
-    same = λ k a b o q t. other k (not_row k q) ∙ h.same k a b o q t;
+    same = λ k a b o q t u. other k (not_31 k t) ∙ h.same k a b o q t u;
     inputs = inputs ∙ h.inputs;
     safe = safe ∙ h.safe;
     seen = seen ∙ h.seen;
   }
-    where
-      not_row : (k : ℕ) → Outside 26 6 k → k ≢ 31
-      not_row k o q = let z = o (omega arith) in omega arith
 
-  pub top_stage : (x z s pc end : ℕ) (v : View) → Holds x z s v → HasAt e (top_code p top) pc end
-      → Stage 1 pc v end x z (top_byte top x)
-  top_stage x z s pc end v h stands =
+  number_row : IsRow (λ j. c + j) (suc top) 31
+  number_row = record {
+    apart = λ i j l m n q. n (omega arith);
+    beside = λ i l. high_beside i 31 l (omega arith) (omega arith);
+    work = λ i l. (let uc = st.clear in omega arith);
+  }
+
+  -- the number is negated where R31 is 255
+  pub turned_number : (x z s : ℕ) (v : View) → Holds x z (255 * s) v → s ≤ 1
+      → Holds (negated_if s (suc top) x) z (255 * s) (block e (turn_code p (suc top)) v)
+  turned_number x z s v h bit =
+      let n = suc top in
       let uc = st.clear in
-      let go = block_goes e (top_code p top) pc end v (top_straight p top) stands in
-      let is = top_code_is e p top (c + top) v (st.at top (omega arith)) (st.kind top (omega arith)) in
+      let w = block e (turn_code p n) v in
+      let t = turned e (turn_byte p) (λ j. c + j) n 31 s v number_row
+      (λ i l u. byte_is_turned e p i (c + i) u (st.at i l) (st.kind i l) (high_beside i 31 l (omega arith) (omega arith))) (omega arith)
+      h.numbers h.sign bit in
+      record {
+        number = sym (number_from (λ j. w.at (c + j)) w.at c n (λ j l. refl)) ∙ t.number
+            ∙ ap (negated_if s n) (number_from (λ j. v.at (c + j)) v.at c n (λ j l. refl) ∙ h.number);
+        divisor = divisor_same v w n most (λ j l.
+            let u = register_from j (omega arith) in
+            t.same (divisor_register j) (omega arith) (λ i m q. divisor_beside i j m (omega arith) (sym q))) ∙ h.divisor;
+        sign = t.same 31 (omega arith) (λ j l q. high_beside j 31 l (omega arith) (omega arith) (sym q)) ∙ h.sign;
+        numbers = t.numbers;
+        same = λ k a b o q r u. t.same k a (λ j l g. (let y = u (omega arith) in omega arith)) ∙ h.same k a b o q r u;
+        inputs = t.inputs ∙ h.inputs;
+        safe = t.safe ∙ h.safe;
+        seen = t.seen ∙ h.seen;
+      }
+
+  -- ---- the sign of the number
+
+  spread_number : (x z s : ℕ) (v : View) → Holds x z s v
+      → Holds x z (255 * (top_byte top x / 128)) (block e (spread_code 31) (block e (top_code p top) v))
+  spread_number x z s v h =
+      let uc = st.clear in
       let b = v.at (c + top) in
+      let w1 = block e (top_code p top) v in
+      let is : w1 ≡ set 31 b v = top_code_is e p top (c + top) v (st.at top (omega arith)) (st.kind top (omega arith)) in
       let byte : b ≡ top_byte top x = top_is v.at c top x (λ j l. h.numbers (c + j) (omega arith)) h.number in
       let small : b < 256 = h.numbers (c + top) (omega arith) in
-      let w = set 31 b v in
-      let k = sign_set x z s b v w h refl small (λ i q. put_other v.at 31 b i q) refl refl refl in
-      record {
-        steps = code_steps (top_code p top);
-        at_most = subst (λ i. i ≤ 1) (sym (top_steps p top)) (omega arith);
-        last = w;
-        goes = subst (λ u. Goes e (code_steps (top_code p top)) pc v end u) is go;
-        holds = subst (λ i. Holds x z i w) byte k;
-      }
+      let k : Holds x z b w1 =
+      subst (Holds x z b) (sym is) (sign_set x z s b v (set 31 b v) h refl small (λ i q. put_other v.at 31 b i q) refl refl refl) in
+      let t = spreads e 31 w1 in
+      let here : (block e (spread_code 31) w1).at 31 ≡ 255 * (b / 128) =
+      t.here (subst (λ u. u < 256) (sym k.sign) small) ∙ ap (λ u. 255 * (u / 128)) k.sign in
+      subst (λ u. Holds x z (255 * (u / 128)) (block e (spread_code 31) w1)) byte
+      (sign_set x z b (255 * (b / 128)) w1 (block e (spread_code 31) w1) k here (omega (arith, small)) t.same t.inputs t.safe t.seen)
 
-  pub number_stage : (x z s pc end : ℕ) (v : View) → Holds x z s v → HasAt e (negate_if_code 31 p (suc top)) pc end
-      → Stage (4 + 6 * suc top) pc v end (negated_if (s / 128) (suc top) x) z s
+  divisor_inside : (z : ℕ) (v : View) (y s : ℕ) → Holds y z s v → z < 256 ^ suc top
+  divisor_inside z v y s h = subst (λ u. u < 256 ^ suc top) h.divisor (divisor_below v (suc top) most h.numbers)
+
+  top_bit : (x : ℕ) → x < 256 ^ suc top → top_byte top x / 128 ≤ 1
+  top_bit x l =
+      let below : top_byte top x < 256 = div_below x top l in
+      omega (arith, below)
+
+  pub number_stage : (x z s pc end : ℕ) (v : View) → Holds x z s v → HasAt e (number_sign_code p top) pc end
+      → Stage (3 + 4 * suc top) pc v end (negated_if (top_byte top x / 128) (suc top) x) z (255 * (top_byte top x / 128))
   number_stage x z s pc end v h stands =
-      let k = negates_if e p 31 (suc top) c pc end v (omega arith) st h.numbers stands in
-      let w = k.last in
-      record {
-        steps = k.steps;
-        at_most = k.at_most;
-        last = w;
-        goes = k.goes;
-        holds = record {
-          number = k.number_is ∙ ap (λ i. negated_if (i / 128) (suc top) (value v.at c (suc top))) h.sign
-              ∙ ap (negated_if (s / 128) (suc top)) h.number;
-          divisor = value-same w.at v.at 8 (suc top) (λ j l.
-              k.same (8 + j) (omega arith) (omega arith) (low_outside c (suc top) (8 + j) far (omega arith) (omega arith))) ∙ h.divisor;
-          sign = k.same 31 (omega arith) (omega arith) (high_outside c (suc top) 31 far (omega arith) (omega arith)) ∙ h.sign;
-          numbers = k.numbers;
-          same = λ i a b o q t. k.same i a b t ∙ h.same i a b o q t;
-          inputs = k.inputs ∙ h.inputs;
-          safe = k.safe ∙ h.safe;
-          seen = k.seen ∙ h.seen;
-        };
-      }
-
-  -- a byte of the number is none of the divisor
-  low_beside : (j m : ℕ) → j < suc top → m ≤ 6 → Outside 8 m (c + j)
-  low_beside j m l k q =
-      ⊎_elim (λ (r : c < 8). let z = far.low r in absurd (omega arith))
-      (λ (r : 8 ≤ c). let z = far.above_low r in omega arith) (cases_lt c 8)
-
-  pub divisor_stage : (x z s pc end : ℕ) (v : View) → Holds x z s v
-      → HasAt e (negate_if_code (8 + top) divisor_row (suc top)) pc end
-      → Stage (4 + 6 * suc top) pc v end x (negated_if (top_byte top z / 128) (suc top) z) s
-  divisor_stage x z s pc end v h stands =
+      let n = suc top in
       let uc = st.clear in
-      let k = negates_if e divisor_row (8 + top) (suc top) 8 pc end v (omega arith) (row 8 (suc top) e (omega arith)) h.numbers stands in
-      let w = k.last in
-      let byte : v.at (8 + top) ≡ top_byte top z = top_is v.at 8 top z (λ j l. h.numbers (8 + j) (omega arith)) h.divisor in
+      let inside : x < 256 ^ n = subst (λ u. u < 256 ^ n) h.number (value_below v.at c n (λ j l. h.numbers (c + j) (omega arith))) in
+      let w2 = block e (spread_code 31) (block e (top_code p top) v) in
+      let w = block e (turn_code p n) w2 in
+      let k = turned_number x z (top_byte top x / 128) w2 (spread_number x z s v h) (top_bit x inside) in
+      let straight : all_straight (number_sign_code p top) ≡ true =
+      straight-append (top_code p top) (spread_code 31 ++ turn_code p n) (top_straight p top)
+      (straight-append (spread_code 31) (turn_code p n) refl (turn_straight p n)) in
+      let is : block e (number_sign_code p top) v ≡ w =
+      block-append e (top_code p top) (spread_code 31 ++ turn_code p n) v
+      ∙ block-append e (spread_code 31) (turn_code p n) (block e (top_code p top) v) in
+      let take = turn_steps p n in
       record {
-        steps = k.steps;
-        at_most = k.at_most;
+        steps = code_steps (number_sign_code p top);
+        at_most = omega (
+          arith,
+          steps-append (top_code p top) (spread_code 31 ++ turn_code p n),
+          steps-append (spread_code 31) (turn_code p n),
+          top_steps p top,
+          take,
+        );
         last = w;
-        goes = k.goes;
-        holds = record {
-          number =
-              value-same w.at v.at c (suc top) (λ j l. k.same (c + j) (omega arith) (omega arith) (low_beside j (suc top) l (omega arith)))
-              ∙ h.number;
-          divisor = k.number_is ∙ ap (λ i. negated_if (i / 128) (suc top) (value v.at 8 (suc top))) byte
-              ∙ ap (negated_if (top_byte top z / 128) (suc top)) h.divisor;
-          sign = k.same 31 (omega arith) (omega arith) (λ l. omega arith) ∙ h.sign;
-          numbers = k.numbers;
-          same = λ i a b o q t. k.same i a b (λ l. let u = o l in omega arith) ∙ h.same i a b o q t;
-          inputs = k.inputs ∙ h.inputs;
-          safe = k.safe ∙ h.safe;
-          seen = k.seen ∙ h.seen;
-        };
+        goes = subst (λ u. Goes e (code_steps (number_sign_code p top)) pc v end u) is
+            (block_goes e (number_sign_code p top) pc end v straight stands);
+        holds = k;
       }
 
-  pub cross_stage : (x z s pc end : ℕ) (v : View) → Holds x z s v → HasAt e (Plain (Eor 31 (8 + top)) ∷ []) pc end
-      → Stage 1 pc v end x z (bit_xor s (top_byte top z))
-  cross_stage x z s pc end v h stands =
-      let go = block_goes e (Plain (Eor 31 (8 + top)) ∷ []) pc end v refl stands in
-      let w = change e (Eor 31 (8 + top)) v in
-      let byte : v.at (8 + top) ≡ top_byte top z = top_is v.at 8 top z (λ j l. h.numbers (8 + j) (omega arith)) h.divisor in
-      let b = bit_xor (v.at 31) (v.at (8 + top)) in
-      let small : b < 256 = xor_lt 8 (v.at 31) (v.at (8 + top)) (h.numbers 31 (omega arith)) (h.numbers (8 + top) (omega arith)) in
-      let k = sign_set x z s b v w h refl small (λ i q. put_other v.at 31 b i q) refl refl refl in
-      let is : b ≡ bit_xor s (top_byte top z) = ap (λ i. bit_xor i (v.at (8 + top))) h.sign ∙ ap (bit_xor s) byte in
-      record { steps = 1; at_most = omega arith; last = w; goes = go; holds = subst (λ i. Holds x z i w) is k }
+  -- ---- the sign of the divisor, and that of the result
+
+  divisor_row : IsRow divisor_register (suc top) 1
+  divisor_row = record {
+    apart = λ i j l m n. registers_apart i j (omega arith) (omega arith) n;
+    beside = λ i l q. (let u = register_from i (omega arith) in omega arith);
+    work = λ i l. (let u = register_from i (omega arith) in omega arith);
+  }
+
+  -- R1 alone has changed
+  spare_set : (x z s : ℕ) (v w : View) → Holds x z s v → ((k : ℕ) → k ≢ 1 → w.at k ≡ v.at k) → w.inputs ≡ v.inputs
+      → w.safe ≡ v.safe → w.seen ≡ v.seen → Holds x z s w
+  spare_set x z s v w h other inputs safe seen =
+      let uc = st.clear in
+      record {
+        number = value-same w.at v.at c (suc top) (λ j l. other (c + j) (omega arith)) ∙ h.number;
+        divisor = divisor_same v w (suc top) most (λ j l.
+            let u = register_from j (omega arith) in other (divisor_register j) (omega arith)) ∙ h.divisor;
+        sign = other 31 (omega arith) ∙ h.sign;
+        numbers = λ k u. rw (other k (omega arith)) (h.numbers k u);
+        same = λ k a b o q t u. other k b ∙ h.same k a b o q t u;
+        inputs = inputs ∙ h.inputs;
+        safe = safe ∙ h.safe;
+        seen = seen ∙ h.seen;
+      }
+
+  record Spread (x z s b : ℕ) (v : View) : Type 0 where
+    holds : Holds x z s v
+    sign : v.at 1 ≡ b
+
+  spread_divisor : (x z s : ℕ) (v : View) → Holds x z s v
+      → Spread x z s (255 * (top_byte top z / 128)) (block e (spread_code 1) (block e (divisor_top_code top) v))
+  spread_divisor x z s v h =
+      let r = divisor_register top in
+      let from = register_from top (omega arith) in
+      let b = v.at r in
+      let w1 = block e (divisor_top_code top) v in
+      let byte : b ≡ top_byte top z = top_of (divisor_bytes v) top z
+      (λ j l. (let u = register_from j (omega arith) in h.numbers (divisor_register j) (omega arith))) h.divisor in
+      let small : b < 256 = h.numbers r (omega arith) in
+      let k : Holds x z s w1 = spare_set x z s v w1 h (λ i q. put_other v.at 1 b i q) refl refl refl in
+      let t = spreads e 1 w1 in
+      record {
+        holds = spare_set x z s w1 (block e (spread_code 1) w1) k t.same t.inputs t.safe t.seen;
+        sign = t.here small ∙ ap (λ u. 255 * (u / 128)) byte;
+      }
+
+  turned_divisor : (x z s q : ℕ) (v : View) → Spread x z s (255 * q) v → q ≤ 1
+      → Spread x (negated_if q (suc top) z) s (255 * q) (block e (turn_divisor_code (suc top)) v)
+  turned_divisor x z s q v g bit =
+      let n = suc top in
+      let uc = st.clear in
+      let h = g.holds in
+      let w = block e (turn_divisor_code n) v in
+      let t = turned e turn_divisor_byte divisor_register n 1 q v divisor_row
+      (λ i l u. divisor_byte_is_turned e i u (λ y. (let z = register_from i (omega arith) in omega arith))) (omega arith)
+      h.numbers g.sign bit in
+      record {
+        holds = record {
+          number = value-same w.at v.at c n (λ j l. t.same (c + j) (omega arith) (λ i m. divisor_beside j i l (omega arith))) ∙ h.number;
+          divisor = t.number ∙ ap (negated_if q n) h.divisor;
+          sign = t.same 31 (omega arith) (λ j l y. (let u = register_below j (omega arith) in omega arith)) ∙ h.sign;
+          numbers = t.numbers;
+          same = λ k a b o y i u. t.same k a (λ j l. not_divisor k j (omega arith) o y) ∙ h.same k a b o y i u;
+          inputs = t.inputs ∙ h.inputs;
+          safe = t.safe ∙ h.safe;
+          seen = t.seen ∙ h.seen;
+        };
+        sign = t.same 1 (omega arith) (λ j l y. (let u = register_from j (omega arith) in omega arith)) ∙ g.sign;
+      }
+
+  crossed : (r : Bool) (x y z w : ℕ) (v : View) → top_byte top x / 128 ≤ 1 → top_byte top z / 128 ≤ 1
+      → Spread y w (255 * (top_byte top x / 128)) (255 * (top_byte top z / 128)) v
+      → Holds y w (255 * (sign_byte r top x z / 128)) (block e (cross_code r) v)
+  crossed true x y z w v l m g = g.holds
+  crossed false x y z w v l m g =
+      let a = top_byte top x / 128 in
+      let b = top_byte top z / 128 in
+      let u = bit_xor (v.at 31) (v.at 1) in
+      let t = block e (cross_code false) v in
+      let both : u ≡ 255 * bit_xor a b =
+      ap (λ i. bit_xor i (v.at 1)) g.holds.sign ∙ ap (bit_xor (255 * a)) g.sign ∙ signs_crossed a b l m in
+      let is : u ≡ 255 * (sign_byte false top x z / 128) =
+      both ∙ ap (λ i. 255 * i) (sym (xor_shr (top_byte top x) (top_byte top z) 7)) in
+      let few : u < 256 = subst (λ i. i < 256) (sym both) (one_bit a b l m) in
+      subst (λ i. Holds y w i t) is
+      (sign_set y w (255 * a) u v t g.holds refl few (λ i q. put_other v.at 31 u i q) refl refl refl)
+    where
+      one_bit : (a b : ℕ) → a ≤ 1 → b ≤ 1 → 255 * bit_xor a b < 256
+      one_bit zero zero l m = omega arith
+      one_bit zero (suc zero) l m = omega arith
+      one_bit (suc zero) zero l m = omega arith
+      one_bit (suc zero) (suc zero) l m = omega arith
+      one_bit (suc (suc a)) b l m = absurd (omega arith)
+      one_bit zero (suc (suc b)) l m = absurd (omega arith)
+      one_bit (suc zero) (suc (suc b)) l m = absurd (omega arith)
+
+  cross_straight : (r : Bool) → all_straight (cross_code r) ≡ true
+  cross_straight true = refl
+  cross_straight false = refl
+
+  cross_steps : (r : Bool) → code_steps (cross_code r) ≤ 1
+  cross_steps true = omega arith
+  cross_steps false = omega arith
+
+  pub divisor_stage : (r : Bool) (x y z pc end : ℕ) (v : View) → x < 256 ^ suc top → Holds y z (255 * (top_byte top x / 128)) v
+      → HasAt e (divisor_sign_code r top) pc end
+      → Stage (4 + 2 * suc top) pc v end y (negated_if (top_byte top z / 128) (suc top) z) (255 * (sign_byte r top x z / 128))
+  divisor_stage r x y z pc end v inside h stands =
+      let n = suc top in
+      let below : z < 256 ^ n = divisor_inside z v y (255 * (top_byte top x / 128)) h in
+      let bit = top_bit z below in
+      let s = 255 * (top_byte top x / 128) in
+      let w1 = block e (divisor_top_code top) v in
+      let w2 = block e (spread_code 1) w1 in
+      let w3 = block e (turn_divisor_code n) w2 in
+      let w = block e (cross_code r) w3 in
+      let g = turned_divisor y z s (top_byte top z / 128) w2 (spread_divisor y z s v h) bit in
+      let k = crossed r x y z (negated_if (top_byte top z / 128) n z) w3 (top_bit x inside) bit g in
+      let rest = turn_divisor_code n ++ cross_code r in
+      let straight : all_straight (divisor_sign_code r top) ≡ true =
+      straight-append (turn_divisor_code n) (cross_code r) (turn_divisor_straight n) (cross_straight r) in
+      let is : block e (divisor_sign_code r top) v ≡ w = block-append e (turn_divisor_code n) (cross_code r) w2 in
+      let take = cross_steps r in
+      record {
+        steps = code_steps (divisor_sign_code r top);
+        at_most = omega (arith, steps-append (turn_divisor_code n) (cross_code r), turn_divisor_steps n, take);
+        last = w;
+        goes = subst (λ u. Goes e (code_steps (divisor_sign_code r top)) pc v end u) is
+            (block_goes e (divisor_sign_code r top) pc end v straight stands);
+        holds = k;
+      }
 
   -- ---- the rows
 
@@ -244,43 +403,26 @@ module _ (e : Env) (p : Location) (top c : ℕ) (st : StandsFrom e p (suc top) c
     pub ready : IsReady (suc top) z last
     pub number : value last.at c (suc top) ≡ x
     pub sign : last.at 31 ≡ s
-    pub same : (k : ℕ) → k ≢ 0 → k ≢ 1 → Outside 8 6 k → Outside 26 6 k → Outside c (suc top) k → last.at k ≡ v0.at k
+    pub same : Frame c (suc top) v0 last
     pub inputs : last.inputs ≡ v0.inputs
     pub safe : last.safe ≡ v0.safe
     pub seen : last.seen ≡ v0.seen
 
   pub start_stage : (x z s pc end : ℕ) (v : View) → Holds x z s v → 1 ≤ z → HasAt e (start_code (suc top)) pc end
-      → Begins (4 + suc top) pc v end x z s
+      → Begins (1 + suc top) pc v end x z s
   start_stage x z s pc end v h some stands =
       let n = suc top in
       let uc = st.clear in
       let v1 = set 30 (8 * n) v in
-      let v2 = set 13 (8 * n) v1 in
-      let v3 = change e (Eor (8 + n) (8 + n)) v2 in
-      let w = block e (clear_code (suc n)) v3 in
-      let k = cleared e (suc n) v3 in
+      let w = block e (clear_code n) v1 in
+      let k = cleared e n v1 in
       let go = block_goes e (start_code n) pc end v (start_straight n) stands in
       let take = start_steps n in
-      let zero_byte : v3.at (8 + n) ≡ 0 = put_here v2.at (8 + n) _ (8 + n) refl ∙ xor_self (v2.at (8 + n)) in
-      let other : (i : ℕ) → i ≢ 30 → i ≢ 13 → i ≢ 8 + n → v3.at i ≡ v.at i =
-      λ i a b d. put_other v2.at (8 + n) (bit_xor (v2.at (8 + n)) (v2.at (8 + n))) i d ∙ put_other v1.at 13 (8 * n) i b
-      ∙ put_other v.at 30 (8 * n) i a in
-      let low : value w.at 8 n ≡ z =
-      value-same w.at v.at 8 n (λ j l. k.same (8 + j) (λ q. absurd (omega arith)) ∙ other (8 + j) (omega arith) (omega arith) (omega arith))
-      ∙ h.divisor in
-      let top_zero : w.at (8 + n) ≡ 0 = k.same (8 + n) (λ q. absurd (omega arith)) ∙ zero_byte in
-      let thirteen : v3.at 13 ≡ 8 * n =
-      put_other v2.at (8 + n) (bit_xor (v2.at (8 + n)) (v2.at (8 + n))) 13 (omega arith) ∙ put_here v1.at 13 (8 * n) 13 refl in
-      let count : w.at 13 ≡ 8 * n = k.same 13 (λ q. absurd (omega arith)) ∙ thirteen in
-      let thirty : v3.at 30 ≡ 8 * n = put_other v2.at (8 + n) (bit_xor (v2.at (8 + n)) (v2.at (8 + n))) 30 (omega arith)
-      ∙ put_other v1.at 13 (8 * n) 30 (omega arith) ∙ put_here v.at 30 (8 * n) 30 refl in
-      let numbers3 : HoldsNumbers v3 = λ i u.
-      ⊎_elim (λ (q : i ≡ 30). subst (λ t. v3.at t < 256) (sym q) (subst (λ t. t < 256) (sym thirty) (omega arith)))
-      (λ (q : i ≢ 30). ⊎_elim (λ (r : i ≡ 13). subst (λ t. v3.at t < 256) (sym r) (subst (λ t. t < 256) (sym thirteen) (omega arith)))
-      (λ (r : i ≢ 13). ⊎_elim (λ (t : i ≡ 8 + n). subst (λ t. v3.at t < 256) (sym t) (subst (λ t. t < 256) (sym zero_byte) (omega arith)))
-      (λ (t : i ≢ 8 + n). subst (λ t. t < 256) (sym (other i q r t)) (h.numbers i u)) (cases_eq i (8 + n))) (cases_eq i 13))
-      (cases_eq i 30) in
-      let below : z < 256 ^ n = subst (λ t. t < 256 ^ n) h.divisor (value_below v.at 8 n (λ j l. h.numbers (8 + j) (omega arith))) in
+      let other : (i : ℕ) → i ≢ 30 → v1.at i ≡ v.at i = λ i a. put_other v.at 30 (8 * n) i a in
+      let thirty : v1.at 30 ≡ 8 * n = put_here v.at 30 (8 * n) 30 refl in
+      let numbers1 : HoldsNumbers v1 = λ i u.
+      ⊎_elim (λ (q : i ≡ 30). subst (λ t. v1.at t < 256) (sym q) (subst (λ t. t < 256) (sym thirty) (omega arith)))
+      (λ (q : i ≢ 30). subst (λ t. t < 256) (sym (other i q)) (h.numbers i u)) (cases_eq i 30) in
       record {
         steps = code_steps (start_code n);
         at_most = omega (arith, take);
@@ -288,57 +430,35 @@ module _ (e : Env) (p : Location) (top c : ℕ) (st : StandsFrom e p (suc top) c
         goes = go;
         ready = record {
           some = some;
-          below = below;
-          divisor_is = rw (low, top_zero) (omega arith);
-          remainder_is = zeros w.at 26 (suc n) k.there;
-          count = count;
-          numbers = numbers4 v3 w numbers3 k.there k.same;
+          divisor_is = divisor_same v w n most (λ j l.
+              let u = register_below j (omega arith) in
+              k.same (divisor_register j) (divisor_above n j most (omega arith)) ∙ other (divisor_register j) (omega arith)) ∙ h.divisor;
+          remainder_is = zeros w.at 8 n k.there;
+          count = k.same 30 (λ q. omega arith) ∙ thirty;
+          numbers = numbers4 v1 w numbers1 k.there k.same;
         };
-        number = value-same w.at v.at c n (λ j l. k.same (c + j) (high_beside j l) ∙ other (c + j) (not_30 j l) (not_13 j l) (not_low j l))
-            ∙ h.number;
-        sign = k.same 31 (λ q. omega arith) ∙ other 31 (omega arith) (omega arith) (omega arith) ∙ h.sign;
-        same = λ i a b o q t. k.same i (λ l. let u = q l in omega arith) ∙ other i (row_30 i q) (row_13 i o) (row_low i o)
-            ∙ h.same i a b o q t;
+        number = value-same w.at v.at c n (λ j l.
+            k.same (c + j) (beside c n n j far (omega arith) l) ∙ other (c + j) (high_beside j 30 l (omega arith) (omega arith))) ∙ h.number;
+        sign = k.same 31 (λ q. omega arith) ∙ other 31 (omega arith) ∙ h.sign;
+        same = λ i a b o q t u. k.same i (λ l. let y = o l in omega arith) ∙ other i (row_30 i t) ∙ h.same i a b o q t u;
         inputs = k.inputs ∙ h.inputs;
         safe = k.safe ∙ h.safe;
         seen = k.seen ∙ h.seen;
       }
     where
-      high_beside : (j : ℕ) → j < suc top → Outside 26 (suc (suc top)) (c + j)
-      high_beside j l q =
-          ⊎_elim (λ (r : c < 26). let z = far.high r in absurd (omega arith))
-          (λ (r : 26 ≤ c). let z = far.above_high r in omega arith) (cases_lt c 26)
-
-      not_30 : (j : ℕ) → j < suc top → c + j ≢ 30
-      not_30 j l q =
-          ⊎_elim (λ (r : c < 26). let z = far.high r in omega arith)
-          (λ (r : 26 ≤ c). let z = far.above_high r in omega arith) (cases_lt c 26)
-
-      not_13 : (j : ℕ) → j < suc top → c + j ≢ 13
-      not_13 j l q = let z = low_beside j 6 l (omega arith) (omega arith) in omega arith
-
-      not_low : (j : ℕ) → j < suc top → c + j ≢ 8 + suc top
-      not_low j l q = let z = low_beside j 6 l (omega arith) (omega arith) in omega arith
-
-      row_30 : (k : ℕ) → Outside 26 6 k → k ≢ 30
+      row_30 : (k : ℕ) → Outside 30 2 k → k ≢ 30
       row_30 k o q = let z = o (omega arith) in omega arith
 
-      row_13 : (k : ℕ) → Outside 8 6 k → k ≢ 13
-      row_13 k o q = let z = o (omega arith) in omega arith
-
-      row_low : (k : ℕ) → Outside 8 6 k → k ≢ 8 + suc top
-      row_low k o q = let z = o (omega arith) in omega arith
-
-      numbers4 : (v3 w : View) → HoldsNumbers v3 → ((j : ℕ) → j < suc (suc top) → w.at (26 + j) ≡ 0)
-          → ((k : ℕ) → Outside 26 (suc (suc top)) k → w.at k ≡ v3.at k) → HoldsNumbers w
+      numbers4 : (v3 w : View) → HoldsNumbers v3 → ((j : ℕ) → j < suc top → w.at (8 + j) ≡ 0)
+          → ((k : ℕ) → Outside 8 (suc top) k → w.at k ≡ v3.at k) → HoldsNumbers w
       numbers4 v3 w f there same k u =
           ⊎_elim
-          (λ (l : k < 26). subst (λ z. z < 256) (sym (same k (λ x. absurd (omega arith)))) (f k u))
-          (λ (l : 26 ≤ k).
+          (λ (l : k < 8). subst (λ z. z < 256) (sym (same k (λ x. absurd (omega arith)))) (f k u))
+          (λ (l : 8 ≤ k).
           ⊎_elim
-          (λ (m : k < 26 + suc (suc top)).
-          let i : 26 + (k - 26) ≡ k = omega arith in
-          subst (λ z. z < 256) (sym (ap w.at (sym i) ∙ there (k - 26) (omega arith))) (omega arith))
-          (λ (m : 26 + suc (suc top) ≤ k). subst (λ z. z < 256) (sym (same k (λ x. m))) (f k u))
-          (cases_lt k (26 + suc (suc top))))
-          (cases_lt k 26)
+          (λ (m : k < 8 + suc top).
+          let i : 8 + (k - 8) ≡ k = omega arith in
+          subst (λ z. z < 256) (sym (ap w.at (sym i) ∙ there (k - 8) (omega arith))) (omega arith))
+          (λ (m : 8 + suc top ≤ k). subst (λ z. z < 256) (sym (same k (λ x. m))) (f k u))
+          (cases_lt k (8 + suc top)))
+          (cases_lt k 8)

@@ -1,0 +1,6 @@
+use Rattle.std.proofs.Common.{◌≡◌, ◌++◌}
+use Rattle.ec_select_quotients.specs.Signs.{turn_code}
+use Rattle.ec_select_quotients.proofs.signs.turn.Given as goal
+
+abbrev pub invariant-loop-i : goal.invariant-loop-i
+invariant-loop-i l = l.out.items ≡ l.fn.out.items ++ turn_code l.fn.at l.i
