@@ -194,7 +194,7 @@ module _ (laws : PartLaws) where
 
   -- ---- external declarations
 
-  external_is : (r : Setting) (x : t.External) (s : State) → outside_of (after_external r x s) ≡ behind_external r x (outside_of s)
+  pub external_is : (r : Setting) (x : t.External) (s : State) → outside_of (after_external r x s) ≡ behind_external r x (outside_of s)
   external_is r (t.pragma_item p) s = refl
   external_is r (t.structure_item (t.structure w (t.identifier at tag) l first more e semicolon)) s = refl
   external_is r (t.register_item d) s = laws.file.behind_registers r d s
@@ -263,7 +263,7 @@ module _ (laws : PartLaws) where
       (λ p. (last ≡ true) × (p ≡ end r.definitions e.index))
       (externals_stand r xs (in_unit s) (unit_begins (outside_of s)) refl) (end_stands r.definitions last e.index)
 
-  unit_is : (r : Setting) (u : t.Tree) (s : State) → outside_of (after_unit r u s) ≡ behind_unit r u (outside_of s)
+  pub unit_is : (r : Setting) (u : t.Tree) (s : State) → outside_of (after_unit r u s) ≡ behind_unit r u (outside_of s)
   unit_is r (t.tree xs e) s = externals_are r xs (in_unit s)
 
   last_is : (us : List t.Tree) → parts.is_last us ≡ is_last us

@@ -40,4 +40,5 @@ mod ProgramsAreValid
 mod ValidAnswers
 mod Judged
 mod Found
+mod Typed
 mod CheckedAnswers

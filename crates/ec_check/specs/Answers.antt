@@ -8,6 +8,7 @@ use Rattle.ec_core.specs.Plain.{PlainProgram, plain_program, plain_struct}
 use Rattle.ec_core.specs.declared.programs.Program.{Program}
 use Rattle.ec_check_names.specs.Counts.{most_objects, most_functions, objects_declared, functions_defined}
 use Rattle.ec_check_recursion.specs.Recursion.{IsFirstRecursive, NothingRecurs}
+use Rattle.ec_check_typed.specs.Units.{Typed}
 use Rattle.ec_check.specs.declared.checking.CheckStop.{CheckStop}
 use Rattle.ec_check.specs.declared.checking.CheckStop.TheVariants as stops
 use Rattle.ec_check.specs.Units.{program_of, least_fault, UnitFault, first_fault, after_units, main_of, program_by}
@@ -16,9 +17,13 @@ use Rattle.ec_check_file_scope.specs.States.{nothing_declared}
 use Rattle.ec_check_names.specs.Definitions.{Definition}
 use Rattle.ec_check_declarations.specs.declared.units.UnitFault as unit_fault_code
 
--- P is the program of the units
+-- P is the program of the units, by the relation between trees and programs
 abbrev pub IsTyped : List t.Tree → IoTable → PlainProgram → Type 0
-IsTyped us io p = program_of us io ≡ Some p
+IsTyped us io p = Typed us io p
+
+-- and no other is
+abbrev pub IsOnlyTyped : List t.Tree → IoTable → PlainProgram → Type 0
+IsOnlyTyped us io p = (q : PlainProgram) → IsTyped us io q → q ≡ p
 
 -- the numbers of objects and functions keep their limits
 pub record IsWithinLimits (us : List t.Tree) : Type 0 where
@@ -41,6 +46,7 @@ pub record IsRecursive (us : List t.Tree) (io : IoTable) (name : List ℕ) : Typ
 abbrev pub Checked : List t.Tree → IoTable → Result Program CheckStop → Type 0
 Checked us io (Ok p) =
     IsWithinLimits us × NothingIsBroken us io × IsTyped us io (plain_program p) × NothingRecurs (plain_program p)
+    × IsOnlyTyped us io (plain_program p)
 Checked us io (Err stops.NoMemory) = ⊤
 Checked us io (Err stops.TooManyObjects) = most_objects < objects_declared us
 Checked us io (Err stops.TooManyFunctions) =
@@ -51,10 +57,20 @@ Checked us io (Err (stops.Recursion name)) =
 
 -- ---- parts of the check
 
+-- the program that the walk over the units gives
+abbrev pub IsWalked : List t.Tree → IoTable → PlainProgram → Type 0
+IsWalked us io p = program_of us io ≡ Some p
+
+-- the function that reaches itself by calls in that program
+pub record IsRecursiveWalked (us : List t.Tree) (io : IoTable) (name : List ℕ) : Type 0 where
+  pub program : PlainProgram
+  pub typed : IsWalked us io program
+  pub recursion : IsRecursion program name
+
 -- so of what the walk over the units finds
 abbrev pub FollowsWalk : List t.Tree → IoTable → Result Program CheckStop → Type 0
 FollowsWalk us io (Ok p) =
-    IsWithinLimits us × (least_fault us io ≡ None) × IsTyped us io (plain_program p) × NothingRecurs (plain_program p)
+    IsWithinLimits us × (least_fault us io ≡ None) × IsWalked us io (plain_program p) × NothingRecurs (plain_program p)
 FollowsWalk us io (Err stops.NoMemory) = ⊤
 FollowsWalk us io (Err stops.TooManyObjects) = most_objects < objects_declared us
 FollowsWalk us io (Err stops.TooManyFunctions) =
@@ -62,7 +78,7 @@ FollowsWalk us io (Err stops.TooManyFunctions) =
 FollowsWalk us io (Err (stops.Constraint unit token rule)) =
     IsWithinLimits us × (least_fault us io ≡ Some (record { unit = unit; fault = record { at = token; rule = rule } }))
 FollowsWalk us io (Err (stops.Recursion name)) =
-    IsWithinLimits us × (least_fault us io ≡ None) × IsRecursive us io name.items
+    IsWithinLimits us × (least_fault us io ≡ None) × IsRecursiveWalked us io name.items
 
 abbrev pub plain_unit_fault : unit_fault_code.UnitFault → UnitFault
 plain_unit_fault f = record { unit = f.unit; fault = record { at = f.token; rule = f.rule } }

@@ -1,5 +1,5 @@
 -- Where units keep the limits and break no rule, there is their program.
-use Rattle.std.specs.Prelude.{ℕ, ◌+◌, ◌≡◌, ◌≤◌, None, List, [], ◌∷◌, length}
+use Rattle.std.specs.Prelude.{ℕ, ◌+◌, ◌≡◌, ◌≤◌, ◌↔◌, None, List, [], ◌∷◌, length}
 use Rattle.std.specs.List.{AllByRecursion}
 use Rattle.ec_grammar.specs.Spelling.{of_tree}
 use Rattle.ec_grammar.specs.Trees.{External, pragma_item, structure_item, register_item, declaration_item}
@@ -7,7 +7,8 @@ use Rattle.ec_grammar.specs.Trees.{function_item, Tree, tree}
 use Rattle.ec_iohw.specs.declared.table.IoTable.{IoTable}
 use Rattle.ec_core.specs.Plain.{PlainProgram}
 use Rattle.ec_check_names.specs.Counts.{objects_declared, functions_defined}
-use Rattle.ec_check.specs.Answers.{IsTyped, IsWithinLimits}
+use Rattle.ec_check.specs.Answers.{IsTyped, IsWalked, IsWithinLimits}
+use Rattle.ec_check.specs.Broken.{NothingIsBroken}
 use Rattle.ec_check.specs.Units.{least_fault}
 
 -- ---- how many structs units define
@@ -46,7 +47,7 @@ StructsAreFew = (us : List Tree) → AreShort us → length us ≤ 16 → struct
 
 -- the program of the units: with no more objects than they declare, and the functions that they define
 pub record IsProgramOf (us : List Tree) (io : IoTable) (p : PlainProgram) : Type 0 where
-  pub typed : IsTyped us io p
+  pub typed : IsWalked us io p
   pub objects : length p.objects ≤ objects_declared us
   pub functions : length p.functions ≡ functions_defined us
 
@@ -55,3 +56,11 @@ abbrev pub ProgramsExist : Type 0
 ProgramsExist =
     (us : List Tree) (io : IoTable) → 1 ≤ length us → IsWithinLimits us → structs_defined us ≤ most_structs
     → least_fault us io ≡ None → (p : PlainProgram) × IsProgramOf us io p
+
+-- The program of the relation between trees and programs is the one that the walk over the units gives, so there is only one; and
+-- there is one where units keep the limits and break no constraint.
+pub record ProgramsAreTyped : Type 0 where
+  pub walked : (us : List Tree) (io : IoTable) (p : PlainProgram) → IsTyped us io p ↔ IsWalked us io p
+  pub only : (us : List Tree) (io : IoTable) (p q : PlainProgram) → IsTyped us io p → IsTyped us io q → p ≡ q
+  pub exists : (us : List Tree) (io : IoTable) → 1 ≤ length us → IsWithinLimits us → structs_defined us ≤ most_structs
+      → NothingIsBroken us io → (p : PlainProgram) × IsTyped us io p

@@ -9,7 +9,7 @@ use Rattle.ec_core.specs.Plain.{PlainProgram}
 use Rattle.ec_core.specs.Valid.{Valid}
 use Rattle.ec_check_expression_laws.specs.Suits.{AreHeld}
 use Rattle.ec_check_recursion.specs.Recursion.{NothingRecurs}
-use Rattle.ec_check.specs.Answers.{IsTyped, IsWithinLimits}
+use Rattle.ec_check.specs.Answers.{IsWalked, IsWithinLimits}
 use Rattle.ec_check.specs.Laws.{most_structs, structs_defined, AreShort}
 use Rattle.ec_check.specs.Units.{least_fault}
 
@@ -22,5 +22,5 @@ HoldNumbers us = AllByRecursion (λ u. AreHeld (of_tree u [])) us
 abbrev pub ProgramsAreValid : Type 0
 ProgramsAreValid =
     (us : List Tree) (io : IoTable) (p : PlainProgram) → ValidIo io → IsWithinLimits us
-    → structs_defined us ≤ most_structs → HoldNumbers us → AreShort us → least_fault us io ≡ None → IsTyped us io p
+    → structs_defined us ≤ most_structs → HoldNumbers us → AreShort us → least_fault us io ≡ None → IsWalked us io p
     → NothingRecurs p → Valid p io

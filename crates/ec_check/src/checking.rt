@@ -14,7 +14,9 @@ ghost use Rattle.ec_check.specs.Laws.{AreShort};
 ghost use Rattle.ec_check.specs.Validity.{HoldNumbers};
 
 use crate::counts::has_too_many_structs;
-use crate::laws::{programs_are_valid, programs_exist, structs_are_few, the_least_is_found};
+use crate::laws::{
+    programs_are_typed, programs_are_valid, programs_exist, structs_are_few, the_least_is_found,
+};
 use crate::units::{main_of, unit};
 use ec_check_declarations::{Scope, UnitFault, copied_name, told_of};
 use ec_check_file_scope::{Setting, State};
@@ -232,5 +234,6 @@ pub fn check(alloc: Global, units: &Seq<Tree>, io: &IoTable) -> Result<Program, 
     structs_are_few();
     programs_are_valid();
     the_least_is_found();
+    programs_are_typed();
     checked_program(alloc, units, io)
 }

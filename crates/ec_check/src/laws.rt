@@ -1,6 +1,6 @@
 //! The laws of the checker: each function proves one, and does nothing.
 ghost use Rattle.ec_check.specs.Broken.{LeastIsFound};
-ghost use Rattle.ec_check.specs.Laws.{ProgramsExist, StructsAreFew};
+ghost use Rattle.ec_check.specs.Laws.{ProgramsAreTyped, ProgramsExist, StructsAreFew};
 ghost use Rattle.ec_check.specs.Validity.{ProgramsAreValid};
 
 use ec_check_expression_laws::{
@@ -19,6 +19,7 @@ use ec_check_statements::{
     inner_objects_keep_suiting, kept_bodies_have_meanings, kept_functions_have_types,
     kept_objects_have_types, objects_are_appended, objects_stay, scopes_end,
 };
+use ec_check_typed::{file_scope_is_said, statements_are_said};
 use ec_core::structs_are_laid_out;
 
 /// What the walk over the units tells is exactly what breaks a constraint at one of the parts that stand in them; what it finds
@@ -85,4 +86,21 @@ pub fn programs_are_valid()
     kept_bodies_have_meanings();
     bodies_are_valid();
     bodies_need_their_tokens();
+}
+
+/// The program of units, by the relation between trees and programs, is the one that the walk over the units gives; so there is
+/// only one; and there is one where units keep the limits and break no constraint.
+pub fn programs_are_typed()
+    ensures { ProgramsAreTyped }
+{
+    the_least_is_found();
+    programs_exist();
+    functions_are_judged();
+    file_names_are_judged();
+    bodies_are_judged();
+    file_scope_is_judged();
+    scopes_end();
+    blocks_end();
+    file_scope_is_said();
+    statements_are_said();
 }

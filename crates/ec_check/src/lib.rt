@@ -11,4 +11,6 @@ mod laws;
 mod units;
 
 pub use checking::{CheckStop, check, discard};
-pub use laws::{programs_are_valid, programs_exist, structs_are_few, the_least_is_found};
+pub use laws::{
+    programs_are_typed, programs_are_valid, programs_exist, structs_are_few, the_least_is_found,
+};

@@ -1,9 +1,10 @@
+-- For the crates of the family.
+pub mod Options
+pub mod Conversions
+pub mod Parts
 -- For this crate alone.
-mod Options
-mod Conversions
 mod Operations
 mod Choices
-mod Parts
 mod Names
 mod Ports
 mod Forms

@@ -1,0 +1,8 @@
+use Rattle.ec_check_typed.proofs.FileScope.{file_scope_is_said}
+use Rattle.ec_check_typed.proofs.laws.file_scope_is_said.Goals as goal
+
+pub returns : goal.returns
+returns c =
+    file_scope_is_said
+    (record { initialisers = c.initialisers_are_said.ensures; judged = c.file_scope_is_judged.ensures })
+    c.equal_structs_are_one.ensures
