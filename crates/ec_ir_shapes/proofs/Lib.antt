@@ -1,0 +1,2 @@
+-- For all crates above.
+pub mod Rows

@@ -1,0 +1,2 @@
+-- What operations may cost by their shapes.
+pub mod Costs

@@ -1,0 +1,2 @@
+-- The law of operations by shapes.
+pub mod Laws

@@ -1,0 +1,5 @@
+-- For all crates above.
+pub mod Sums
+pub mod Once
+pub mod Parts
+pub mod Rows
