@@ -9,28 +9,32 @@ def record(address, kind, data):
 
 
 def hex_text(image):
-    """The HEX text of an image, the bytes by their addresses."""
-    lines, data = [], []
+    """The HEX text of an image, the bytes by their addresses. A record of type 04 stands before those behind a multiple of 65,536."""
+    runs, base, lines = [], 0, []
     for address in sorted(image):
-        if data and (address != start + len(data) or len(data) == 16):
-            lines.append(record(start, 0, data))
-            data = []
-        if not data:
-            start = address
-        data.append(image[address])
-    if data:
-        lines.append(record(start, 0, data))
+        if not runs or address != runs[-1][0] + len(runs[-1][1]) or len(runs[-1][1]) == 16 or address % 65536 == 0:
+            runs.append((address, []))
+        runs[-1][1].append(image[address])
+    for start, data in runs:
+        if start // 65536 != base:
+            base = start // 65536
+            lines.append(record(0, 4, [base >> 8, base & 0xFF]))
+        lines.append(record(start % 65536, 0, data))
     return "".join([*lines, record(0, 1, [])])
 
 
 def image_of(text):
     """The bytes of a HEX text by their addresses, none where a line is no record of data or the last one."""
-    image = {}
+    image, base = {}, 0
     for line in text.splitlines():
-        found = re.fullmatch(r":(..)(....)0[01]((?:..)*)..", line)
+        found = re.fullmatch(r":(..)(....)0([014])((?:..)*)..", line)
         if not found:
             return {}
-        image |= enumerate(bytes.fromhex(found[3]), int(found[2], 16))
+        data = bytes.fromhex(found[4])
+        if found[3] == "4":
+            base = int.from_bytes(data) << 16
+        else:
+            image |= enumerate(data, base + int(found[2], 16))
     return image
 
 

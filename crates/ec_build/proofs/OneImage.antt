@@ -3,6 +3,7 @@ use Rattle.std.proofs.Common.{◌≡◌, ℕ, List, Option, Some, None, sym, ap,
 use Rattle.ec_asm.specs.declared.items.AsmProgram.{AsmProgram}
 use Rattle.ec_core.specs.Plain.{PlainProgram, plain_program}
 use Rattle.ec_core.specs.PortTable.{PlainTable, plain_table}
+use Rattle.ec_check.specs.Laws.{ProgramsAreTyped}
 use Rattle.ec_check.specs.Units.{program_of}
 use Rattle.ec_check_recursion.specs.Rows.{rows_of_program}
 use Rattle.ec_check_ports.specs.Ports.{ProgramsGoByNames}
@@ -26,6 +27,7 @@ use Rattle.ec_build.proofs.OneMap.{SameMaps, maps_same, look_alike, tables_same}
 use Rattle.ec_build.proofs.OnePlace.{places_same, image_same}
 
 pub record Laws : Type 0 where
+  pub typed : ProgramsAreTyped
   pub programs : ProgramsGoByNames
   pub lowered : LoweredIsMadeOf
   pub places : ValidOperationsHavePlaces
@@ -43,8 +45,8 @@ unfolding program_in
 programs_same laws sources text m n p q same a b =
     let units : b.units ≡ a.units = a.read.only b.units b.read.trees in
     ap (program_in p)
-    (sym a.program.typed ∙ laws.programs a.units m.io n.io (look_alike m n same)
-    ∙ (λ j. program_of (sym units j) n.io) ∙ b.program.typed)
+    (sym ((laws.typed.walked a.units m.io p).0 a.program.typed) ∙ laws.programs a.units m.io n.io (look_alike m n same)
+    ∙ (λ j. program_of (sym units j) n.io) ∙ (laws.typed.walked b.units n.io q).0 b.program.typed)
 
 -- ---- the image of a program
 

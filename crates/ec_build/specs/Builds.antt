@@ -9,7 +9,7 @@ use Rattle.ec_core.specs.PortTable.{plain_table}
 use Rattle.ec_core.specs.ValueTypes.{GiveBytes}
 use Rattle.ec_core.specs.Weight.{weight}
 use Rattle.ec_check_recursion.specs.Recursion.{NothingRecurs}
-use Rattle.ec_check.specs.Answers.{IsTyped, IsWithinLimits}
+use Rattle.ec_check.specs.Answers.{IsTyped, IsOnlyTyped, IsWithinLimits}
 use Rattle.ec_check.specs.Broken.{NothingIsBroken}
 use Rattle.ec_map.specs.declared.map.Map.{Map}
 use Rattle.ec_locate.specs.Placing.{scratch_needs}
@@ -28,12 +28,13 @@ pub record IsRead (sources : List (List ℕ)) (text : List ℕ) (m : Map) (units
   pub trees : AreUnits sources units
   pub only : (others : List t.Tree) → AreUnits sources others → others ≡ units
 
--- P is the typed program of trees: no limit, no constraint and no recursion stands against them
+-- P is the typed program of trees, and the only one: no limit, no constraint and no recursion stands against them
 pub record IsProgram (units : List t.Tree) (io : IoTable) (p : PlainProgram) : Type 0 where
   pub limits : IsWithinLimits units
   pub unbroken : NothingIsBroken units io
   pub typed : IsTyped units io p
   pub loopless : NothingRecurs p
+  pub only : IsOnlyTyped units io p
 
 -- the map, and the typed program of the sources
 pub record IsChecked (sources : List (List ℕ)) (text : List ℕ) (m : Map) (p : PlainProgram) : Type 0 where

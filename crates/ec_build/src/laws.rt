@@ -1,6 +1,7 @@
 //! The law of builds: it is proved by a function that does nothing.
 ghost use Rattle.ec_build.specs.Images.{BuildsHaveOneImage};
 
+use ec_check::programs_are_typed;
 use ec_check_ports::programs_go_by_names;
 use ec_lower_code::lowered_is_made_of_its_program;
 use ec_select_live::valid_operations_have_places;
@@ -11,6 +12,7 @@ use ec_select_operations::needed_functions_are_written;
 pub fn builds_have_one_image()
     ensures { BuildsHaveOneImage }
 {
+    programs_are_typed();
     programs_go_by_names();
     lowered_is_made_of_its_program();
     valid_operations_have_places();

@@ -1,36 +1,35 @@
 -- What units add to the program is what the walk adds, so the program of the relation is that of the walk.
 use Rattle.std.proofs.Common.{◌≡◌, ◌∙◌, ◌+◌, ◌<◌, ◌≤◌, ℕ, Bool, true, false, ◌&&◌, List, [], ◌∷◌, ◌++◌, length, append_assoc, refl, sym, ap, subst, arith}
-use Rattle.std.specs.Prelude.{◌↔◌, if◌then◌else◌, nat_lt, nat_le, option_map, Option, Some, None}
-use Rattle.std.proofs.lemmas.Bool.{false≢true, and_from}
+use Rattle.std.specs.Prelude.{if◌then◌else◌, nat_le, Option, Some, None}
+use Rattle.std.proofs.lemmas.Bool.{false≢true}
 use Rattle.std.proofs.lemmas.Bool.Decides.{Decides-ltb, nat_tests}
 use Rattle.std.proofs.lemmas.List.{append-nil}
 use Rattle.ec_grammar.specs.declared.Pragma.{Pragma}
 use Rattle.ec_grammar.specs.declared.Spot.{Spot}
 use Rattle.ec_grammar.specs.Trees as t
 use Rattle.ec_iohw.specs.declared.table.IoTable.{IoTable}
-use Rattle.ec_core.specs.Plain.{PlainType, PlainStmt, PlainObject, PlainStorage, param, PlainFunction, PlainProgram}
+use Rattle.ec_core.specs.Plain.{PlainType, PlainStmt, PlainObject, param, PlainFunction, PlainProgram}
 use Rattle.ec_check_names.specs.Definitions.{Definition, definitions}
 use Rattle.ec_check_declarations.specs.Functions.{FunctionDeclared}
 use Rattle.ec_check_declarations.specs.Params.{ParamDeclared}
-use Rattle.ec_check_declarations.specs.Scopes.{Context, Scope, has_room, made_number, inner_object, with_inner}
+use Rattle.ec_check_declarations.specs.Scopes.{Context, Scope, has_room, made_number, with_inner}
 use Rattle.ec_check_statements.specs.Around.{Around}
 use Rattle.ec_check_statements.specs.Statements.{body_of, after_body}
-use Rattle.ec_check_file_scope.specs.FileFunctions.{function_link, function_name, function_named}
 use Rattle.ec_check_file_scope.specs.States.{Setting, State, context_of, with_scope, broken, in_unit, nothing_declared}
 use Rattle.ec_check_parts.specs.Laws.{inside_of, outside_of}
 use Rattle.ec_check_parts.specs.Places.{Inside}
-use Rattle.ec_check_parts.specs.Units.{Outside, inside_at, behind_function, function_at, behind_external, behind_unit, context_at}
-use Rattle.ec_check_typed.specs.Laws.{around, AreAdded, place_of, IsFurther, IsSaid, StatementsAreSaid, FileScopeIsSaid}
+use Rattle.ec_check_parts.specs.Units.{Outside, function_at, behind_external, behind_unit}
+use Rattle.ec_check_typed.specs.Laws.{AreAdded, place_of, IsFurther, IsSaid, StatementsAreSaid, FileScopeIsSaid}
 use Rattle.ec_check_typed.specs.Statements.{Enclosing, declaring, IsBody}
-use Rattle.ec_check_typed.specs.Units as unit
+use Rattle.ec_check_typed.specs.Units as units
 use Rattle.ec_check_typed.specs.Units.{Added, nothing, both, Place, past, param_object, AreParams, IsFunction, Adds, AddAll, begins}
 use Rattle.ec_check_typed.specs.Units.{UnitsAdd, first_place, Typed}
-use Rattle.ec_check_typed.proofs.FileScope.{nothing_further, further_then, named_further, place_behind}
-use Rattle.ec_check_typed.proofs.Locals.{Behind, nothing_behind, added_then, declaring_both, inner_behind, longer}
+use Rattle.ec_check_typed.proofs.FileScope.{nothing_further, further_then, place_behind}
+use Rattle.ec_check_typed.proofs.Locals.{Behind, nothing_behind, added_then, inner_behind, longer}
 use Rattle.ec_check.specs.Broken.{LeastIsFound}
 use Rattle.ec_check.specs.Laws.{ProgramsAreTyped, ProgramsExist}
-use Rattle.ec_check.specs.Definitions.{with_param, param_number, with_params, next_numbers, param_numbers, has_number, number_in, around_of}
-use Rattle.ec_check.specs.Definitions.{function_made, with_function, definition_declared, definition_word, named_definition, after_definition}
+use Rattle.ec_check.specs.Definitions.{with_param, param_number, with_params, next_numbers, param_numbers, has_number, number_in}
+use Rattle.ec_check.specs.Definitions.{function_made, with_function, named_definition, after_definition}
 use Rattle.ec_check.specs.Units.{main_of, after_external, after_externals, after_unit, setting_of, after_units, program_by, program_of}
 use Rattle.ec_check.proofs.Judged.{PartLaws, external_is, unit_is}
 
@@ -88,11 +87,11 @@ made_then unit function p ps s n ty ns os named typed room h =
 
 params_to : (unit function : ℕ) (i : Inside) (ps : List ParamDeclared) (ns : List ℕ) (os : List PlainObject)
     → AreParams unit function i ps ns os → (s : Scope) → inside_of s ≡ i → AreMade unit function ps s ns os
-params_to unit function _ _ _ _ unit.no_param = λ s e. record {
+params_to unit function _ _ _ _ units.no_param = λ s e. record {
   numbers = λ found. ap Some (sym (append-nil found));
   behind = nothing_behind s;
 }
-params_to unit function _ _ _ _ (unit.more_params {i = i} {p = p} {ps = ps} {n = n} {ty = ty} {ns = ns} {os = os} named typed room h) =
+params_to unit function _ _ _ _ (units.more_params {i = i} {p = p} {ps = ps} {n = n} {ty = ty} {ns = ns} {os = os} named typed room h) =
     λ s e.
     let left = (Decides-ltb (length s.objects) 65_536).1 (subst (λ (z : Inside). z.made < 65_536) (sym e) room) in
     let one = param_behind unit function p n ty s named typed left in
@@ -142,7 +141,7 @@ to_params : (unit function : ℕ) (ps : List ParamDeclared) (s : Scope) (found a
 to_params unit function [] s found all q = (
   [],
   [],
-  unit.no_param,
+  units.no_param,
   record { numbers = λ found. ap Some (sym (append-nil found)); behind = nothing_behind s },
   append-nil found ∙ inside q,
 )
@@ -155,7 +154,7 @@ to_params unit function (p ∷ ps) s found all q =
     let one = param_behind unit function p h.0 h.1 s h.2 h.3 h.4 in (
       length s.objects ∷ m.0,
       param_object unit function h.0 h.1 p.konst ∷ m.1,
-      unit.more_params h.2 h.3 ((Decides-ltb (length s.objects) 65_536).0 h.4)
+      units.more_params h.2 h.3 ((Decides-ltb (length s.objects) 65_536).0 h.4)
           (subst (λ (z : Inside). AreParams unit function z ps m.0 m.1) one.known m.2),
       made_then unit function p ps s h.0 h.1 m.0 m.1 h.2 h.3 h.4 m.3,
       sym (append_assoc found (length s.objects ∷ []) m.0) ∙ ap (λ (z : ℕ). (found ++ z ∷ []) ++ m.0) same ∙ m.4,
@@ -292,7 +291,7 @@ module _ (bodies : StatementsAreSaid) (r : Setting) (ss : t.Specs) (stars : List
           let m = bodies.given (w returns) c (length named.scope.names.inside) b (params (length s.functions)) body meant in (
             record { name = n; unit = r.unit; returns = returns; params = g.0; body = body },
             g.1 ++ m.0,
-            unit.a_function ((Decides-ltb (length s.functions) 65_536).0 room) typed g.2
+            units.a_function ((Decides-ltb (length s.functions) 65_536).0 room) typed g.2
                 (subst (λ (z : Inside). IsBody (w returns) c z b body m.0) g.3.behind.known m.1),
           )
 
@@ -321,11 +320,11 @@ module _ (bodies : StatementsAreSaid) (r : Setting) (ss : t.Specs) (stars : List
 module _ (parts : PartLaws) (file : FileScopeIsSaid) (bodies : StatementsAreSaid) where
   function_added : (r : Setting) (f : t.Function) (s : State) (a : Added) → Adds r (place_of s) (t.function_item f) a
       → IsFurther a s (after_definition r f s)
-  function_added r _ s _ (unit.by_function {f = f} {g = g} {os = os} h) = by f g os h
+  function_added r _ s _ (units.by_function {f = f} {g = g} {os = os} h) = by f g os h
     where
       by : (f : t.Function) (g : PlainFunction) (os : List PlainObject) → IsFunction r (place_of s) f g os
           → IsFurther (record { structs = []; objects = os; functions = g ∷ [] }) s (after_definition r f s)
-      by _ _ _ (unit.a_function {ss = ss} {stars = stars} {at = at} {l = l} {e = e} {n = n} {ps = ps} {b = b} {returns = returns} {ns = ns}
+      by _ _ _ (units.a_function {ss = ss} {stars = stars} {at = at} {l = l} {e = e} {n = n} {ps = ps} {b = b} {returns = returns} {ns = ns}
           {os = os} {us = us} {body = body} room typed h m) =
           definition_to bodies r ss stars at n l ps e b s returns ns os us body room typed h m
 
@@ -333,11 +332,11 @@ module _ (parts : PartLaws) (file : FileScopeIsSaid) (bodies : StatementsAreSaid
       → (a : Added) × Adds r (place_of s) (t.function_item f) a
   function_said r (t.function (t.type_name ss stars) (t.identifier at n) l ps e b) s h =
       let g = to_definition bodies r ss stars at n l ps e b s h in
-      (record { structs = []; objects = g.1; functions = g.0 ∷ [] }, unit.by_function g.2)
+      (record { structs = []; objects = g.1; functions = g.0 ∷ [] }, units.by_function g.2)
 
   pragma_added : (r : Setting) (q : Pragma) (s : State) (a : Added) → Adds r (place_of s) (t.pragma_item q) a
       → IsFurther a s (after_external r (t.pragma_item q) s)
-  pragma_added r q s _ unit.by_pragma = record {
+  pragma_added r q s _ units.by_pragma = record {
     whole = refl;
     structs = sym (append-nil s.structs);
     objects = sym (append-nil s.scope.objects);
@@ -345,7 +344,7 @@ module _ (parts : PartLaws) (file : FileScopeIsSaid) (bodies : StatementsAreSaid
   }
 
   external_said : (r : Setting) (x : t.External) (s : State) → IsSaid (Adds r (place_of s) x) s (after_external r x s)
-  external_said r (t.pragma_item q) s = record { added = pragma_added r q s; there = λ h. (nothing, unit.by_pragma) }
+  external_said r (t.pragma_item q) s = record { added = pragma_added r q s; there = λ h. (nothing, units.by_pragma) }
   external_said r (t.structure_item d) s = file.structures r d s
   external_said r (t.register_item d) s = file.registers r d s
   external_said r (t.declaration_item d) s = file.declarations r d s
@@ -358,8 +357,8 @@ module _ (parts : PartLaws) (file : FileScopeIsSaid) (bodies : StatementsAreSaid
 
   externals_to : (r : Setting) (p : Place) (xs : List t.External) (a : Added) → AddAll r p xs a → (s : State) → place_of s ≡ p
       → IsFurther a s (after_externals r xs s)
-  externals_to r _ _ _ unit.no_external = λ s e. nothing_further s
-  externals_to r _ _ _ (unit.more_externals {p = p} {x = x} {xs = xs} {a = a} {b = b} h m) =
+  externals_to r _ _ _ units.no_external = λ s e. nothing_further s
+  externals_to r _ _ _ (units.more_externals {p = p} {x = x} {xs = xs} {a = a} {b = b} h m) =
       λ s e.
       let next = after_external r x s in
       let one = (external_said r x s).added a (subst (λ (z : Place). Adds r z x a) (sym e) h) in
@@ -377,13 +376,13 @@ module _ (parts : PartLaws) (file : FileScopeIsSaid) (bodies : StatementsAreSaid
 
   externals_there : (r : Setting) (xs : List t.External) (s : State) → (after_externals r xs s).whole ≡ true
       → (a : Added) × AddAll r (place_of s) xs a
-  externals_there r [] s h = (nothing, unit.no_external)
+  externals_there r [] s h = (nothing, units.no_external)
   externals_there r (x ∷ xs) s h =
       let next = after_external r x s in
       let g = (external_said r x s).there (externals_whole r xs next h) in
       let one = (external_said r x s).added g.0 g.1 in
       let m = externals_there r xs next h in
-      (both g.0 m.0, unit.more_externals g.1 (subst (λ (z : Place). AddAll r z xs m.0) (next_place r x s g.0 one) m.1))
+      (both g.0 m.0, units.more_externals g.1 (subst (λ (z : Place). AddAll r z xs m.0) (next_place r x s g.0 one) m.1))
 
   -- ---- units
 
@@ -397,8 +396,8 @@ module _ (parts : PartLaws) (file : FileScopeIsSaid) (bodies : StatementsAreSaid
 
   units_to : (ds : List Definition) (io : IoTable) (n : ℕ) (p : Place) (us : List t.Tree) (a : Added) → UnitsAdd ds io n p us a
       → (s : State) → place_of s ≡ p → IsFurther a s (after_units ds io n us s)
-  units_to ds io _ _ _ _ unit.no_unit = λ s e. nothing_further s
-  units_to ds io _ _ _ _ (unit.more_units {unit = n} {p = p} {xs = xs} {e = z} {us = us} {a = a} {b = b} h m) =
+  units_to ds io _ _ _ _ units.no_unit = λ s e. nothing_further s
+  units_to ds io _ _ _ _ (units.more_units {unit = n} {p = p} {xs = xs} {e = z} {us = us} {a = a} {b = b} h m) =
       λ s e.
       let r = setting_of ds io n in
       let next = after_unit r (t.tree xs z) s in
@@ -416,14 +415,14 @@ module _ (parts : PartLaws) (file : FileScopeIsSaid) (bodies : StatementsAreSaid
 
   units_there : (ds : List Definition) (io : IoTable) (n : ℕ) (us : List t.Tree) (s : State)
       → (after_units ds io n us s).whole ≡ true → (a : Added) × UnitsAdd ds io n (place_of s) us a
-  units_there ds io n [] s h = (nothing, unit.no_unit)
+  units_there ds io n [] s h = (nothing, units.no_unit)
   units_there ds io n (t.tree xs z ∷ us) s h =
       let r = setting_of ds io n in
       let next = after_unit r (t.tree xs z) s in
       let g = externals_there r xs (in_unit s) (units_whole ds io (n + 1) us next h) in
       let one = from_start s next g.0 (externals_to r (begins (place_of s)) xs g.0 g.1 (in_unit s) refl) in
       let m = units_there ds io (n + 1) us next h in
-      (both g.0 m.0, unit.more_units g.1 (subst (λ (q : Place). UnitsAdd ds io (n + 1) q us m.0) (unit_place r xs z s g.0 one) m.1))
+      (both g.0 m.0, units.more_units g.1 (subst (λ (q : Place). UnitsAdd ds io (n + 1) q us m.0) (unit_place r xs z s g.0 one) m.1))
 
 -- ---- how many functions there are
 
@@ -437,26 +436,26 @@ few_both p o a b h m le =
     omega (arith, there, two)
 
 few_added : (r : Setting) (p : Place) (x : t.External) (a : Added) → Adds r p x a → FewFunctions p a
-few_added r p _ _ unit.by_pragma = λ le. omega (arith, le)
-few_added r p _ _ (unit.by_struct h) = λ le. omega (arith, le)
-few_added r p _ _ (unit.by_register h) = λ le. omega (arith, le)
-few_added r p _ _ (unit.by_declaration h) = λ le. omega (arith, le)
-few_added r p _ _ (unit.by_function {f = f} {g = g} {os = os} h) = by f g os h
+few_added r p _ _ units.by_pragma = λ le. omega (arith, le)
+few_added r p _ _ (units.by_struct h) = λ le. omega (arith, le)
+few_added r p _ _ (units.by_register h) = λ le. omega (arith, le)
+few_added r p _ _ (units.by_declaration h) = λ le. omega (arith, le)
+few_added r p _ _ (units.by_function {f = f} {g = g} {os = os} h) = by f g os h
   where
     by : (f : t.Function) (g : PlainFunction) (os : List PlainObject) → IsFunction r p f g os → p.functions ≤ 65_536
         → p.functions + 1 ≤ 65_536
-    by _ _ _ (unit.a_function room typed h m) le = omega (arith, room)
+    by _ _ _ (units.a_function room typed h m) le = omega (arith, room)
 
 few_externals : (r : Setting) (p : Place) (xs : List t.External) (a : Added) → AddAll r p xs a → FewFunctions p a
-few_externals r _ _ _ (unit.no_external {p = p}) = λ le. omega (arith, le)
-few_externals r _ _ _ (unit.more_externals {p = p} {x = x} {xs = xs} {a = a} {b = b} h m) =
+few_externals r _ _ _ (units.no_external {p = p}) = λ le. omega (arith, le)
+few_externals r _ _ _ (units.more_externals {p = p} {x = x} {xs = xs} {a = a} {b = b} h m) =
     few_both p (behind_external r x p.known) a b (few_added r p x a h)
     (few_externals r (past a (behind_external r x p.known) p) xs b m)
 
 few_units : (ds : List Definition) (io : IoTable) (n : ℕ) (p : Place) (us : List t.Tree) (a : Added) → UnitsAdd ds io n p us a
     → FewFunctions p a
-few_units ds io _ _ _ _ (unit.no_unit {p = p}) = λ le. omega (arith, le)
-few_units ds io _ _ _ _ (unit.more_units {unit = n} {p = p} {xs = xs} {e = z} {us = us} {a = a} {b = b} h m) =
+few_units ds io _ _ _ _ (units.no_unit {p = p}) = λ le. omega (arith, le)
+few_units ds io _ _ _ _ (units.more_units {unit = n} {p = p} {xs = xs} {e = z} {us = us} {a = a} {b = b} h m) =
     let r = setting_of ds io n in
     few_both p (behind_unit r (t.tree xs z) p.known) a b (few_externals r (begins p) xs a h)
     (few_units ds io (n + 1) (past a (behind_unit r (t.tree xs z) p.known) p) us b m)
@@ -472,11 +471,13 @@ module _ (parts : PartLaws) (file : FileScopeIsSaid) (bodies : StatementsAreSaid
       ≡ Some (record { structs = a.structs; objects = a.objects; functions = a.functions; main = start })
   program_at a start e h =
       let g = units_to parts file bodies (definitions us) io 0 first_place us a h nothing_declared refl in
-      let few = few_units (definitions us) io 0 first_place us a h (omega arith) in
+      let added = few_units (definitions us) io 0 first_place us a h (omega arith) in
+      let few : length a.functions ≤ 65_536 = omega (arith, added) in
       let count : length behind.functions ≤ 65_536 = subst (λ z. length z ≤ 65_536) (sym g.functions) few in
+      let fits : nat_le (length behind.functions) 65_536 ≡ true = grind (arith, nat_tests, count) in
       ap (λ z. program_by z behind) e
       ∙ ap (λ (b : Bool). if b && nat_le (length behind.functions) 65_536 then Some (made start) else None) g.whole
-      ∙ ap (λ (b : Bool). if b then Some (made start) else None) (grind (arith, nat_tests, count))
+      ∙ ap (λ (b : Bool). if b then Some (made start) else None) fits
       ∙ ap (λ z. Some (record { structs = z; objects = behind.scope.objects; functions = behind.functions; main = start })) g.structs
       ∙ ap (λ z. Some (record { structs = a.structs; objects = z; functions = behind.functions; main = start })) g.objects
       ∙ ap (λ z. Some (record { structs = a.structs; objects = a.objects; functions = z; main = start })) g.functions
@@ -486,7 +487,7 @@ module _ (parts : PartLaws) (file : FileScopeIsSaid) (bodies : StatementsAreSaid
           record { structs = behind.structs; objects = behind.scope.objects; functions = behind.functions; main = start }
 
   typed_to : (p : PlainProgram) → Typed us io p → program_of us io ≡ Some p
-  typed_to _ (unit.typed {a = a} {start = start} h e) = program_at a start e h
+  typed_to _ (units.typed {a = a} {start = start} h e) = program_at a start e h
 
   to_typed : (p : PlainProgram) → program_of us io ≡ Some p → Typed us io p
   to_typed p q = by (main_of (definitions us)) refl q
@@ -496,7 +497,7 @@ module _ (parts : PartLaws) (file : FileScopeIsSaid) (bodies : StatementsAreSaid
           → Typed us io p
       whole start true c w e f =
           let g = units_there parts file bodies (definitions us) io 0 us nothing_declared w in
-          subst (λ (z : PlainProgram). Typed us io z) (inside (sym (program_at g.0 start e g.1) ∙ q)) (unit.typed g.1 e)
+          subst (λ (z : PlainProgram). Typed us io z) (inside (sym (program_at g.0 start e g.1) ∙ q)) (units.typed g.1 e)
       whole start false c w e f = absurd (nothing_there p f)
 
       by : (start : Option ℕ) → main_of (definitions us) ≡ start → program_by start behind ≡ Some p → Typed us io p

@@ -9,4 +9,8 @@ mod Bodies
 mod Programs
 mod Linkages
 mod ConstantForms
+mod Items
+mod Definers
+mod Order
+mod Functions
 mod Samples

@@ -12,7 +12,8 @@ use Rattle.ec_check_names.specs.declared.specifiers.StorageWord.{StorageWord}
 use Rattle.ec_check_names.specs.declared.specifiers.StorageWord.TheVariants.{Extern, Static}
 use Rattle.ec_check_names.specs.Linkage.{linkage_of}
 use Rattle.ec_check_file_scope.specs.FileNames.{FileName, link_from, earlier_link}
-use Rattle.ec_check_tokens.specs.Linkages.{Declares, NoneDeclares, IsPrior, last, later, HasLinkage, static, as_before, first, as_extern, object}
+use Rattle.ec_check_tokens.specs.Linkages.{Declares, NoneDeclares, IsPrior, last, later, HasLinkage, static, as_before, first}
+use Rattle.ec_check_tokens.specs.Linkages.{as_extern, object}
 use Rattle.ec_check_tokens.specs.Linkages.{LinkagesAreFound}
 
 module _ (n : List ℕ) (unit : ℕ) where

@@ -2,6 +2,7 @@
 use Rattle.std.proofs.Common.{◌≡◌, ◌∙◌, ◌+◌, ℕ, suc, Bool, true, false, not, ◌&&◌, List, [], ◌∷◌, ◌++◌, length, refl, sym, subst, arith}
 use Rattle.std.specs.Prelude.{Option, Some, None, IfSome, slice_get, ⊤, nat_le}
 use Rattle.std.specs.List.{AllByRecursion}
+use Rattle.std.proofs.lemmas.Bool.{false≢true}
 use Rattle.ec_grammar.specs.declared.Spot.{Spot}
 use Rattle.ec_grammar.specs.Grammar as g
 use Rattle.ec_grammar.specs.Spelling as of
@@ -26,7 +27,8 @@ use Rattle.ec_check_file_scope.specs.FileObjects.{initial_leaves, after_object, 
 use Rattle.ec_check_file_scope.specs.FileObjects.{after_register}
 use Rattle.ec_check_file_scope.specs.FileScope.{after_declarator, after_more, after_declaration, after_structure}
 use Rattle.ec_check_file_scope.specs.States.{Setting, State, known_of, context_of, with_scope, with_name, broken, nothing_declared, in_unit}
-use Rattle.ec_check.specs.Answers.{IsTyped}
+use Rattle.ec_check.specs.Answers.{IsWalked}
+use Rattle.ec_check.specs.Laws.{ProgramsAreTyped}
 use Rattle.ec_check.specs.Definitions.{has_number, function_made, with_function, params_in, numbers_in, body_in, definition_declared}
 use Rattle.ec_check.specs.Definitions.{named_definition, after_definition}
 use Rattle.ec_check.specs.Units.{after_external, after_externals, after_unit, setting_of, after_units, main_of, program_by}
@@ -44,21 +46,23 @@ use Rattle.ec_check_tokens.proofs.Values.{ExpressionLaws, all_append}
 pub record Leaves (s z : State) : Type 0 where
   pub modes : z.modes ≡ s.modes
   pub functions : z.functions ≡ s.functions
+  pub whole : z.whole ≡ true → s.whole ≡ true
 
 object_leaves : (o : Option PlainObject) (s : State) → Leaves s (with_object o s)
-object_leaves None s = record { modes = refl; functions = refl }
+object_leaves None s = record { modes = refl; functions = refl; whole = λ w. absurd (false≢true w) }
 object_leaves (Some o) s =
     if_both (Leaves s) (has_room s.scope.objects)
     (with_scope (record { names = s.scope.names; objects = s.scope.objects ++ o ∷ [] }) s) (broken s)
-    (λ q. record { modes = refl; functions = refl }) (λ q. record { modes = refl; functions = refl })
+    (λ q. record { modes = refl; functions = refl; whole = λ w. w })
+    (λ q. record { modes = refl; functions = refl; whole = λ w. absurd (false≢true w) })
 
 defined_leaves : (b : Bool) (o : Option PlainObject) (s : State) → Leaves s (with_defined b o s)
-defined_leaves false o s = record { modes = refl; functions = refl }
+defined_leaves false o s = record { modes = refl; functions = refl; whole = λ w. w }
 defined_leaves true o s = object_leaves o s
 
 -- behind a name
-behind_name : (s m z : State) → m.modes ≡ s.modes → m.functions ≡ s.functions → Leaves m z → Leaves s z
-behind_name s m z e f l = record { modes = l.modes ∙ e; functions = l.functions ∙ f }
+behind_name : (s m z : State) → Leaves s m → Leaves m z → Leaves s z
+behind_name s m z h l = record { modes = l.modes ∙ h.modes; functions = l.functions ∙ h.functions; whole = λ w. h.whole (l.whole w) }
 
 object_declarator_leaves : (r : Setting) (said : Specified) (word : Option Storage) (stars : List t.Star) (at : Spot) (n : List ℕ)
     (shape : t.Shape) (start : Option t.Start) (s : State)
@@ -68,7 +72,7 @@ object_declarator_leaves r said word stars at n shape start s =
     let link = link_of r (word_of word) n s in
     let defined = is_defined (word_of word) false in
     let m = named_in r n link defined o s in
-    behind_name s m _ refl refl
+    behind_name s m _ (record { modes = refl; functions = refl; whole = λ w. w })
     (defined_leaves defined (object_made r n link o o.ty (initial_leaves (known_of r.ports m) start o.ty)) m)
 
 declarator_leaves : (r : Setting) (said : Specified) (word : Option Storage) (d : t.InitDeclarator) (s : State)
@@ -78,32 +82,34 @@ declarator_leaves r said word (t.init_declarator (t.declarator stars (t.identifi
 declarator_leaves r said word (t.init_declarator (t.declarator stars (t.identifier at n) (t.array l c e)) start) s =
     object_declarator_leaves r said word stars at n (t.array l c e) start s
 declarator_leaves r said word (t.init_declarator (t.declarator stars (t.identifier at n) (t.function_shape l ps e)) start) s =
-    record { modes = refl; functions = refl }
+    record { modes = refl; functions = refl; whole = λ w. w }
 
 more_leave : (r : Setting) (said : Specified) (word : Option Storage) (ds : List t.NextInitDeclarator) (s : State)
     → Leaves s (after_more r said word ds s)
-more_leave r said word [] s = record { modes = refl; functions = refl }
+more_leave r said word [] s = record { modes = refl; functions = refl; whole = λ w. w }
 more_leave r said word (t.next_init_declarator comma d ∷ ds) s =
     let one = declarator_leaves r said word d s in
-    behind_name s (after_declarator r said word d s) _ one.modes one.functions
+    behind_name s (after_declarator r said word d s) _ one
     (more_leave r said word ds (after_declarator r said word d s))
 
-declaration_leaves : (r : Setting) (d : t.Declaration) (s : State) → Leaves s (after_declaration r d s)
+pub declaration_leaves : (r : Setting) (d : t.Declaration) (s : State) → Leaves s (after_declaration r d s)
 declaration_leaves r (t.declaration ss first more e) s =
     let said = specified s.tags ss in
     let word = (storages_of ss).first in
     let one = declarator_leaves r said word first s in
-    behind_name s (after_declarator r said word first s) _ one.modes one.functions
+    behind_name s (after_declarator r said word first s) _ one
     (more_leave r said word more (after_declarator r said word first s))
 
-register_leaves : (r : Setting) (d : t.RegisterObject) (s : State) → Leaves s (after_register r d s)
+pub register_leaves : (r : Setting) (d : t.RegisterObject) (s : State) → Leaves s (after_register r d s)
 register_leaves r (t.register_object w reg ss (t.identifier at n) e) s =
     let o = register_declared (known_of r.ports s) (t.register_object w reg ss (t.identifier at n) e) in
     let m = with_name n (register_named r n o) (register_name r n o) s in
-    behind_name s m _ refl refl (defined_leaves (not (is_registered n s.declared)) (register_made r n o o.first o.ty) m)
+    behind_name s m _ (record { modes = refl; functions = refl; whole = λ w. w })
+    (defined_leaves (not (is_registered n s.declared)) (register_made r n o o.first o.ty) m)
 
-structure_leaves : (r : Setting) (d : t.Structure) (s : State) → Leaves s (after_structure r d s)
-structure_leaves r (t.structure w (t.identifier at tag) l first more e semicolon) s = record { modes = refl; functions = refl }
+pub structure_leaves : (r : Setting) (d : t.Structure) (s : State) → Leaves s (after_structure r d s)
+structure_leaves r (t.structure w (t.identifier at tag) l first more e semicolon) s =
+    record { modes = refl; functions = refl; whole = λ w. w }
 
 module _ (texts : ℕ → List Placed) (laws : ExpressionLaws) where
   abbrev Kept : List PlainFunction → Type 0
@@ -208,7 +214,7 @@ module _ (texts : ℕ → List Placed) (laws : ExpressionLaws) where
       if_both (λ o. IfSome o (λ (p : PlainProgram). Kept p.functions)) (s.whole && nat_le (length s.functions) 65_536)
       (Some (record { structs = s.structs; objects = s.scope.objects; functions = s.functions; main = main })) None (λ q. k) (λ q. tt)
 
-  tokens_say : (us : List t.Tree) (io : IoTable) (p : PlainProgram) → AreTexts texts us → IsTyped us io p → Kept p.functions
+  tokens_say : (us : List t.Tree) (io : IoTable) (p : PlainProgram) → AreTexts texts us → IsWalked us io p → Kept p.functions
   tokens_say us io p h e =
       let s = after_units (definitions us) io 0 us nothing_declared in
       subst (λ (o : Option PlainProgram). IfSome o (λ p. Kept p.functions)) e
@@ -216,5 +222,5 @@ module _ (texts : ℕ → List Placed) (laws : ExpressionLaws) where
       (units_keep (definitions us) io 0 us nothing_declared
       (are_texts_from 0 us (λ n u e. let here : n ≡ 0 + n = omega arith in subst (λ (n : ℕ). g.Derives (texts n) u) here (h n u e))) tt))
 
-pub tokens_say_modes : ExpressionLaws → TokensSayModes
-tokens_say_modes laws us io p texts h e = tokens_say texts laws us io p h e
+pub tokens_say_modes : ExpressionLaws → ProgramsAreTyped → TokensSayModes
+tokens_say_modes laws typed us io p texts h e = tokens_say texts laws us io p h ((typed.walked us io p).0 e)

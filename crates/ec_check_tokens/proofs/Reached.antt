@@ -1,14 +1,16 @@
 -- Where reading the tokens of a unit has come: those that are left, and the overflow states there.
 use Rattle.std.proofs.Common.{◌≡◌, ◌<◌, ◌∙◌, ℕ, suc, true, false, List, [], ◌∷◌, ◌++◌, length, refl, sym, ap, subst, arith}
-use Rattle.std.specs.Prelude.{take, ⊤}
+use Rattle.std.specs.Prelude.{take, slice_get, Option, Some, ⊤}
+use Rattle.ec_core.specs.Plain.{PlainKind}
 use Rattle.ec_grammar.specs.declared.token.PunctKind.{PunctKind}
 use Rattle.ec_grammar.specs.declared.token.PunctKind.TheVariants.{LeftBrace, RightBrace}
 use Rattle.ec_grammar.specs.Grammar.{leaves_from, is_assign, is_step, is_prefix, is_access, level_of}
-use Rattle.ec_grammar.specs.Tokens.{punct, Placed}
+use Rattle.ec_grammar.specs.Tokens.{Lexeme, punct, Placed}
 use Rattle.ec_grammar.specs.Trees.{Leaf}
 use Rattle.ec_check_operands.specs.declared.operands.Modes.{Modes}
 use Rattle.ec_check_tokens.specs.States.{at_first, behind_token, behind_tokens, innermost, state_at}
 use Rattle.ec_check_tokens.specs.FirstTokens.{BeginsAt}
+use Rattle.ec_check_tokens.specs.NodeStates.{Begins, StandsAt}
 
 -- these leaves are left of the tokens, and behind those before them these are the states
 pub record Reached (tokens : List Placed) (left : List Leaf) (states : List Modes) : Type 0 where
@@ -86,6 +88,34 @@ state_there tokens (x ∷ xs) states n r h = by r.before r.behind r.whole r.leav
         let read : take n tokens ≡ before =
         ap (take n) whole ∙ ap (λ (k : ℕ). take k (before ++ y ∷ ys)) (sym index) ∙ taken before (y ∷ ys)
         in ap innermost (sym now) ∙ ap (λ (l : List Placed). innermost (behind_tokens l (at_first ∷ []))) (sym read)
+
+-- what stands at a place of a list behind others
+found : (before : List Placed) (y : Placed) (ys : List Placed) → slice_get (before ++ y ∷ ys) (length before) ≡ Some y
+found [] y ys = refl
+found (x ∷ before) y ys = found before y ys
+
+-- the first token holds for a statement of a kind
+abbrev pub HeadBegins : List Leaf → PlainKind → Type 0
+HeadBegins [] kind = ⊥
+HeadBegins (x ∷ xs) kind = Begins x.lexeme kind
+
+-- the token that is next stands there
+pub stands_there : (tokens : List Placed) (left : List Leaf) (states : List Modes) (n : ℕ) (kind : PlainKind)
+    → Reached tokens left states → BeginsAt left n → HeadBegins left kind → StandsAt (slice_get tokens n) kind
+unfolding head_or IsMore
+stands_there tokens [] states n kind r h k = absurd h
+stands_there tokens (x ∷ xs) states n kind r h k = by r.before r.behind r.whole r.leaves
+  where
+    by : (before behind : List Placed) → tokens ≡ before ++ behind → x ∷ xs ≡ leaves_from (length before) behind
+        → StandsAt (slice_get tokens n) kind
+    by before [] whole leaves = absurd (subst IsMore leaves tt)
+    by before (y ∷ ys) whole leaves =
+        let index : length before ≡ n = sym (ap (λ (l : Leaf). l.spot.index) (ap (head_or x) leaves)) ∙ h in
+        let read : slice_get tokens n ≡ Some y =
+        ap (λ (l : List Placed). slice_get l n) whole ∙ ap (λ (k : ℕ). slice_get (before ++ y ∷ ys) k) (sym index)
+        ∙ found before y ys
+        in subst (λ (o : Option Placed). StandsAt o kind) (sym read)
+        (subst (λ (z : Lexeme). Begins z kind) (ap (λ (l : Leaf). l.lexeme) (ap (head_or x) leaves)) k)
 
 -- ---- operators are no braces
 

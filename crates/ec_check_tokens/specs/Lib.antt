@@ -5,4 +5,6 @@ pub mod Parts
 pub mod NodeStates
 pub mod Linkages
 pub mod ConstantForms
+pub mod Items
+pub mod Definers
 pub mod Laws

@@ -2,9 +2,13 @@
 ghost use Rattle.ec_check_tokens.specs.Laws.{TokensSayStates, TokensSayModes};
 ghost use Rattle.ec_check_tokens.specs.FirstTokens.{PartsBeginAtFirstTokens};
 ghost use Rattle.ec_check_tokens.specs.Linkages.{LinkagesAreFound};
+ghost use Rattle.ec_check_tokens.specs.Items.{ItemsHaveValues};
+ghost use Rattle.ec_check_tokens.specs.Definers.{DefinersDefine, DefinersAreInOrder, FunctionsAreInOrder};
 ghost use Rattle.ec_check_tokens.specs.ConstantForms.{ConstantsAreTold};
 
+use ec_check::programs_are_typed;
 use ec_check_meanings::{modes_are_said, walk_gives_meanings};
+use ec_core::types_are_told;
 
 /// The overflow states that are known at each expression of a unit are those that the pragmas and braces before its first
 /// token say (ISO/IEC TR 18037:2008, 4.1.3).
@@ -17,6 +21,7 @@ pub fn tokens_say_states()
 pub fn tokens_say_modes()
     ensures { TokensSayModes }
 {
+    programs_are_typed();
     walk_gives_meanings();
     modes_are_said();
 }
@@ -38,4 +43,31 @@ pub fn constants_are_told()
     ensures { ConstantsAreTold }
 {
     walk_gives_meanings();
+}
+
+/// The definitions of all units by name are those of the declarators that define, in order (ISO/IEC 9899:1999, 6.9).
+pub fn definers_define()
+    ensures { DefinersDefine }
+{}
+
+/// The names of the declarators of a unit that define stand among its tokens, in order, at indices that rise.
+pub fn definers_are_in_order()
+    ensures { DefinersAreInOrder }
+{}
+
+/// The functions of the program of units stand in the order of their definitions, by unit and by token.
+pub fn functions_are_in_order()
+    ensures { FunctionsAreInOrder }
+{
+    programs_are_typed();
+}
+
+/// What an item of a static initialiser means in its place, and the initial value that it gives: a number, the null pointer or
+/// an address (ISO/IEC 9899:1999, 6.6 and 6.7.8).
+pub fn items_have_values()
+    ensures { ItemsHaveValues }
+{
+    types_are_told();
+    walk_gives_meanings();
+    constants_are_told();
 }

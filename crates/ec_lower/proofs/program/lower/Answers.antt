@@ -14,6 +14,3 @@ returns-clause-made c =
 pub returns-clause-valid : goal.returns-clause-valid
 returns-clause-valid c =
     rw (c.in_ok-ir.ensures) (c.lowered_is_made_of_its_program.ensures _ _ c.requires.valid c.read_groups.ensures).valid
-
-pub returns-clause-shapes : goal.returns-clause-shapes
-returns-clause-shapes c = rw (c.in_ok-ir.ensures) (c.lowered_counts_by_shapes.ensures _ _ c.requires.valid)
