@@ -87,12 +87,13 @@ first_fault ds io unit (u ∷ us) s =
 
 -- ---- the program
 
+-- the structs, objects and functions that a walk has come to
+abbrev pub program_in : (main : ℕ) → State → PlainProgram
+program_in main s = record { structs = s.structs; objects = s.scope.objects; functions = s.functions; main = main }
+
 abbrev pub program_by : Option ℕ → State → Option PlainProgram
 program_by None s = None
-program_by (Some main) s =
-    if s.whole && nat_le (length s.functions) 65_536
-    then Some
-    (record { structs = s.structs; objects = s.scope.objects; functions = s.functions; main = main }) else None
+program_by (Some main) s = if s.whole && nat_le (length s.functions) 65_536 then Some (program_in main s) else None
 
 -- the program of units: structs, objects and functions in the order of their definitions
 abbrev pub program_of : List t.Tree → IoTable → Option PlainProgram

@@ -8,7 +8,7 @@ ghost use Rattle.ec_grammar.specs.Views.{view_tree};
 ghost use Rattle.ec_check_names.specs.Definitions.{plain_definitions};
 ghost use Rattle.ec_check_file_scope.specs.States.{plain_state, IsSoundState};
 ghost use Rattle.ec_check.specs.Answers.{Walks, HasFewFunctions, HasStructs, Recurs, FollowsWalk, Checked};
-ghost use Rattle.ec_check.specs.Units.{main_of, is_last, after_units, first_fault, program_by};
+ghost use Rattle.ec_check.specs.Units.{main_of, is_last, after_units, first_fault, program_in, program_by};
 ghost use Rattle.ec_check.specs.Answers.{plain_unit_fault};
 ghost use Rattle.ec_check.specs.Laws.{AreShort};
 ghost use Rattle.ec_check.specs.Validity.{HoldNumbers};
@@ -92,17 +92,13 @@ fn walk_units(
     Ok(None)
 }
 
-fn program_by(main: Option<u16>, state: State) -> Option<Program>
+/// The program that a walk over the units has come to.
+fn program_in(main: u16, state: State) -> Program
     requires sound { IsSoundState (plain_state state) }
-    ensures structs { IfSome result (λ p. AreStructs (map plain_struct p.structs.items)) }
-    ensures value { option_map plain_program result ≡ program_by main (plain_state state) }
-    ensures few { IfSome result (λ p. length p.funcs.items ≤ 65_536) }
+    ensures structs { AreStructs (map plain_struct result.structs.items) }
+    ensures value { plain_program result ≡ program_in main (plain_state state) }
+    ensures few { result.funcs.items ≡ state.functions.items }
 {
-    let whole = state.whole && state.functions.len() <= 65_536;
-    let Some(main) = main.filter(|_| whole) else {
-        drop(state);
-        return None;
-    };
     let State {
         scope,
         tags,
@@ -113,12 +109,35 @@ fn program_by(main: Option<u16>, state: State) -> Option<Program>
     } = state;
     let Scope { names, objects } = scope;
     drop((names, tags, declared));
-    Some(Program {
+    Program {
         structs: structs.into_list(),
         objs: objects,
         funcs: functions,
         main,
-    })
+    }
+}
+
+fn program_by(main: Option<u16>, state: State) -> Option<Program>
+    requires sound { IsSoundState (plain_state state) }
+    ensures structs { IfSome result (λ p. AreStructs (map plain_struct p.structs.items)) }
+    ensures value { option_map plain_program result ≡ program_by main (plain_state state) }
+    ensures few { IfSome result (λ p. length p.funcs.items ≤ 65_536) }
+{
+    let whole = state.whole && state.functions.len() <= 65_536;
+    match main {
+        Some(main) => {
+            if whole {
+                Some(program_in(main, state))
+            } else {
+                drop(state);
+                None
+            }
+        }
+        None => {
+            drop(state);
+            None
+        }
+    }
 }
 
 /// The program of the units, or None where not all of it has a meaning.

@@ -233,8 +233,8 @@ module _ (laws : RunLaws) (p : PlainIrProgram) (asm : AsmProgram) (e : Env) (pla
       let t = target_is o d q i in
       let high = out.high in
       let last = out.kind (n - 1) (omega arith) in
-      let may : may_be Object size (place o + (n - 1)) ≡ true =
-      subst (λ (k : Kind). may_be k size (place o + (n - 1)) ≡ true) last (fits.kinds (place o + (n - 1))) in
+      let may : may_be e.core Object size (place o + (n - 1)) ≡ true =
+      subst (λ (k : Kind). may_be e.core k size (place o + (n - 1)) ≡ true) last (fits.kinds (place o + (n - 1))) in
       let below : place o + (n - 1) < size =
       ltb-true (place o + (n - 1)) size (and_second (nat_le 256 (place o + (n - 1))) (nat_lt (place o + (n - 1)) size) may) in
       record {
