@@ -134,9 +134,7 @@ impl Pointer {
     {
         match self {
             Pointer::Null => true,
-            Pointer::At(place) => {
-                0 < place.offset && place.offset < end_in(space, place.bank)
-            }
+            Pointer::At(place) => { 0 < place.offset && place.offset < end_in(space, place.bank) }
         }
     }
 }

@@ -34,8 +34,8 @@ returns-in-Ok-load_script-clause-found g c = (
   (
     c.in-Ok.ensures.found,
     loaded c.script_core-core.result c.args.fill c.in-Ok.inputs.hex.items c.in-Ok.inputs.script.items c.in-Ok-load_machine.machine
-    c.in-Ok-load_script.script.lines.items c.script_core-core.ensures c.in-Ok-load_machine.ensures.found
-    c.in-Ok-load_script.ensures.kept c.in-Ok-load_script.ensures.lines,
+        c.in-Ok-load_script.script.lines.items c.script_core-core.ensures c.in-Ok-load_machine.ensures.found
+        c.in-Ok-load_script.ensures.kept c.in-Ok-load_script.ensures.lines,
   ),
 )
 
@@ -50,7 +50,7 @@ returns-clause-stopped g c =
         (
           c.in-Ok.ensures.found,
           faulted c.script_core-core.result c.in-Ok.inputs.hex.items c.in-Ok.inputs.script.items _ c.script_core-core.ensures
-          machine.0 machine.1.0 machine.1.1.0 h,
+              machine.0 machine.1.0 machine.1.1.0 h,
         ),
       ))
     ]
