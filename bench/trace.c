@@ -1,6 +1,6 @@
-/* Runs an Intel HEX image on simavr's ATmega328P, or on the chip that is named behind, for at most so many steps, where each port gives the bytes of a script
-   and 0 behind them, or what was written to it last where it is hooked, and prints what `napledge run` prints: a line for
-   each access of a port, and the number in R25:R24 at BREAK. A step is an instruction; simavr's own devices are left out. */
+/* Runs an Intel HEX image on simavr's ATmega328P, or on the chip that is named behind, for at most so many steps, where each port gives
+   the bytes of a script and 0 behind them, or what was written to it last where it is hooked, and prints what `napledge run` prints:
+   a line for each access of a port, and the number in R25:R24 at BREAK. A step is an instruction; simavr's own devices are left out. */
 #include <simavr/sim_avr.h>
 #include <simavr/sim_core.h>
 #include <simavr/sim_hex.h>
