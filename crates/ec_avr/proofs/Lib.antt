@@ -13,3 +13,4 @@ mod Stays
 mod TwoWords
 mod Window
 mod Decoded
+mod Quiet

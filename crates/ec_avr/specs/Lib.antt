@@ -9,3 +9,4 @@ pub mod Placed
 pub mod State
 pub mod Laws
 pub mod Runs
+pub mod Quiet

@@ -6,6 +6,7 @@ mod arithmetic;
 mod flags;
 mod jumps;
 mod places;
+mod quiet;
 mod table;
 mod transfers;
 
@@ -236,7 +237,7 @@ impl Machine {
         ensures { result ≡ is_whole self.now }
     {
         let pc = self.pc as u32;
-        self.is_in_flash(pc) && (!is_of_two_words(found) || self.is_in_flash(pc + 1))
+        self.is_in_flash(pc + 1) || self.is_in_flash(pc) && !is_of_two_words(found)
     }
 }
 

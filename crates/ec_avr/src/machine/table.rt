@@ -18,8 +18,10 @@ impl Machine {
     ghost use Rattle.std.specs.Prelude.{◌≡◌, IsTrue, Some};
     ghost use Rattle.ec_isa.specs.Table.{in_table};
     ghost use Rattle.ec_avr.specs.Effects.{effect, load_address};
+    ghost use Rattle.ec_avr.specs.Quiet.{store_address};
 
     /// Performs an instruction of the table, where the port that it reads answers a byte.
+    #[inline(always)]
     #[tactic(auto, unfolding(crate::specs::Effects::effect))]
     pub(super) fn perform(&mut self, instruction: Instr, answer: u8) -> Stepped
         requires { IsTrue (in_table instruction) }
@@ -137,6 +139,7 @@ impl Machine {
     }
 
     /// The data address that an instruction loads from, if it loads a data byte.
+    #[inline(always)]
     pub(super) fn load_address(&self, instruction: Instr) -> Option<u16>
         requires { IsTrue (in_table instruction) }
         ensures { result ≡ load_address (Some instruction) self.now }
@@ -152,6 +155,27 @@ impl Machine {
             Instr::LdMinusZ { .. } => lowered(self.pair(Z)),
             Instr::Lds { k, .. } => k,
             Instr::In { a, .. } => a as u16 + 0x20,
+            _ => return None,
+        })
+    }
+
+    /// The data address that an instruction stores to, if it stores a data byte.
+    #[inline(always)]
+    pub(super) fn store_address(&self, instruction: Instr) -> Option<u16>
+        requires { IsTrue (in_table instruction) }
+        ensures { result ≡ store_address (Some instruction) self.now }
+    {
+        Some(match instruction {
+            Instr::StdZ { q, .. } => self.displaced(Z, q),
+            Instr::StdY { q, .. } => self.displaced(Y, q),
+            Instr::StX { .. } | Instr::StXPlus { .. } => self.pair(X),
+            Instr::StZPlus { .. } => self.pair(Z),
+            Instr::StYPlus { .. } => self.pair(Y),
+            Instr::StMinusX { .. } => lowered(self.pair(X)),
+            Instr::StMinusY { .. } => lowered(self.pair(Y)),
+            Instr::StMinusZ { .. } => lowered(self.pair(Z)),
+            Instr::Sts { k, .. } => k,
+            Instr::Out { a, .. } => a as u16 + 0x20,
             _ => return None,
         })
     }
