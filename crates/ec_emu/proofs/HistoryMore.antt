@@ -1,11 +1,12 @@
 -- What is kept of a run with one more access.
 use Rattle.std.specs.Prelude.{if◌then◌else◌, slice_index, slice_set, min}
 use Rattle.std.proofs.lemmas.Bool.{cases_eq, eq-eqb, ne_eqb}
-use Rattle.std.proofs.Common.{◌≡◌, ◌+◌, ◌-◌, ◌^◌, ◌<◌, ◌==◌, ◌⊎◌, ℕ, Bool, true, false, List, [], ◌∷◌, ◌++◌, length, refl, sym, ◌∙◌, arith}
+use Rattle.std.proofs.Common.{◌≡◌, ◌+◌, ◌-◌, ◌^◌, ◌<◌, ◌==◌, ◌⊎◌, ℕ, true, List, [], ◌∷◌, ◌++◌, length, refl, sym, ◌∙◌, arith}
 use Rattle.std.proofs.Common.{inl, inr, get_or-set_same, get_or-set_other, length-set}
 use Rattle.ec_avr.specs.declared.machine.Access.{Access}
 use Rattle.ec_avr.specs.declared.machine.Access.TheVariants.{Silent, In, Out, Read, Write, Stack}
 use Rattle.ec_avr.specs.Inputs.{reads_of}
+use Rattle.ec_avr.specs.Quiet.{is_quiet}
 use Rattle.ec_emu.specs.declared.history.PortHistory.{PortHistory}
 use Rattle.ec_emu.specs.Answers.{last_written, reads_in, writes_in}
 use Rattle.ec_emu.specs.History.{IsHistory}
@@ -63,15 +64,7 @@ history_written trace history port byte inside has short = record {
         rw (ne_eqb port p (λ e. other (sym e))) (get_or-set_other history.last port p byte 0 other ∙ has.last p below)
 
 -- an access that is none of a port
-abbrev pub is_apart : Access → Bool
-is_apart Silent = true
-is_apart (In port byte) = false
-is_apart (Out port byte) = false
-is_apart (Read bank at byte) = true
-is_apart (Write at byte) = true
-is_apart Stack = true
-
-pub history_apart : (trace : List Access) (history : PortHistory) (a : Access) → is_apart a ≡ true → IsHistory trace history
+pub history_apart : (trace : List Access) (history : PortHistory) (a : Access) → is_quiet a ≡ true → IsHistory trace history
     → IsHistory (trace ++ a ∷ []) history
 history_apart trace history a apart has = record {
   reads = λ p below. omega (arith, has.reads p below, reads_of-append p trace (a ∷ []), unread p a apart);
@@ -82,7 +75,7 @@ history_apart trace history a apart has = record {
   written_ports = has.written_ports;
 }
   where
-    unread : (p : ℕ) (a : Access) → is_apart a ≡ true → reads_of p (a ∷ []) ≡ 0
+    unread : (p : ℕ) (a : Access) → is_quiet a ≡ true → reads_of p (a ∷ []) ≡ 0
     unread p Silent e = refl
     unread p (In port byte) e = cc
     unread p (Out port byte) e = cc
@@ -90,7 +83,7 @@ history_apart trace history a apart has = record {
     unread p (Write at byte) e = refl
     unread p Stack e = refl
 
-    unwritten : (byte p : ℕ) (a : Access) → is_apart a ≡ true → last_written byte p (a ∷ []) ≡ byte
+    unwritten : (byte p : ℕ) (a : Access) → is_quiet a ≡ true → last_written byte p (a ∷ []) ≡ byte
     unwritten b p Silent e = refl
     unwritten b p (In port byte) e = cc
     unwritten b p (Out port byte) e = cc
@@ -98,7 +91,7 @@ history_apart trace history a apart has = record {
     unwritten b p (Write at byte) e = refl
     unwritten b p Stack e = refl
 
-    no_read : (a : Access) → is_apart a ≡ true → reads_in (a ∷ []) ≡ 0
+    no_read : (a : Access) → is_quiet a ≡ true → reads_in (a ∷ []) ≡ 0
     no_read Silent e = refl
     no_read (In port byte) e = cc
     no_read (Out port byte) e = cc
@@ -106,7 +99,7 @@ history_apart trace history a apart has = record {
     no_read (Write at byte) e = refl
     no_read Stack e = refl
 
-    no_write : (a : Access) → is_apart a ≡ true → writes_in (a ∷ []) ≡ 0
+    no_write : (a : Access) → is_quiet a ≡ true → writes_in (a ∷ []) ≡ 0
     no_write Silent e = refl
     no_write (In port byte) e = cc
     no_write (Out port byte) e = cc

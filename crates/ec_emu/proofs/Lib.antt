@@ -10,3 +10,4 @@ mod Words
 mod HookText
 mod Rules
 mod Places
+mod QuietSteps

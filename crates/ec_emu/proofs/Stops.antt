@@ -139,9 +139,3 @@ module _ (stops : Access → State → Bool) (old : State) where
     pub run_until : result.stopped ≡ true → result.report.end ≡ StepsOut → IsRun gives (length trace) old new result.report trace
         → EndsAtStop stops old trace new → IsRunUntil stops gives steps old new result trace result.stopped
     run_until on is run ends = subst (λ (b : Bool). IsRunUntil stops gives steps old new result trace b) (sym on) (is, run, ends)
-
--- what no step stops
-pub never_stops : (gives : Ask → ℕ → Type 0) (steps : ℕ) (old new : State) (result : UntilReport) (trace : List Access) (stopped : Bool)
-    → IsRunUntil (λ a s. false) gives steps old new result trace stopped → IsRun gives steps old new result.report trace
-never_stops gives steps old new result trace true h = let never : false ≡ true = h.2.stop.found in cc
-never_stops gives steps old new result trace false h = h.0

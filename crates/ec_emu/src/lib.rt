@@ -20,4 +20,4 @@ pub use hook::{Hook, Hooked};
 pub use read::{ScriptStop, read_script, script_core};
 pub use run::{EmuEnd, EmuReport, UntilReport, emulate, emulate_until};
 pub use script::{Script, ScriptLine, Scripted};
-pub use stop::{Never, Stop};
+pub use stop::Stop;

@@ -13,7 +13,7 @@ use crate::answers::answer;
 use crate::ask::Ports;
 use crate::history::PortHistory;
 use crate::print::print;
-use crate::stop::{Never, Stop};
+use crate::stop::Stop;
 use ec_avr::{Access, FaultKind, Machine, PortAnswer, Stepped};
 use ec_io::Sink;
 
@@ -77,8 +77,21 @@ fn given(byte: Option<u8>) -> PortAnswer
     }
 }
 
+/// The report of a run.
+fn report(history: &PortHistory, end: EmuEnd) -> EmuReport
+    ensures end { result.end ≡ end }
+    ensures reads { result.reads ≡ history.now.all_reads }
+    ensures writes { result.writes ≡ history.now.all_writes }
+{
+    EmuReport {
+        end,
+        reads: history.all_reads,
+        writes: history.all_writes,
+    }
+}
+
 /// The report of a run that was not stopped.
-fn report(history: &PortHistory, end: EmuEnd) -> UntilReport
+fn went_on(history: &PortHistory, end: EmuEnd) -> UntilReport
     ensures on { result.stopped ≡ false }
     ensures end { result.report.end ≡ end }
     ensures reads { result.report.reads ≡ history.now.all_reads }
@@ -86,11 +99,7 @@ fn report(history: &PortHistory, end: EmuEnd) -> UntilReport
 {
     UntilReport {
         stopped: false,
-        report: EmuReport {
-            end,
-            reads: history.all_reads,
-            writes: history.all_writes,
-        },
+        report: report(history, end),
     }
 }
 
@@ -103,7 +112,7 @@ fn stopped(history: &PortHistory) -> UntilReport
 {
     UntilReport {
         stopped: true,
-        report: report(history, EmuEnd::StepsOut).report,
+        report: report(history, EmuEnd::StepsOut),
     }
 }
 
@@ -157,18 +166,18 @@ pub fn emulate_until<P: Ports, O: Sink, S: Stop>(
                 history.note(access);
                 match print(sink, access) {
                     Ok(()) => {}
-                    Err(_) => return report(&history, EmuEnd::WriteFault),
+                    Err(_) => return went_on(&history, EmuEnd::WriteFault),
                 }
                 if is_over(begun, stop, access, machine) {
                     return stopped(&history);
                 }
                 begun = is_begun(begun, access);
             }
-            Stepped::Ended => return report(&history, EmuEnd::Ended(machine.result())),
-            Stepped::Fault(kind, pc) => return report(&history, EmuEnd::Fault(kind, pc)),
+            Stepped::Ended => return went_on(&history, EmuEnd::Ended(machine.result())),
+            Stepped::Fault(kind, pc) => return went_on(&history, EmuEnd::Fault(kind, pc)),
         }
     }
-    report(&history, EmuEnd::StepsOut)
+    went_on(&history, EmuEnd::StepsOut)
 }
 
 /// Runs the machine for at most so many steps, and writes a line for each read and each write of a port, after its
@@ -192,5 +201,22 @@ pub fn emulate<P: Ports, O: Sink>(
     ensures passed_on { (ask : Ask) (byte : ℕ) → P.passed_on ports.new ask byte ↔ P.passed_on ports.old ask byte }
     ensures held { P.held ports.new ≡ P.held ports.old }
 {
-    emulate_until(machine, ports, steps, sink, &Never).report
+    let mut history = PortHistory::new();
+    let mut made = machine.run_quietly(steps);
+    'steps: while made < steps {
+        match make_step(machine, ports, &history) {
+            Stepped::Ran(access) => {
+                history.note(access);
+                match print(sink, access) {
+                    Ok(()) => {}
+                    Err(_) => return report(&history, EmuEnd::WriteFault),
+                }
+                made += 1;
+                made += machine.run_quietly(steps - made);
+            }
+            Stepped::Ended => return report(&history, EmuEnd::Ended(machine.result())),
+            Stepped::Fault(kind, pc) => return report(&history, EmuEnd::Fault(kind, pc)),
+        }
+    }
+    report(&history, EmuEnd::StepsOut)
 }

@@ -1,5 +1,5 @@
 //! Where a run stops before its end.
-ghost use Rattle.std.specs.Prelude.{◌≡◌, Bool, false};
+ghost use Rattle.std.specs.Prelude.{◌≡◌, Bool};
 ghost use Rattle.ec_avr.specs.declared.machine.Access.{Access};
 ghost use Rattle.ec_avr.specs.State.{State};
 
@@ -17,16 +17,4 @@ pub trait Stop {
     fn stops(&self, access: Access, machine: &Machine) -> bool
         requires { can_stop self.now }
         ensures { result ≡ stops self.now access machine.now };
-}
-
-/// Stops no run.
-#[derive(Clone, Copy, Debug, PartialEq, Eq)]
-pub struct Never;
-
-impl Stop for Never {
-    ghost stops = { λ _ _ _. false };
-
-    fn stops(&self, _access: Access, _machine: &Machine) -> bool {
-        false
-    }
 }

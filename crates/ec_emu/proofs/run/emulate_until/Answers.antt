@@ -106,7 +106,7 @@ returns-in-Err-clause-run g c =
       trace,
       (
         run_on (g.S.Stop.stops c.args.stop.now) c.args.machine.now (g.P.Ports.gives c.args.ports.now) c.args.steps
-            c.make_step.new.machine c.report.result trace c.report.ensures.on
+            c.make_step.new.machine c.went_on.result trace c.went_on.ensures.on
             (record {
               within = omega (arith, long, i.made, c.steps-test.true);
               given = given_next (g.P.Ports.gives c.steps.ports) (g.P.Ports.asked c.steps.ports)
@@ -117,18 +117,18 @@ returns-in-Err-clause-run g c =
                   (g.P.Ports.asked c.steps.ports) (g.P.Ports.asked c.make_step.new.ports) c.steps.history c.steps.machine
                   c.make_step.new.machine c.make_step.result m.0 s c.args.machine.now i.trace a c.in-Ran.is i.goes);
               ended =
-                  subst (λ (end : EmuEnd). EndsBy c.args.steps c.args.machine.now end trace) (sym c.report.ensures.end) (omega
+                  subst (λ (end : EmuEnd). EndsBy c.args.steps c.args.machine.now end trace) (sym c.went_on.ensures.end) (omega
                   (arith, long));
-              reads = c.report.ensures.reads ∙ history.all_reads;
-              writes = c.report.ensures.writes ∙ history.all_writes;
+              reads = c.went_on.ensures.reads ∙ history.all_reads;
+              writes = c.went_on.ensures.writes ∙ history.all_writes;
             })
             (subst (λ (end : EmuEnd). NotStopped (g.S.Stop.stops c.args.stop.now) end c.args.machine.now trace)
-            (sym c.report.ensures.end) (all_but_last (g.S.Stop.stops c.args.stop.now) c.args.machine.now i.trace a i.none)),
+            (sym c.went_on.ensures.end) (all_but_last (g.S.Stop.stops c.args.stop.now) c.args.machine.now i.trace a i.none)),
         (
           omega (arith, long, i.made, c.steps-test.true),
           (
             subst (λ (end : EmuEnd). IsPrinted (g.O.Sink.written c.args.sink.now) (g.O.Sink.written c.print.new.sink) end trace)
-                (sym c.report.ensures.end)
+                (sym c.went_on.ensures.end)
                 (cut_on _ _ _ i.trace a c.in-Err.field-0.0 i.written c.in-Err.ensures.written.0 c.in-Err.ensures.written.1),
             (
               (λ room calm fits.
@@ -156,30 +156,30 @@ returns-in-Ended-clause-run g c =
       i.trace,
       (
         run_whole (g.S.Stop.stops c.args.stop.now) c.args.machine.now (g.P.Ports.gives c.args.ports.now) c.args.steps
-            c.make_step.new.machine c.report-in-Ended.result i.trace _ c.report-in-Ended.ensures.on c.report-in-Ended.ensures.end tt
+            c.make_step.new.machine c.went_on-in-Ended.result i.trace _ c.went_on-in-Ended.ensures.on c.went_on-in-Ended.ensures.end tt
             (record {
               within = omega (arith, below);
               given = i.given;
               made = λ more. leads_to_where_it_stands c.args.machine.now c.steps.machine i.trace i.goes more
                   ∙ ap (λ (s : State). Running i.trace s) (sym c.in-Ended.ensures.unless_ran);
-              ended = subst (λ (end : EmuEnd). EndsBy c.args.steps c.args.machine.now end i.trace) (sym c.report-in-Ended.ensures.end)
+              ended = subst (λ (end : EmuEnd). EndsBy c.args.steps c.args.machine.now end i.trace) (sym c.went_on-in-Ended.ensures.end)
                   (λ more.
                   ended_next (g.P.Ports.gives c.steps.ports) (g.P.Ports.asked c.steps.ports)
                   (g.P.Ports.asked c.make_step.new.ports) c.steps.history c.steps.machine c.make_step.new.machine c.make_step.result m.0 s
                   c.args.machine.now i.trace c.args.steps c.in-Ended.is i.goes below more
                   ∙ ap (λ (z : ℤ). EndedWith i.trace z) (sym c.result.ensures ∙ sym (to_z-of_z w16 c.result.result fits)));
-              reads = c.report-in-Ended.ensures.reads ∙ i.history.all_reads;
-              writes = c.report-in-Ended.ensures.writes ∙ i.history.all_writes;
+              reads = c.went_on-in-Ended.ensures.reads ∙ i.history.all_reads;
+              writes = c.went_on-in-Ended.ensures.writes ∙ i.history.all_writes;
             }) i.none,
         (
           omega (arith, below),
           (
             subst (λ (end : EmuEnd). IsPrinted (g.O.Sink.written c.args.sink.now) (g.O.Sink.written c.steps.sink) end i.trace)
-                (sym c.report-in-Ended.ensures.end) i.written,
+                (sym c.went_on-in-Ended.ensures.end) i.written,
             (
               (λ room calm fits.
                   subst (λ (end : EmuEnd). SinkCalm (g.O.Sink.faults c.args.sink.now) (g.O.Sink.faults c.steps.sink)
-                  (g.O.Sink.calm c.steps.sink) room end i.trace) (sym c.report-in-Ended.ensures.end)
+                  (g.O.Sink.calm c.steps.sink) room end i.trace) (sym c.went_on-in-Ended.ensures.end)
                   (calm_end _ _ _ room _ i.trace tt (i.calm room calm fits))),
               asked_last (g.P.Ports.gives c.steps.ports) (g.P.Ports.asked c.steps.ports)
                   (g.P.Ports.asked c.make_step.new.ports) c.steps.history c.steps.machine c.make_step.new.machine c.make_step.result m.0 s
@@ -201,29 +201,29 @@ returns-in-Fault-clause-run g c =
       i.trace,
       (
         run_whole (g.S.Stop.stops c.args.stop.now) c.args.machine.now (g.P.Ports.gives c.args.ports.now) c.args.steps
-            c.make_step.new.machine c.report-in-Fault.result i.trace _ c.report-in-Fault.ensures.on c.report-in-Fault.ensures.end tt
+            c.make_step.new.machine c.went_on-in-Fault.result i.trace _ c.went_on-in-Fault.ensures.on c.went_on-in-Fault.ensures.end tt
             (record {
               within = omega (arith, below);
               given = i.given;
               made = λ more. leads_to_where_it_stands c.args.machine.now c.steps.machine i.trace i.goes more
                   ∙ ap (λ (s : State). Running i.trace s) (sym c.in-Fault.ensures.unless_ran.0);
-              ended = subst (λ (end : EmuEnd). EndsBy c.args.steps c.args.machine.now end i.trace) (sym c.report-in-Fault.ensures.end)
+              ended = subst (λ (end : EmuEnd). EndsBy c.args.steps c.args.machine.now end i.trace) (sym c.went_on-in-Fault.ensures.end)
                   (λ more.
                   faulted_next (g.P.Ports.gives c.steps.ports) (g.P.Ports.asked c.steps.ports)
                   (g.P.Ports.asked c.make_step.new.ports) c.steps.history c.steps.machine c.make_step.new.machine c.make_step.result m.0 s
                   c.args.machine.now i.trace c.args.steps c.in-Fault.kind c.in-Fault.pc c.in-Fault.is i.goes below more);
-              reads = c.report-in-Fault.ensures.reads ∙ i.history.all_reads;
-              writes = c.report-in-Fault.ensures.writes ∙ i.history.all_writes;
+              reads = c.went_on-in-Fault.ensures.reads ∙ i.history.all_reads;
+              writes = c.went_on-in-Fault.ensures.writes ∙ i.history.all_writes;
             }) i.none,
         (
           omega (arith, below),
           (
             subst (λ (end : EmuEnd). IsPrinted (g.O.Sink.written c.args.sink.now) (g.O.Sink.written c.steps.sink) end i.trace)
-                (sym c.report-in-Fault.ensures.end) i.written,
+                (sym c.went_on-in-Fault.ensures.end) i.written,
             (
               (λ room calm fits.
                   subst (λ (end : EmuEnd). SinkCalm (g.O.Sink.faults c.args.sink.now) (g.O.Sink.faults c.steps.sink)
-                  (g.O.Sink.calm c.steps.sink) room end i.trace) (sym c.report-in-Fault.ensures.end)
+                  (g.O.Sink.calm c.steps.sink) room end i.trace) (sym c.went_on-in-Fault.ensures.end)
                   (calm_end _ _ _ room _ i.trace tt (i.calm room calm fits))),
               asked_last (g.P.Ports.gives c.steps.ports) (g.P.Ports.asked c.steps.ports)
                   (g.P.Ports.asked c.make_step.new.ports) c.steps.history c.steps.machine c.make_step.new.machine c.make_step.result m.0 s
@@ -240,25 +240,25 @@ returns-clause-run g c =
       i.trace,
       (
         run_whole (g.S.Stop.stops c.args.stop.now) c.args.machine.now (g.P.Ports.gives c.args.ports.now) c.args.steps
-            c.steps.machine c.report-2.result i.trace _ c.report-2.ensures.on c.report-2.ensures.end tt
+            c.steps.machine c.went_on-2.result i.trace _ c.went_on-2.ensures.on c.went_on-2.ensures.end tt
             (record {
               within = omega (arith, i.made, c.steps.auto._made-end);
               given = i.given;
               made = leads_to_where_it_stands c.args.machine.now c.steps.machine i.trace i.goes;
-              ended = subst (λ (end : EmuEnd). EndsBy c.args.steps c.args.machine.now end i.trace) (sym c.report-2.ensures.end)
+              ended = subst (λ (end : EmuEnd). EndsBy c.args.steps c.args.machine.now end i.trace) (sym c.went_on-2.ensures.end)
                   (omega (arith, i.made, c.steps.auto._made-end, c.steps-test.false));
-              reads = c.report-2.ensures.reads ∙ i.history.all_reads;
-              writes = c.report-2.ensures.writes ∙ i.history.all_writes;
+              reads = c.went_on-2.ensures.reads ∙ i.history.all_reads;
+              writes = c.went_on-2.ensures.writes ∙ i.history.all_writes;
             }) i.none,
         (
           omega (arith, i.made, c.steps.auto._made-end),
           (
             subst (λ (end : EmuEnd). IsPrinted (g.O.Sink.written c.args.sink.now) (g.O.Sink.written c.steps.sink) end i.trace)
-                (sym c.report-2.ensures.end) i.written,
+                (sym c.went_on-2.ensures.end) i.written,
             (
               (λ room calm fits.
                   subst (λ (end : EmuEnd). SinkCalm (g.O.Sink.faults c.args.sink.now) (g.O.Sink.faults c.steps.sink)
-                  (g.O.Sink.calm c.steps.sink) room end i.trace) (sym c.report-2.ensures.end)
+                  (g.O.Sink.calm c.steps.sink) room end i.trace) (sym c.went_on-2.ensures.end)
                   (calm_end _ _ _ room _ i.trace tt (i.calm room calm fits))),
               i.asked,
             ),

@@ -1,10 +1,11 @@
 use Rattle.std.proofs.Common.{◌≡◌, ℕ, true, refl, arith}
 use Rattle.ec_avr.specs.declared.machine.Access.{Access}
 use Rattle.ec_avr.specs.declared.machine.Access.TheVariants.{Silent, In, Out, Read, Write, Stack}
-use Rattle.ec_emu.proofs.HistoryMore.{history_read, history_written, history_apart, is_apart}
+use Rattle.ec_avr.specs.Quiet.{is_quiet}
+use Rattle.ec_emu.proofs.HistoryMore.{history_read, history_written, history_apart}
 use Rattle.ec_emu.proofs.history.PortHistory.note.Goals as goal
 
-apart : (a : Access) → ((port byte : ℕ) → a ≡ In port byte → ⊥) → ((port byte : ℕ) → a ≡ Out port byte → ⊥) → is_apart a ≡ true
+apart : (a : Access) → ((port byte : ℕ) → a ≡ In port byte → ⊥) → ((port byte : ℕ) → a ≡ Out port byte → ⊥) → is_quiet a ≡ true
 apart Silent no_in no_out = refl
 apart (In port byte) no_in no_out = absurd (no_in port byte refl)
 apart (Out port byte) no_in no_out = absurd (no_out port byte refl)

@@ -1,4 +1,4 @@
-use Rattle.std.proofs.Common.{◌≡◌, ◌∙◌, ◌<◌, ap, arith, length}
+use Rattle.std.proofs.Common.{◌∙◌, ◌<◌, ap, arith, length}
 use Rattle.ec_emu.specs.Scripted.{place_of}
 use Rattle.std.specs.Prelude.{slice_get}
 use Rattle.ec_emu.proofs.Places.{at_place}
