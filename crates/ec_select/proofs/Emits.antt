@@ -7,7 +7,7 @@ use Rattle.std.specs.List.{AllByRecursion}
 use Rattle.ec_asm.specs.Pieces.{HasBytes}
 use Rattle.ec_core.specs.Layout.{size_of_type}
 use Rattle.ec_core.specs.declared.expressions.BinOp.{BinOp}
-use Rattle.ec_core.specs.declared.expressions.BinOp.TheVariants.{Add, Sub, And, Or, Lt, Ge, Eq, Ne}
+use Rattle.ec_core.specs.declared.expressions.BinOp.TheVariants.{Add, Sub, And, Or, Lt, Ge, Eq, Ne, Shl, Shr}
 use Rattle.ec_core.specs.Plain.{PlainType, PlainStorage, static, local, param, register, PlainObject}
 use Rattle.ec_core.specs.TypeLaws.{LeavesFillTheirTypes}
 use Rattle.ec_core.specs.Valid.{IsObject, IsStored}
@@ -111,6 +111,8 @@ module _ (p : PlainIrProgram) (valid : ValidIr p) (leaves : LeavesFillTheirTypes
     takes_has Ge to a b ty aty bty i q = let x = i.same_bytes in let m = i.left.most in (omega arith, omega arith)
     takes_has Eq to a b ty aty bty i q = let x = i.same_bytes in let m = i.left.most in (omega arith, omega arith)
     takes_has Ne to a b ty aty bty i q = let x = i.same_bytes in let m = i.left.most in (omega arith, omega arith)
+    takes_has Shl to a b ty aty bty i q = let j = i.0 in let x = j.count.some in let m = j.left.most in (omega arith, omega arith)
+    takes_has Shr to a b ty aty bty i q = let j = i.0 in let x = j.count.some in let m = j.left.most in (omega arith, omega arith)
     takes_has op to a b ty aty bty i q = absurd cc
 
     binary_emits : (op : BinOp) (to a b : Temp) (ty aty bty : PlainType) (n : ℕ)

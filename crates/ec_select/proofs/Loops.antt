@@ -1,10 +1,10 @@
 -- The pieces of code that jump within themselves fit.
-use Rattle.std.proofs.Common.{◌≡◌, ℕ, zero, suc, ◌+◌, ◌-◌, ◌*◌, ◌<◌, ◌≤◌, Bool, true, false, [], ◌∷◌, ◌++◌, refl}
+use Rattle.std.proofs.Common.{◌≡◌, ◌⊎◌, inl, inr, ℕ, zero, suc, ◌+◌, ◌-◌, ◌*◌, ◌/◌, ◌<◌, ◌≤◌, Bool, true, false, [], ◌∷◌, ◌++◌, refl}
 use Rattle.std.proofs.Common.{arith}
-use Rattle.std.specs.Prelude.{◌%◌, ◌==◌, nat_lt, if◌then◌else◌}
-use Rattle.std.proofs.lemmas.Bool.{lt-ltb, eqb-true}
+use Rattle.std.specs.Prelude.{◌%◌, ◌==◌, nat_le, nat_lt, if◌then◌else◌}
+use Rattle.std.proofs.lemmas.Bool.{lt-ltb, eqb-true, and_parts}
 use Rattle.std.proofs.lemmas.Bool.Decides.{nat_tests}
-use Rattle.ec_isa.specs.declared.instructions.Instr.TheVariants.{Movw, Ldi, Mul}
+use Rattle.ec_isa.specs.declared.instructions.Instr.TheVariants.{Eor, Mov, Movw, Ldi, Mul}
 use Rattle.ec_isa.specs.Table.{in_table}
 use Rattle.ec_asm.specs.declared.items.AsmItem.TheVariants.{Plain}
 use Rattle.ec_asm.specs.declared.pieces.Location.{Location}
@@ -25,7 +25,8 @@ use Rattle.ec_select_quotients.specs.Signs.{cross_code, number_sign_code, diviso
 use Rattle.ec_select_quotients.specs.Signs.{put_pairs, put_code, start_code, result_code, sign_code, finish_code, divided_code, quotient_code}
 use Rattle.ec_select_shifts.specs.declared.shifts.Direction.{Direction}
 use Rattle.ec_select_shifts.specs.declared.shifts.Direction.TheVariants.{Left, Right}
-use Rattle.ec_select_shifts.specs.Shifts.{turn_code, turn_words, jump_code, end_code, shift_code}
+use Rattle.ec_select_shifts.specs.Shifts.{turn_code, turn_words, jump_code, end_code, shift_code, turns_code, bits_code, counted_code}
+use Rattle.ec_select_shifts.specs.Shifts.{filled_byte, sign_code as top_sign_code, moved_byte, moved_code, first_moved, bytes_code, moves_bytes}
 use Rattle.ec_select.proofs.Fitting.{fits, Fit, joined, chained, ByteFits, BytesFit, registers_fit}
 use Rattle.ec_select.proofs.Fitting.{reg}
 use Rattle.ec_select.proofs.Pieces.{copy_fits, operate_fits, compares_fits, instruction_fits}
@@ -63,6 +64,71 @@ module _ (sizes : Sizes) where
       let end : Fit sizes (end_code s p n) = rw (lt-ltb (turn_words s p n + 1) 64 (omega arith)) refl in
       joined (fits sizes) (jump_code s p n) (turn_code s p n ++ end_code s p n) jump
       (joined (fits sizes) (turn_code s p n) (end_code s p n) (turn_fits s p n x) end)
+
+  -- by a known count
+  bits_fit : (s : Direction) (p : Location) (n k : ℕ) → n ≤ 8 → k < 256 → BytesFit sizes p n → Fit sizes (bits_code s p n k)
+  bits_fit s p n k few small x = by_words (nat_le (k * turn_words s p n) (turn_words s p n + 4))
+    where
+      first : Fit sizes (Plain (Ldi 30 k) ∷ [])
+      first = rw (lt-ltb k 256 small) refl
+
+      by_words : (b : Bool) → Fit sizes (if b then turns_code s p n k else Plain (Ldi 30 k) ∷ shift_code s p n)
+      by_words true = chained (fits sizes) (λ i. turn_code s p n) k (λ i l. turn_fits s p n x)
+      by_words false = joined (fits sizes) (Plain (Ldi 30 k) ∷ []) (shift_code s p n) first (shift_fits s p n few x)
+
+  -- a byte that moves, or is filled
+  byte_fits : (s : Direction) (d r : ℕ) (b : Bool) → d < 32 → r < 32 ⊎ b ≡ false
+      → Fit sizes (if b then Plain (Mov d r) ∷ [] else filled_byte s d)
+  byte_fits s d r true h (inl l) = rw (lt-ltb d 32 h, lt-ltb r 32 l) refl
+  byte_fits s d r true h (inr q) = absurd cc
+  byte_fits Left d r false h l = rw (lt-ltb d 32 h) refl
+  byte_fits (Right true) d r false h l = rw (lt-ltb d 32 h) refl
+  byte_fits (Right false) d r false h l = rw (lt-ltb d 32 h) refl
+
+  moved_fits : (s : Direction) (r n q : ℕ) → 1 ≤ n → BytesFit sizes (InRegisters r) n → Fit sizes (moved_code s r n q)
+  moved_fits s r n q some x =
+      joined (fits sizes) (top_sign_code s r n) (chain (moved_byte s r n q) n) (sign_fits s)
+      (chained (fits sizes) (moved_byte s r n q) n (by_side s))
+    where
+      sign_fits : (s : Direction) → Fit sizes (top_sign_code s r n)
+      sign_fits Left = refl
+      sign_fits (Right true) = rw (lt-ltb (r + (n - 1)) 32 (x (n - 1) (omega arith))) refl
+      sign_fits (Right false) = refl
+
+      ltb_true : (a b : ℕ) → nat_lt a b ≡ true → a < b
+      ltb_true a b h = grind (arith, nat_tests)
+
+      below : (b : Bool) (i : ℕ) → nat_lt i n ≡ b → r + i < 32 ⊎ b ≡ false
+      below true i t = inl (x i (ltb_true i n t))
+      below false i t = inr refl
+
+      by_side : (s : Direction) (i : ℕ) → i < n → Fit sizes (moved_byte s r n q i)
+      by_side Left i l =
+          byte_fits Left (r + (n - 1 - i)) (r + (n - 1 - i - q)) (nat_le q (n - 1 - i)) (x (n - 1 - i) (omega (arith, l)))
+          (inl (x (n - 1 - i - q) (omega (arith, l))))
+      by_side (Right signed) i l =
+          byte_fits (Right signed) (r + i) (r + (q + i)) (nat_lt (q + i) n) (x i l) (below (nat_lt (q + i) n) (q + i) refl)
+
+  pub counted_fits : (s : Direction) (p : Location) (n k : ℕ) → n ≤ 8 → k < 256 → BytesFit sizes p n → Fit sizes (counted_code s p n k)
+  counted_fits s (InMemory o j) n k few small x = bits_fit s (InMemory o j) n k few small x
+  counted_fits s (InRegisters r) n k few small x = by_bytes (moves_bytes n k) refl
+    where
+      by_bytes : (b : Bool) → moves_bytes n k ≡ b
+          → Fit sizes (if b then bytes_code s r n (k / 8) (k % 8) else bits_code s (InRegisters r) n k)
+      by_bytes false t = bits_fit s (InRegisters r) n k few small x
+      by_bytes true t =
+          let q = k / 8 in
+          let within = ltb_true q n (and_parts (nat_le 8 k) (nat_lt q n) t).1 in
+          joined (fits sizes) (moved_code s r n q) (bits_code s (InRegisters (first_moved s r q)) (n - q) (k % 8))
+          (moved_fits s r n q (omega (arith, within)) x)
+          (bits_fit s (InRegisters (first_moved s r q)) (n - q) (k % 8) (omega (arith, few)) (omega arith) (part s within))
+        where
+          ltb_true : (a b : ℕ) → nat_lt a b ≡ true → a < b
+          ltb_true a b h = grind (arith, nat_tests)
+
+          part : (s : Direction) → k / 8 < n → BytesFit sizes (InRegisters (first_moved s r (k / 8))) (n - k / 8)
+          part Left w i l = let z = x (k / 8 + i) (omega (arith, l, w)) in omega (arith, z)
+          part (Right signed) w i l = x i (omega (arith, l))
 
   -- ---- products
 

@@ -45,13 +45,13 @@ use Rattle.ec_select_order.specs.declared.relations.Relation.TheVariants.{Less, 
 use Rattle.ec_select_order.specs.Relations.{relation_code, flag_of, is_set}
 use Rattle.ec_select_products.specs.Products.{product_code}
 use Rattle.ec_select_quotients.specs.Signs.{quotient_code}
-use Rattle.ec_select_shifts.specs.Shifts.{shift_code}
+use Rattle.ec_select_shifts.specs.Shifts.{shift_code, counted_code as turned_by_code}
 use Rattle.ec_select_operations.specs.declared.families.Family.{Family}
 use Rattle.ec_select_operations.specs.declared.families.Family.TheVariants.{Combined, Compared, Multiplied, Shifted}
 use Rattle.ec_select_operations.specs.declared.families.Family.TheVariants.{Divided}
 use Rattle.ec_select_operations.specs.declared.families.Told.{Told}
 use Rattle.ec_select_operations.specs.declared.homes.Homes.{Homes}
-use Rattle.ec_select_operations.specs.Code.{compared_signed, same_location, transfer_code, move_code, reversed_code, family_of, is_signed}
+use Rattle.ec_select_operations.specs.Code.{compared_signed, counted_code, same_location, transfer_code, move_code, reversed_code, family_of, is_signed}
 use Rattle.ec_select_operations.specs.Code.{conversion_code, combined_code}
 use Rattle.ec_select_operations.specs.Code.{compared_code, multiplied_code, shift_of, shifted_bytes, turned_code}
 use Rattle.ec_select_operations.specs.Code.{shifted_code, long_code}
@@ -77,7 +77,7 @@ use Rattle.ec_select_functions.specs.Covered.{IsUnary, IsResult, IsCovered, AreC
 use Rattle.ec_select_functions.proofs.OnIntegers.{whole_type}
 use Rattle.ec_select_functions.proofs.OnWholes.{on_wholes}
 use Rattle.ec_select_operations.specs.Homes.{HasHome, depth, home, result_location}
-use Rattle.ec_select_functions.proofs.Taken.{TakesSum, TakesOrder, takes, taken_is, compared_few}
+use Rattle.ec_select_functions.proofs.Taken.{TakesSum, TakesOrder, TakesShift, takes, taken_is, compared_few}
 use Rattle.ec_select_operations.specs.Code.{taking_code, integer_binary, changed_by_code}
 use Rattle.ec_ir_known.specs.declared.known.RightNumber.{RightNumber}
 use Rattle.ec_select_operations.specs.Needs.{Need, Facts, wanted, wanted_result, needs, is_fixed, number_taken, compared_bytes as bytes_compared}
@@ -101,7 +101,7 @@ use Rattle.ec_select.proofs.PointerItems.{store_fits, table_fits, scale_fits, ad
 use Rattle.ec_select.proofs.PointerTypes.{some_width, two_pointers, first_pointer, second_pointer, pointers_only}
 use Rattle.ec_select.proofs.PointerTypes.{pointer_converted, stays_within, at_least_two, no_pointer, none_pointed}
 use Rattle.ec_select.proofs.PortItems.{IndexFits, in_fits, out_fits}
-use Rattle.ec_select.proofs.Loops.{shift_fits, product_fits, quotient_fits}
+use Rattle.ec_select.proofs.Loops.{counted_fits, shift_fits, product_fits, quotient_fits}
 
 flag_small : (r : Relation) (signed : Bool) → nat_lt (flag_of r signed) 8 ≡ true
 flag_small Less true = refl
@@ -574,7 +574,7 @@ module _ (sizes : Sizes) where
             (move_fits (home k.homes a) (home k.homes to) n (low_home a n i.left (omega arith)) (low_home to n i.result l))
             (changed_by_fits sizes o (home k.homes to) number n (low_home to n i.result l))
 
-        by_number : (x : TakesSum op ⊎ TakesOrder op) → (told : Option Told) (number : RightNumber)
+        by_number : (x : TakesSum op ⊎ (TakesOrder op ⊎ TakesShift op)) → (told : Option Told) (number : RightNumber)
             → Fit sizes (taking_code (Some number) told (family_of op) left right (home k.homes a) (home k.homes b) (home k.homes to)
             a.bytes n)
         by_number (inl x) None number =
@@ -584,7 +584,7 @@ module _ (sizes : Sizes) where
             let few = compared_few number a.bytes in
             compared_with_fits sizes (home k.homes a) (low_bytes 16 number.number) (bytes_compared (Some number) a.bytes)
             (low_home a (bytes_compared (Some number) a.bytes) i.left few)
-        by_number (inr x) None number =
+        by_number (inr (inl x)) None number =
             let i = subst (λ z. IsBinary z k.slots to a b ty aty bty) x.is h in
             let compared = bytes_compared (Some number) a.bytes in
             let few = compared_few number a.bytes in
@@ -595,8 +595,30 @@ module _ (sizes : Sizes) where
             rw x.is (put_fits (low_bytes 16 number.number) n b a.bytes
             (compared_code x.relation sign (home k.homes a) (home k.homes b) (home k.homes to) compared n) i.right
             (omega (arith, same)) own)
-        by_number (inr x) (Some told) number =
+        by_number (inr (inl x)) (Some told) number =
             let i = subst (λ z. IsBinary z k.slots to a b ty aty bty) x.is h in
+            let few = compared_few number a.bytes in
+            compared_with_fits sizes (home k.homes a) (low_bytes 16 number.number) (bytes_compared (Some number) a.bytes)
+            (low_home a (bytes_compared (Some number) a.bytes) i.left few)
+        by_number (inr (inr x)) None number =
+            let i = (subst (λ z. IsBinary z k.slots to a b ty aty bty) x.is h).0 in
+            let same = i.same_bytes in
+            let most = i.left.most in
+            let sh = shift_of x.up left in
+            let m = shifted_bytes x.up a.bytes n in
+            let few : m ≤ a.bytes = fewer x.up same in
+            rw x.is (unless_none n (counted_code sh (home k.homes a) (home k.homes to) m (low_bytes 16 number.number % 256))
+            (joined (fits sizes) (move_code (home k.homes a) (home k.homes to) m)
+            (turned_by_code sh (home k.homes to) m (low_bytes 16 number.number % 256))
+            (move_fits (home k.homes a) (home k.homes to) m (low_home a m i.left few) (low_home to m i.result (omega (arith, few, same))))
+            (counted_fits sizes sh (home k.homes to) m (low_bytes 16 number.number % 256) (omega (arith, few, most)) (omega arith)
+            (low_home to m i.result (omega (arith, few, same))))))
+          where
+            fewer : (up : Bool) → a.bytes ≡ to.bytes → shifted_bytes up a.bytes n ≤ a.bytes
+            fewer true same = omega (arith, same, l)
+            fewer false same = omega arith
+        by_number (inr (inr x)) (Some told) number =
+            let i = (subst (λ z. IsBinary z k.slots to a b ty aty bty) x.is h).0 in
             let few = compared_few number a.bytes in
             compared_with_fits sizes (home k.homes a) (low_bytes 16 number.number) (bytes_compared (Some number) a.bytes)
             (low_home a (bytes_compared (Some number) a.bytes) i.left few)

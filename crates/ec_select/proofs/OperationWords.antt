@@ -62,13 +62,14 @@ use Rattle.ec_select_quotients.specs.Signs.{quotient_code}
 use Rattle.ec_select_shifts.specs.declared.shifts.Direction.{Direction}
 use Rattle.ec_select_shifts.specs.declared.shifts.Direction.TheVariants.{Left, Right}
 use Rattle.ec_select_shifts.specs.Laws.{ShiftsHaveWords}
-use Rattle.ec_select_shifts.specs.Shifts.{shift_code, turn_words}
+use Rattle.ec_select_shifts.specs.Shifts.{shift_code, turn_words, counted_code as turned_by_code}
+use Rattle.ec_select_shifts.proofs.Counted.{counted_shifts_have_words}
 use Rattle.ec_select_operations.specs.declared.families.Family.{Family}
 use Rattle.ec_select_operations.specs.declared.families.Family.TheVariants.{Combined, Compared, Multiplied, Shifted}
 use Rattle.ec_select_operations.specs.declared.families.Family.TheVariants.{Divided}
 use Rattle.ec_select_operations.specs.declared.families.Told.{Told}
 use Rattle.ec_select_operations.specs.declared.homes.Homes.{Homes}
-use Rattle.ec_select_operations.specs.Code.{compared_signed, same_location, transfer_code, move_code, reversed_code, family_of, is_signed}
+use Rattle.ec_select_operations.specs.Code.{compared_signed, counted_code, same_location, transfer_code, move_code, reversed_code, family_of, is_signed}
 use Rattle.ec_select_operations.specs.Code.{conversion_code, combined_code}
 use Rattle.ec_select_operations.specs.Code.{compared_code, multiplied_code, shift_of, shifted_bytes, turned_code}
 use Rattle.ec_select_operations.specs.Code.{shifted_code, long_code}
@@ -92,7 +93,7 @@ use Rattle.ec_select_functions.proofs.OnIntegers.{whole_type}
 use Rattle.ec_select_functions.proofs.OnWholes.{on_wholes}
 use Rattle.ec_select_operations.specs.Emitted.{OfKind}
 use Rattle.ec_select_operations.specs.Homes.{home, result_location, HasHome}
-use Rattle.ec_select_functions.proofs.Taken.{TakesSum, TakesOrder, takes, taken_is, compared_few}
+use Rattle.ec_select_functions.proofs.Taken.{TakesSum, TakesOrder, TakesShift, takes, taken_is, compared_few}
 use Rattle.ec_select_functions.specs.Covered.{AreIntegers, AreCompared}
 use Rattle.ec_select_numbers.specs.ByNumber.{compared_code as compared_with_code}
 use Rattle.ec_select_numbers.specs.Laws.{NumbersAreStraight}
@@ -454,7 +455,7 @@ module _ (laws : WordLaws) where
 
       by_order : (r : Relation) (sign : Bool) → AreCompared slots to a b aty bty → is_bitwise op ≡ false → (number compared : ℕ)
           → compared ≤ a.bytes
-          → code_words (by_number_code (Compared r false) sign (home h a) (home h b) (home h to) a.bytes compared number n)
+          → code_words (by_number_code (Compared r false) left sign (home h a) (home h b) (home h to) a.bytes compared number n)
           ≤ binary_words op ty aty bty
       by_order r sign j q number compared fewer =
           let put = constant_code (home h b) number a.bytes in
@@ -479,7 +480,34 @@ module _ (laws : WordLaws) where
           by_op Xor r q = absurd cc
           by_op op r q = refl
 
-      by_number : (x : TakesSum op ⊎ TakesOrder op) → (told : Option Told) (number : RightNumber)
+      by_shift : (up : Bool) → IsBinary (Shifted up) slots to a b ty aty bty → is_bitwise op ≡ false → (number : ℕ)
+          → code_words (if n == 0 then [] else counted_code (shift_of up left) (home h a) (home h to) (shifted_bytes up a.bytes n) number)
+          ≤ binary_words op ty aty bty
+      by_shift up i q number =
+          let j = i.0 in
+          let same = j.same_bytes in
+          let sh = shift_of up left in
+          let m = shifted_bytes up a.bytes n in
+          let few : m ≤ a.bytes = fewer_bytes up a.bytes n (omega (arith, same, l)) in
+          let first = move_code (home h a) (home h to) m in
+          let second = turned_by_code sh (home h to) m number in
+          let y = other_row op ty aty bty q in
+          let x = first_within ty aty bty j.signed to.bytes j.result_type in
+          let u = unless_none n (11 * m + 28) (first ++ second)
+          (omega (arith, joined_words first second, move_words (home h a) (home h to) m, counted_shifts_have_words sh (home h to) m number)) in
+          let z = within (code_words (if n == 0 then [] else first ++ second)) (widest (ty ∷ aty ∷ bty ∷ [])) (omega (arith, x, u, few, same))
+          (some_within ty aty bty) in
+          omega (arith, y, z)
+
+      no_shifted_bits : (x : TakesShift op) → is_bitwise op ≡ false
+      no_shifted_bits x = by_op op x.up x.is
+        where
+          by_op : (op : BinOp) (up : Bool) → family_of op ≡ Shifted up → is_bitwise op ≡ false
+          by_op Shl up q = refl
+          by_op Shr up q = refl
+          by_op op up q = absurd cc
+
+      by_number : (x : TakesSum op ⊎ (TakesOrder op ⊎ TakesShift op)) → (told : Option Told) (number : RightNumber)
           → code_words (taking_code (Some number) told (family_of op) left right (home h a) (home h b) (home h to) a.bytes n)
           ≤ binary_words op ty aty bty
       by_number (inl x) None number =
@@ -492,13 +520,20 @@ module _ (laws : WordLaws) where
           let s = j.left_bytes in
           row (is_bitwise op) refl (code_words (compared_with_code (home h a) (low_bytes 16 number.number) compared))
           (omega (arith, z, s, few)) (λ q. omega (arith, z, s, few)) j.signed j.result_type
-      by_number (inr x) None number =
+      by_number (inr (inl x)) None number =
           let j = subst (λ z. IsBinary z slots to a b ty aty bty) x.is i in
           rw x.is (by_order x.relation (compared_signed (Some number) left) j (no_bits x) (low_bytes 16 number.number)
           (bytes_compared (Some number) a.bytes) (compared_few number a.bytes))
-      by_number (inr x) (Some told) number =
+      by_number (inr (inl x)) (Some told) number =
           let j = subst (λ z. IsBinary z slots to a b ty aty bty) x.is i in
           by_flag j.left j.signed j.left_type (no_bits x) (low_bytes 16 number.number) (bytes_compared (Some number) a.bytes)
+          (compared_few number a.bytes)
+      by_number (inr (inr x)) None number =
+          rw x.is (by_shift x.up (subst (λ z. IsBinary z slots to a b ty aty bty) x.is i) (no_shifted_bits x)
+          (low_bytes 16 number.number % 256))
+      by_number (inr (inr x)) (Some told) number =
+          let j = (subst (λ z. IsBinary z slots to a b ty aty bty) x.is i).0 in
+          by_flag j.left j.signed j.left_type (no_shifted_bits x) (low_bytes 16 number.number) (bytes_compared (Some number) a.bytes)
           (compared_few number a.bytes)
 
       by_taken : (x : Option RightNumber) → number_taken known false op ≡ x

@@ -25,10 +25,11 @@ use Rattle.ec_core.specs.Integers.{wrapped, is_count}
 use Rattle.ec_ir.specs.Temporaries.{low_bytes, number_of_bytes}
 use Rattle.ec_select_shifts.specs.declared.shifts.Direction.{Direction}
 use Rattle.ec_select_shifts.specs.declared.shifts.Direction.TheVariants.{Left, Right}
-use Rattle.ec_select_shifts.specs.Shifts.{shifted_by, shift_code}
+use Rattle.ec_select_shifts.specs.Shifts.{shifted_by, shift_code, counted_code as turned_by_code}
 use Rattle.ec_select_shifts.specs.Laws.{Leads}
+use Rattle.ec_select_shifts.proofs.Counted.{counted_shifts_are_right}
 use Rattle.ec_select_shifts.proofs.Loops.{shifts_are_right}
-use Rattle.ec_select_operations.specs.Code.{move_code, turned_code, shift_of, shifted_bytes}
+use Rattle.ec_select_operations.specs.Code.{move_code, turned_code, counted_code, shift_of, shifted_bytes}
 use Rattle.ec_select_functions.proofs.Setting.{Setting}
 use Rattle.ec_select_functions.proofs.Computed.{stand, moved_numbers}
 use Rattle.ec_select_functions.proofs.Match.{read_first}
@@ -220,3 +221,40 @@ module _ (p : PlainProgram) (e : Env) (slots : ℕ) (home : Temp → Location) (
 
       bound : (i j k m n : ℕ) → i ≤ m → j ≤ 1 * 2 → k ≤ n → i + j + k ≤ m + 2 + n
       bound i j k m n a b c = omega (arith, a, b, c)
+
+  -- the number is brought to its place, and shifted by a known count
+  pub counted_leads : (sh : Direction) (t a : Temp) (w x c pc end : ℕ) (v : View) → HasHome slots t → HasHome slots a
+      → suc w ≤ t.bytes → suc w ≤ a.bytes → value v.at (base a) (suc w) ≡ x → c < 128 → HoldsNumbers v
+      → HasAt e (counted_code sh (home a) (home t) (suc w) c) pc end
+      → Leads e (suc w * 2 + (4 + c * (2 + 4 * suc w))) pc v end (base t) (suc w) (shifted_by sh (suc w) x c)
+  counted_leads sh t a w x c pc end v it ia lt la xa small h stands =
+      let n = suc w in
+      let first = move_code (home a) (home t) n in
+      let s1 = has_parts e first (turned_by_code sh (home t) n c) pc end stands in
+      let v1 = block e first v in
+      let k1 =
+      move_holds e (home a) (home t) n (base a) (base t) v (stand p e slots home base place y a n ia la)
+      (stand p e slots home base place y t n it lt) (read_first p e slots home base place y t a n it ia la) h in
+      let h1 = moved_numbers p e slots home base place y v v1 (base a) (base t) n (y.layout.temps_at a ia).clear h k1 in
+      let far : Outside (base t) n 30 = narrower (base t) t.bytes n 30 lt (work_outside (base t) t.bytes (y.layout.temps_work t it)) in
+      let number : value v1.at (base t) n ≡ x = row_value v1.at v.at (base a) (base t) n k1.there ∙ xa in
+      let g =
+      counted_shifts_are_right sh e (home t) w (base t) c s1.0 end v1 (stand p e slots home base place y t n it lt) far h1 small s1.2 in
+      let take1 = move_steps (home a) (home t) n in
+      let take2 = g.at_most in
+      record {
+        steps = code_steps first + g.steps;
+        at_most = bound (code_steps first) g.steps (n * 2) (4 + c * (2 + 4 * n)) take1 take2;
+        last = g.last;
+        goes = goes_on_to e (code_steps first) g.steps pc s1.0 end v v1 g.last
+            (block_goes e first pc s1.0 v (move_straight (home a) (home t) n) s1.1) g.goes;
+        number_is = g.number_is ∙ ap (λ i. shifted_by sh n i c) number;
+        numbers = g.numbers;
+        same = λ i d f r o. g.same i d f r o ∙ k1.frame i d f r o;
+        inputs = g.inputs ∙ k1.quiet.inputs;
+        safe = g.safe ∙ k1.quiet.safe;
+        seen = g.seen ∙ k1.quiet.seen;
+      }
+    where
+      bound : (i j m n : ℕ) → i ≤ m → j ≤ n → i + j ≤ m + n
+      bound i j m n a b = omega (arith, a, b)

@@ -89,7 +89,7 @@ use Rattle.ec_select_operations.specs.declared.families.Told.{Told}
 use Rattle.ec_select_operations.specs.Code.{Linkage, told_of, is_only_tested, tells, tells_next, flag_code, is_signed, compared_signed}
 use Rattle.ec_select_operations.specs.Code.{op_code, ops_code, family_of, same_location, reversed_code}
 use Rattle.ec_select_operations.specs.Code.{combined_code, binary_code, turn_code, unary_code, move_code}
-use Rattle.ec_select_operations.specs.Code.{compared_code, taking_code, changed_by_code}
+use Rattle.ec_select_operations.specs.Code.{compared_code, counted_code, taking_code, changed_by_code}
 use Rattle.ec_select_operations.specs.Code.{conversion_code, turned_code, shift_of, shifted_bytes, long_code}
 use Rattle.ec_select_functions.specs.Covered.{IsCovered, IsBinary, IsUnary, AreConverted, IsPort, AreCovered}
 use Rattle.ec_select_functions.specs.Covered.{AreIntegers, AreCompared}
@@ -113,7 +113,7 @@ use Rattle.ec_select_fixed.proofs.Formats.{fixed_number_type}
 use Rattle.ec_select_fixed.proofs.Operators.{IsNumber, as_told, binary_told}
 use Rattle.ec_select_fixed.specs.FixedLaws.{AreOperandSlots, HasOperandBytes}
 use Rattle.ec_select_operations.specs.Needs.{is_fixed, is_whole, first_wanted, second_wanted, only_wanted, right_needed}
-use Rattle.ec_select_operations.specs.Needs.{takes_number, number_taken, compared_bytes}
+use Rattle.ec_select_operations.specs.Needs.{takes_number, number_taken, compared_bytes, first_bytes}
 use Rattle.ec_select_operations.specs.Pointers.{is_pointer, address_number, IsPointerIn}
 use Rattle.ec_select_operations.specs.Code.{pointer_binary, pointer_conversion}
 use Rattle.ec_select_operations.specs.Places.{IsNumeric}
@@ -132,7 +132,7 @@ use Rattle.ec_select_functions.proofs.PointerNumbers.{number_below}
 use Rattle.ec_select_functions.proofs.PointerSteps.{pointer_binary_follows, pointer_conversion_follows}
 use Rattle.ec_select_functions.proofs.Computed.{stand, constant_matches, copy_matches, binary_matches, moved_numbers}
 use Rattle.ec_select_functions.proofs.Computed.{result_of}
-use Rattle.ec_select_functions.proofs.Taken.{is_changed, TakesSum, TakesOrder, takes, taken_is}
+use Rattle.ec_select_functions.proofs.Taken.{is_changed, TakesSum, TakesOrder, TakesShift, takes, taken_is}
 use Rattle.ec_select_functions.proofs.ByNumber.{changed_form, right_held, ByteNumber, byte_value, byte_bytes, number_low, number_matches, number_put}
 use Rattle.ec_select_functions.proofs.ByNumber.{fails_by_number, holds_by_number}
 use Rattle.ec_select_functions.proofs.Extended.{conversion_matches}
@@ -163,7 +163,8 @@ use Rattle.ec_select_functions.proofs.Related.{told_matches}
 use Rattle.ec_select_functions.proofs.Truth.{bit_is, not_not, truth_low, held_at, content_of_held, same_temp}
 use Rattle.ec_select_functions.proofs.Multiplied.{product_low}
 use Rattle.ec_select_functions.proofs.Shifted.{count_is, shift_number, shift_low, shift_part, shifted_below}
-use Rattle.ec_select_functions.proofs.Shifted.{turned_leads}
+use Rattle.ec_select_shifts.specs.declared.shifts.Direction.{Direction}
+use Rattle.ec_select_functions.proofs.Shifted.{turned_leads, counted_leads}
 use Rattle.ec_select_functions.proofs.Divided.{int_part, quotient_low, not_zero}
 use Rattle.ec_select_functions.proofs.Turned.{turned, turns, unary_matches}
 use Rattle.ec_select_functions.proofs.Wrapped.{low_of_wrapped, low_below, kept_below}
@@ -480,6 +481,21 @@ module _ (p : PlainProgram) (functions : List PlainIrFunction) (e : Env) (slots 
   all_right_wanted Eq r exchanged h bytes k q = all_when bytes k q
   all_right_wanted Ne r exchanged h bytes k q = all_when bytes k q
   all_right_wanted op r exchanged h bytes k q = absurd cc
+
+  -- what takes part of the first operand of a comparison, or of a shift by a number
+  first_compared : (op : BinOp) (r : Relation) → family_of op ≡ Compared r false → (k : RightNumber) (bytes : ℕ)
+      → first_bytes (Some k) op bytes ≡ compared_bytes (Some k) bytes
+  first_compared Lt r h k bytes = refl
+  first_compared Ge r h k bytes = refl
+  first_compared Eq r h k bytes = refl
+  first_compared Ne r h k bytes = refl
+  first_compared op r h k bytes = absurd cc
+
+  first_shifted : (op : BinOp) (up : Bool) → family_of op ≡ Shifted up → (number : RightNumber) (bytes k : ℕ) → (k == 0) ≡ false
+      → operand_wanted op (first_bytes (Some number) op bytes) k ≡ shifted_bytes up bytes k
+  first_shifted Shl true h number bytes k q = refl
+  first_shifted Shr false h number bytes k q = all_when bytes k q
+  first_shifted op up h number bytes k q = absurd cc
 
   -- the words of an operator of temporaries
   relation_big : (op : BinOp) (ty aty bty : PlainType) → 102 ≤ 64 * binary_words op ty aty bty
@@ -1229,6 +1245,155 @@ module _ (p : PlainProgram) (functions : List PlainIrFunction) (e : Env) (slots 
           (sym number)
           (⊎_elim (λ r. dead r low1 low2 below) (λ r. alive r low1 low2 qa qb below (omega (arith, c.1, room)))
           (cases_Bool ((wanted (needs at rest) t) == 0)))
+
+  -- the same with a known count
+  shifted_number_follows : (op : BinOp) (up : Bool) → family_of op ≡ Shifted up → (s s2 : Bool) (mode : Mode) (t a b : Temp) (k : ℤ)
+      (wide : ℕ) (rest : List PlainIr) (n pc : ℕ) (m : Mach) (v : View) → HasHome slots t → HasHome slots a → HasHome slots b
+      → a.bytes ≡ t.bytes → IsKnown b k m
+      → ((wanted (needs at rest) t == 0) ≡ false → wide ≡ shifted_bytes up a.bytes (wanted (needs at rest) t))
+      → HasAt e ((if wanted (needs at rest) t == 0 then []
+      else counted_code (shift_of up s) (home a) (home t) (shifted_bytes up a.bytes (wanted (needs at rest) t)) (low_bytes 16 k % 256))
+      ++ items rest) pc end
+      → M (at_least a.at wide (without t.at (needs at rest))) m v → Rest (suc n) rest
+      → G (suc n) m.state.work pc v
+      (P n (binary_op op (integer s a.bytes) mode t a (integer s a.bytes) b (integer s2 b.bytes)) rest m)
+  shifted_number_follows op up is s s2 mode t a b k wide rest n pc m v it ia ib same known wants stands h f =
+      from_number p place e s a m.temps (worked c m.state) _ (suc n) m.state.work pc v
+      (λ low1 qa. from_number p place e s2 b m.temps (worked c m.state) _ (suc n) m.state.work pc v
+      (λ low2 qb.
+      subst
+      (λ o. G (suc n) m.state.work pc v
+      (next (given o (worked c m.state)) (λ u st3. R (suc n) rest (machine (with_temp t u m.temps) st3))))
+      (sym (shift_value op up is mode s s2 a.bytes b.bytes low1 low2 (worked c m.state) (worked c m.state)))
+      (by_count low1 low2 qa qb (h.temps_hold a _ ia qa refl).1 (h.temps_hold b _ ib qb refl).1
+      (is_count (8 * a.bytes) (number_of_bytes s2 b.bytes low2)) refl)))
+    where
+      c : ℕ
+      c = op_steps (binary_op op (integer s a.bytes) mode t a (integer s a.bytes) b (integer s2 b.bytes))
+
+      w : ℕ
+      w = wanted (needs at rest) t
+
+      width : ℕ
+      width = shifted_bytes up a.bytes w
+
+      sh : Direction
+      sh = shift_of up s
+
+      count : ℕ
+      count = low_bytes 16 k % 256
+
+      need0 : Need
+      need0 = at_least a.at wide (without t.at (needs at rest))
+
+      need1 : Need
+      need1 = at_least a.at width (without t.at (needs at rest))
+
+      still : (ka : ℕ) (u : ℕ) → u ≢ t.at → needs at rest u ≤ at_least a.at ka (without t.at (needs at rest)) u
+      still ka u d =
+          let x = without_other t.at u (needs at rest) d in
+          let z = least_other a.at ka u (without t.at (needs at rest)) in
+          omega (arith, x, z)
+
+      after_shift : (low1 low2 : ℕ) → Mach
+      after_shift low1 low2 = after_operator t (shifted_by sh t.bytes low1 low2) c m
+
+      dead : (w == 0) ≡ true → (low1 low2 : ℕ) → low1 < 256 ^ t.bytes
+          → G (suc n) m.state.work pc v (R (suc n) rest (after_shift low1 low2))
+      dead q low1 low2 below =
+          let m1 = after_shift low1 low2 in
+          let stand = subst (λ (x : Bool). HasAt e ((if x then [] else counted_code sh (home a) (home t) width count) ++ items rest) pc end)
+          q stands in
+          let matches = not_needed t (shifted_by sh t.bytes low1 low2) c (needs at rest) need0 m v it (eqb-true w 0 q)
+          (shifted_below sh t.bytes low1 low2 below) (still wide) h in
+          goes_past [] (items rest) (suc n) (suc n) m.state.work m1.state.work pc v (R (suc n) rest m1) stand refl (omega arith)
+          (omega arith)
+          (λ mid u. f mid m1 v u matches)
+
+      alive : (w == 0) ≡ false → (low1 low2 : ℕ) → m.temps a.at ≡ Some (record { bytes = a.bytes; content = bits low1 })
+          → m.temps b.at ≡ Some (record { bytes = b.bytes; content = bits low2 }) → low1 < 256 ^ t.bytes → low2 < 128
+          → G (suc n) m.state.work pc v (R (suc n) rest (after_shift low1 low2))
+      alive q low1 low2 qa qb below small =
+          let most = wanted_most (needs at rest) t in
+          let part = shifted_some up a.bytes w ia.some q (omega (arith, most, same)) in
+          by_width (width - 1) (omega (arith, part)) part.1
+        where
+          h1 : M need1 m v
+          h1 = subst (λ x. M (at_least a.at x (without t.at (needs at rest))) m v) (wants q) h
+
+          count_at : count ≡ low2
+          count_at =
+              let some = ib.some in
+              let eight = ib.most in
+              number_low k 1 b.bytes some (omega (arith, eight)) ∙ ap (λ x. x % 256 ^ 1) (sym (known low2 qb))
+              ∙ kept_below low2 (256 ^ 1) (omega (arith, small))
+
+          by_width : (j : ℕ) → width ≡ suc j → width ≤ a.bytes → G (suc n) m.state.work pc v (R (suc n) rest (after_shift low1 low2))
+          by_width j q1 less =
+              let code : (if w == 0 then [] else counted_code sh (home a) (home t) width count)
+              ≡ counted_code sh (home a) (home t) (suc j) low2 =
+              ap (λ (x : Bool). if x then [] else counted_code sh (home a) (home t) width count) q
+              ∙ ap (λ x. counted_code sh (home a) (home t) x count) q1 ∙ ap (counted_code sh (home a) (home t) (suc j)) count_at in
+              let stand : HasAt e (counted_code sh (home a) (home t) (suc j) low2 ++ items rest) pc end =
+              subst (λ x. HasAt e (x ++ items rest) pc end) code stands in
+              let parts = has_parts e (counted_code sh (home a) (home t) (suc j) low2) (items rest) pc end stand in
+              let here = least_here a.at width (without t.at (needs at rest)) in
+              let left0 : value v.at (base a) width ≡ low1 % 256 ^ width =
+              (at_width p e slots home base place y need1 m v a _ width h1 ia qa refl (omega (arith, here, less))).0 in
+              let left : value v.at (base a) (suc j) ≡ low1 % 256 ^ width =
+              subst (λ x. value v.at (base a) x ≡ low1 % 256 ^ width) q1 left0 in
+              let g =
+              counted_leads p e slots home base place y sh t a j (low1 % 256 ^ width) low2 pc parts.0 v it ia
+              (omega (arith, q1, less, same)) (omega (arith, q1, less)) left small h1.bytes parts.1 in
+              let number : value g.last.at (base t) width ≡ shifted_by sh width (low1 % 256 ^ width) low2 =
+              subst (λ x. value g.last.at (base t) x ≡ shifted_by sh x (low1 % 256 ^ width) low2) (sym q1) g.number_is in
+              let number1 : value g.last.at (base t) (shifted_bytes up t.bytes w)
+              ≡ shifted_by sh (shifted_bytes up t.bytes w) (low1 % 256 ^ shifted_bytes up t.bytes w) low2 =
+              subst (λ x. value g.last.at (base t) (shifted_bytes up x w)
+              ≡ shifted_by sh (shifted_bytes up x w) (low1 % 256 ^ shifted_bytes up x w) low2) same number in
+              let most = wanted_most (needs at rest) t in
+              let clear = (y.layout.temps_at t it).clear in
+              let part =
+              shift_part up s g.last.at (base t) w t.bytes low1 low2 most below (λ x l. g.numbers (base t + x) (omega arith)) number1 in
+              let m1 = after_shift low1 low2 in
+              let frame : Frame v g.last (base t) t.bytes =
+              λ x d r u o. g.same x d r u (narrower (base t) t.bytes (suc j) x (omega (arith, q1, less, same)) o) in
+              let matches =
+              written p e slots home base place y t (bits (shifted_by sh t.bytes low1 low2)) (needs at rest) need1 m
+              (worked c m.state) v g.last it h1 (still width) frame (part, shifted_below sh t.bytes low1 low2 below) g.numbers refl
+              (g.seen ∙ h1.seen) (kept_left y.inputs m.state v g.last (g.inputs) h1.left) (g.safe ∙ h1.safe) in
+              let take = g.at_most in
+              let room = ia.most in
+              let fits = shift_room (suc j) low2 (omega (arith, q1, less, room)) small in
+              let big = shift_big op up is (integer s a.bytes) (integer s a.bytes) (integer s2 b.bytes) in
+              after p place e g.steps (suc n) (suc n) m.state.work m1.state.work pc parts.0 v g.last (R (suc n) rest m1) g.goes
+              (omega arith) (omega (arith, take, fits, big)) (f parts.0 m1 g.last parts.2 matches)
+
+      by_count : (low1 low2 : ℕ) → m.temps a.at ≡ Some (record { bytes = a.bytes; content = bits low1 })
+          → m.temps b.at ≡ Some (record { bytes = b.bytes; content = bits low2 }) → low1 < 256 ^ a.bytes → low2 < 256 ^ b.bytes
+          → (x : Bool) → is_count (8 * a.bytes) (number_of_bytes s2 b.bytes low2) ≡ x
+          → G (suc n) m.state.work pc v
+          (next
+          (given
+          (as_number
+          (if x then Ok
+          (wrapped (record { signed = s; bytes = a.bytes })
+          (shift_number up (number_of_bytes s a.bytes low1) (unsigned_abs (number_of_bytes s2 b.bytes low2)))) else Err ShiftCount))
+          (worked c m.state))
+          (λ u st3. R (suc n) rest (machine (with_temp t u m.temps) st3)))
+      by_count low1 low2 qa qb below1 below2 false q = tt
+      by_count low1 low2 qa qb below1 below2 true q =
+          let x = count_is s2 b.bytes low2 (8 * a.bytes) below2 q in
+          let turns = unsigned_abs (number_of_bytes s2 b.bytes low2) in
+          let room = ia.most in
+          let z = wrapped (record { signed = s; bytes = a.bytes }) (shift_number up (number_of_bytes s a.bytes low1) turns) in
+          let below : low1 < 256 ^ t.bytes = subst (λ i. low1 < 256 ^ i) same below1 in
+          let number0 : low_bytes a.bytes z ≡ shifted_by sh a.bytes low1 low2 =
+          shift_low up s a.bytes low1 turns below1 ∙ ap (shifted_by sh a.bytes low1) x.0 in
+          let number : low_bytes t.bytes z ≡ shifted_by sh t.bytes low1 low2 =
+          subst (λ i. low_bytes i z ≡ shifted_by sh i low1 low2) same number0 in
+          subst (λ i. G (suc n) m.state.work pc v (R (suc n) rest (after_operator t i c m))) (sym number)
+          (⊎_elim (λ r. dead r low1 low2 below) (λ r. alive r low1 low2 qa qb below (omega (arith, x.1, room))) (cases_Bool (w == 0)))
 
   -- ---- quotients and remainders
 
@@ -3319,7 +3484,7 @@ module _ (p : PlainProgram) (functions : List PlainIrFunction) (e : Env) (slots 
   -- what is needed before it
   abbrev number_needs : BinOp → (t a : Temp) → RightNumber → List PlainIr → Need
   number_needs op t a k rest =
-      at_least a.at (operand_wanted op (compared_bytes (Some k) a.bytes) (wanted (needs at rest) t)) (without t.at (needs at rest))
+      at_least a.at (operand_wanted op (first_bytes (Some k) op a.bytes) (wanted (needs at rest) t)) (without t.at (needs at rest))
 
   -- what is shown of it
   abbrev NumberCase : BinOp → PlainType → Mode → (t a : Temp) → PlainType → Temp → PlainType → RightNumber → ℕ → List PlainIr → (n : ℕ)
@@ -3349,7 +3514,7 @@ module _ (p : PlainProgram) (functions : List PlainIrFunction) (e : Env) (slots 
       (integer i.right_signed b.bytes)) (compared_signed (Some k) i.left_signed))
       stands))
       (subst (λ x. M (at_least a.at x (without t.at (needs at rest))) m v)
-      (low_bytes_wanted op o is (compared_bytes (Some k) a.bytes) (wanted (needs at rest) t)) h)
+      (low_bytes_wanted op o is (first_bytes (Some k) op a.bytes) (wanted (needs at rest) t)) h)
       f))))
     where
       untold : (only apart s : Bool) → (if only then told_by apart (family_of op) s else None) ≡ None
@@ -3435,6 +3600,12 @@ module _ (p : PlainProgram) (functions : List PlainIrFunction) (e : Env) (slots 
               (by_byte a b k.number i.signed m i.left i.same_bytes known more z.1 z.2)
           by_kind false q = by_all a b k.number i.signed m i.left i.same_bytes known
 
+      compared_needed : (ops : List PlainIr) → M (number_needs op t a k ops) m v
+          → M (at_least a.at (operand_wanted op size (wanted (needs at ops) t)) (without t.at (needs at ops))) m v
+      compared_needed ops h =
+          subst (λ x. M (at_least a.at (operand_wanted op x (wanted (needs at ops) t)) (without t.at (needs at ops))) m v)
+          (first_compared op r is k a.bytes) h
+
       telling : List PlainIr → Option Told
       telling ops = number_told op ty mode t (integer i.signed a.bytes) (integer i.signed b.bytes) k ops
 
@@ -3448,7 +3619,8 @@ module _ (p : PlainProgram) (functions : List PlainIrFunction) (e : Env) (slots 
       by_told None q behind stands h f =
           related_number_follows op r is i.signed sign size ty mode t a b k.number rest n pc m v i.result i.left i.right i.same_bytes known by
           (subst (λ x. HasAt e (taking_code (Some k) None x i.signed i.signed (home a) (home b) (home t) a.bytes
-          (wanted (needs at rest) t) ++ items rest) pc end) is (subst (λ x. HasAt e (code x rest) pc end) q stands)) h f
+          (wanted (needs at rest) t) ++ items rest) pc end) is (subst (λ x. HasAt e (code x rest) pc end) q stands))
+          (compared_needed rest h) f
       by_told (Some told) q behind stands h f =
           let z = are_testing t rest (told_by false (family_of op) sign) told q in
           subst
@@ -3460,8 +3632,37 @@ module _ (p : PlainProgram) (functions : List PlainIrFunction) (e : Env) (slots 
           told_number_follows start z.l op r is i.signed sign size ty mode t a b k.number z.rest n pc m v ready behind1.covered.1 behind1.live
           behind1.inside i.result i.left i.right i.same_bytes by z.none
           (subst (λ (x : Told). HasAt e (compared_with_code (home a) (low_bytes 16 k.number) size
-          ++ (unless_code x.relation x.signed (link.label_of z.l) ++ items z.rest)) pc end) (sym same) stands1) h1 go)
+          ++ (unless_code x.relation x.signed (link.label_of z.l) ++ items z.rest)) pc end) (sym same) stands1)
+          (compared_needed (branch_zero t z.l ∷ z.rest) h1) go)
           behind (subst (λ x. HasAt e (code x rest) pc end) q stands) h
+
+  -- a shift
+  shifted_number : (op : BinOp) (up : Bool) → family_of op ≡ Shifted up → (ty : PlainType) (mode : Mode) (t a : Temp) (aty : PlainType)
+      (b : Temp) (bty : PlainType) (k : RightNumber) (pc : ℕ) (rest : List PlainIr) (n : ℕ) (m : Mach) (v : View)
+      → IsBinary (Shifted up) slots t a b ty aty bty → IsKnown b k.number m → NumberCase op ty mode t a aty b bty k pc rest n m v
+  shifted_number op up is ty mode t a aty b bty k pc rest n m v j known =
+      let i = j.0 in
+      let same : a.bytes ≡ t.bytes = i.same_bytes in
+      let type : ty ≡ integer i.signed a.bytes = i.result_type ∙ ap (integer i.signed) (sym same) in
+      (subst (λ x. NumberCase op x mode t a aty b bty k pc rest n m v) (sym type)
+      (subst (λ x. NumberCase op (integer i.signed a.bytes) mode t a x b bty k pc rest n m v) (sym i.left_type)
+      (subst (λ x. NumberCase op (integer i.signed a.bytes) mode t a (integer i.signed a.bytes) b x k pc rest n m v) (sym i.count_type)
+      (λ behind stands h f. shifted_number_follows op up is i.signed i.count_signed mode t a b k.number
+      (operand_wanted op (first_bytes (Some k) op a.bytes) (wanted (needs at rest) t)) rest n pc m v i.result i.left i.count same known
+      (λ q. first_shifted op up is k a.bytes (wanted (needs at rest) t) q)
+      (subst (λ x. HasAt e (taking_code (Some k) None x i.signed i.count_signed (home a) (home b) (home t) a.bytes
+      (wanted (needs at rest) t) ++ items rest) pc end) is
+      (subst (λ x. HasAt e (taking_code (Some k) x (family_of op) i.signed i.count_signed (home a) (home b) (home t) a.bytes
+      (wanted (needs at rest) t) ++ items_told x rest) pc end)
+      (untold (is_only_tested t (slice_get rest 0) (slice_index (wanted_bytes at rest) 0))
+      (is_apart (family_of op) mode (integer i.signed a.bytes) (integer i.signed a.bytes)
+      (integer i.count_signed b.bytes)) (compared_signed (Some k) i.signed))
+      stands)) h f))))
+    where
+      untold : (only apart s : Bool) → (if only then told_by apart (family_of op) s else None) ≡ None
+      untold false apart s = refl
+      untold true true s = refl
+      untold true false s = ap (λ x. told_of x s) is
 
   number_follows : (start : ℕ) → Ready start all → (n : ℕ) → Onward n → (op : BinOp) (ty : PlainType) (mode : Mode)
       (t a : Temp) (aty : PlainType) (b : Temp) (bty : PlainType) (k : RightNumber) (pc : ℕ) (rest : List PlainIr) (m : Mach) (v : View)
@@ -3471,8 +3672,11 @@ module _ (p : PlainProgram) (functions : List PlainIrFunction) (e : Env) (slots 
       ⊎_elim
       (λ (x : TakesSum op). combined_number op x.operator x.is x.changed ty mode t a aty b bty k pc rest n m v
       (subst (λ z. IsBinary z slots t a b ty aty bty) x.is i) known)
+      (λ (z : TakesOrder op ⊎ TakesShift op). ⊎_elim
       (λ (x : TakesOrder op). compared_number start ready n go op x.relation x.is ty mode t a aty b bty k pc rest m v
       (subst (λ z. IsBinary z slots t a b ty aty bty) x.is i) known byte)
+      (λ (x : TakesShift op). shifted_number op x.up x.is ty mode t a aty b bty k pc rest n m v
+      (subst (λ z. IsBinary z slots t a b ty aty bty) x.is i) known) z)
       (takes op taken)
 
   -- ---- operators on numbers of one fixed-point format, which are those of the integers of their bytes
@@ -3692,7 +3896,7 @@ module _ (p : PlainProgram) (functions : List PlainIrFunction) (e : Env) (slots 
 
       needs_with : Option RightNumber → Need
       needs_with taken =
-          at_least a.at (first_wanted is_wx op (compared_bytes taken a.bytes) w)
+          at_least a.at (first_wanted is_wx op (first_bytes taken op a.bytes) w)
           (right_needed taken b.at (second_wanted is_wx op b.bytes w) (without t.at (needs at rest)))
 
       own_needs : is_wx ≡ true → M (plain_needs i rest) m v
@@ -3748,7 +3952,7 @@ module _ (p : PlainProgram) (functions : List PlainIrFunction) (e : Env) (slots 
               ++ items_told telling rest) pc end) fx
               (subst (λ x. HasAt e (code_by_kind is_fx of_fixed (code_by_kind is_px of_pointers (of_integers x))
               ++ items_told telling rest) pc end) q r.stands))))
-              (subst (λ x. M (at_least a.at (first_wanted x op (compared_bytes (Some number) a.bytes) w) (without t.at (needs at rest))) m v) wx
+              (subst (λ x. M (at_least a.at (first_wanted x op (first_bytes (Some number) op a.bytes) w) (without t.at (needs at rest))) m v) wx
               (subst (λ x. M (needs_with x) m v) (taken_so (Some number) q) h)) f
 
   -- what is shown of an operation whose second operand holds what is known of it, where it is of those behind it

@@ -10,7 +10,7 @@ use Rattle.ec_ir_known.specs.declared.known.RightNumber.{RightNumber}
 use Rattle.ec_select_order.specs.declared.relations.Relation.{Relation}
 use Rattle.ec_select_order.specs.declared.relations.Relation.TheVariants.{Less, NotLess, Equal, NotEqual}
 use Rattle.ec_select_operations.specs.declared.families.Family.{Family}
-use Rattle.ec_select_operations.specs.declared.families.Family.TheVariants.{Combined, Compared}
+use Rattle.ec_select_operations.specs.declared.families.Family.TheVariants.{Combined, Compared, Shifted}
 use Rattle.ec_select_operations.specs.Code.{family_of}
 use Rattle.ec_select_operations.specs.Needs.{takes_number, number_taken, compared_bytes}
 
@@ -28,21 +28,25 @@ pub record TakesOrder (op : BinOp) : Type 0 where
   pub relation : Relation
   pub is : family_of op ≡ Compared relation false
 
-pub takes : (op : BinOp) → takes_number op ≡ true → TakesSum op ⊎ TakesOrder op
+pub record TakesShift (op : BinOp) : Type 0 where
+  pub up : Bool
+  pub is : family_of op ≡ Shifted up
+
+pub takes : (op : BinOp) → takes_number op ≡ true → TakesSum op ⊎ (TakesOrder op ⊎ TakesShift op)
 takes Add q = inl (record { operator = Sum; is = refl; changed = refl })
 takes Sub q = inl (record { operator = Difference; is = refl; changed = refl })
 takes And q = inl (record { operator = BitAnd; is = refl; changed = refl })
 takes Or q = inl (record { operator = BitOr; is = refl; changed = refl })
-takes Lt q = inr (record { relation = Less; is = refl })
-takes Ge q = inr (record { relation = NotLess; is = refl })
-takes Eq q = inr (record { relation = Equal; is = refl })
-takes Ne q = inr (record { relation = NotEqual; is = refl })
+takes Lt q = inr (inl (record { relation = Less; is = refl }))
+takes Ge q = inr (inl (record { relation = NotLess; is = refl }))
+takes Eq q = inr (inl (record { relation = Equal; is = refl }))
+takes Ne q = inr (inl (record { relation = NotEqual; is = refl }))
 takes Xor q = absurd cc
 takes Mul q = absurd cc
 takes Div q = absurd cc
 takes Rem q = absurd cc
-takes Shl q = absurd cc
-takes Shr q = absurd cc
+takes Shl q = inr (inr (record { up = true; is = refl }))
+takes Shr q = inr (inr (record { up = false; is = refl }))
 takes Gt q = absurd cc
 takes Le q = absurd cc
 

@@ -15,7 +15,7 @@ use Rattle.ec_ir_known.specs.declared.known.RightNumber.{RightNumber}
 use Rattle.ec_select_operations.specs.Needs.{Need, at_least, without, either, wanted, is_of_low_bytes}
 use Rattle.ec_select_operations.specs.Needs.{is_whole, first_wanted, second_wanted, only_wanted}
 use Rattle.ec_select_operations.specs.Needs.{index_needed, all_or_none, operand_wanted, right_wanted, returned_need}
-use Rattle.ec_select_operations.specs.Needs.{number_taken, compared_bytes, right_needed, before, Facts, facts_of, known_right}
+use Rattle.ec_select_operations.specs.Needs.{number_taken, first_bytes, right_needed, before, Facts, facts_of, known_right}
 use Rattle.ec_select_operations.specs.Needs.{needs}
 use Rattle.ec_select_operations.specs.Needs.{IsLiveBy, IsLive}
 use Rattle.ec_select_live.specs.Least.{HasLabel, HaveLabels, IsLeast}
@@ -100,10 +100,10 @@ before_more n s at other known (store_object o offset t) a b l k q h = more_leas
 before_more n s at other known (binary_op op ty mode to x xty y yty) a b l k q h =
     let w = is_whole xty || is_whole yty in
     let taken = number_taken known w op in
-    more_least s x.at (first_wanted w op (compared_bytes taken x.bytes) (wanted a to)) (first_wanted w op (compared_bytes taken x.bytes) (wanted b to))
+    more_least s x.at (first_wanted w op (first_bytes taken op x.bytes) (wanted a to)) (first_wanted w op (first_bytes taken op x.bytes) (wanted b to))
     (right_needed taken y.at (second_wanted w op y.bytes (wanted a to)) (without to.at a))
     (right_needed taken y.at (second_wanted w op y.bytes (wanted b to)) (without to.at b))
-    (more_first w op (compared_bytes taken x.bytes) (wanted a to) (wanted b to) (more_wanted s to a b l.0 h))
+    (more_first w op (first_bytes taken op x.bytes) (wanted a to) (wanted b to) (more_wanted s to a b l.0 h))
     (more_second_needed s taken y.at (second_wanted w op y.bytes (wanted a to)) (second_wanted w op y.bytes (wanted b to)) (without to.at a)
     (without to.at b) (more_second w op y.bytes (wanted a to) (wanted b to) (more_wanted s to a b l.0 h)) (more_without s to.at a b h))
 before_more n s at other known (unary_op op ty mode to x) a b l k q h = more_alone s (is_whole ty) to x a b l.0 h

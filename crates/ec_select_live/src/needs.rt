@@ -3,7 +3,7 @@ ghost use Rattle.std.specs.Prelude.{◌<◌, length};
 ghost use Rattle.ec_ir.specs.Operations.{plain_ir};
 ghost use Rattle.ec_select_operations.specs.Needs.{before, either, at_least, without, wanted, index_needed};
 ghost use Rattle.ec_select_operations.specs.Needs.{returned_need, without_result, first_wanted, second_wanted};
-ghost use Rattle.ec_select_operations.specs.Needs.{only_wanted, number_taken, right_needed, compared_bytes};
+ghost use Rattle.ec_select_operations.specs.Needs.{only_wanted, number_taken, right_needed, first_bytes};
 ghost use Rattle.ec_select_live.specs.Places.{MayHavePlace, HasPlaces};
 ghost use Rattle.ec_select_live.specs.Tables.{need_of, needs_of, AreSame};
 
@@ -12,7 +12,7 @@ use crate::table::{LabelNeeds, zeros};
 use ec_core::BinOp;
 use ec_ir::{Ir, Temp};
 use ec_ir_known::RightNumber;
-use ec_select_operations::{compared_bytes, is_whole, number_taken};
+use ec_select_operations::{first_bytes, is_whole, number_taken};
 use ec_space::{NoMemory, Seq};
 use std::alloc::Global;
 
@@ -54,15 +54,15 @@ fn pass_operands(
     requires left { a.at < length need.old }
     requires right { b.at < length need.old }
     ensures { AreSame (length need.old) (need_of need.new)
-        (at_least a.at (first_wanted whole op (compared_bytes taken a.bytes) (wanted (need_of need.old) to))
+        (at_least a.at (first_wanted whole op (first_bytes taken op a.bytes) (wanted (need_of need.old) to))
         (right_needed taken b.at (second_wanted whole op b.bytes (wanted (need_of need.old) to))
         (without to.at (need_of need.old)))) }
 {
     let n = wanted_of(need, to);
     forget(need, to);
     keep_right(need, taken, b, second_wanted(whole, op, b.bytes, n));
-    let compared = compared_bytes(taken, a.bytes);
-    keep(need, a, first_wanted(whole, op, compared, n));
+    let bytes = first_bytes(taken, op, a.bytes);
+    keep(need, a, first_wanted(whole, op, bytes, n));
 }
 
 /// What is needed at a label.

@@ -47,7 +47,7 @@ use Rattle.ec_select_products.specs.Products.{product_code}
 use Rattle.ec_select_quotients.specs.Signs.{quotient_code}
 use Rattle.ec_select_shifts.specs.declared.shifts.Direction.{Direction}
 use Rattle.ec_select_shifts.specs.declared.shifts.Direction.TheVariants.{Left, Right}
-use Rattle.ec_select_shifts.specs.Shifts.{shift_code}
+use Rattle.ec_select_shifts.specs.Shifts.{shift_code, counted_code as turned_by_code}
 use Rattle.ec_select_numbers.specs.declared.operators.ByNumber.TheVariants.{Subtract, Mask, Set}
 use Rattle.ec_select_numbers.specs.ByNumber.{changed_code, added_code, compared_code as compared_with_code}
 use Rattle.ec_select_operations.specs.declared.families.Family.{Family}
@@ -262,20 +262,27 @@ changed_by_code BitAnd to number n = changed_code Mask to number n
 changed_by_code BitOr to number n = changed_code Set to number n
 changed_by_code BitXor to number n = []
 
--- the first operand is brought to the result's place, and changed there. A truth value needs the number at the place of
--- the second operand, and all its bytes are put there first; so many of them are compared
-abbrev pub by_number_code : Family → (signed : Bool) → (a b to : Location) → (bytes compared number n : ℕ) → List AsmItem
-by_number_code (Combined op) signed a b to bytes compared number n = move_code a to n ++ changed_by_code op to number n
-by_number_code (Compared r exchanged) signed a b to bytes compared number n =
+-- n bytes are brought to the result's place, and shifted there by so many bits
+abbrev pub counted_code : Direction → (a to : Location) → (n k : ℕ) → List AsmItem
+counted_code s a to n k = move_code a to n ++ turned_by_code s to n k
+
+-- the first operand is brought to the result's place, and changed or shifted there. A truth value needs the number at the
+-- place of the second operand, and all its bytes are put there first; so many of them are compared, with signs or without
+abbrev pub by_number_code : Family → (left signed : Bool) → (a b to : Location) → (bytes compared number n : ℕ) → List AsmItem
+by_number_code (Combined op) left signed a b to bytes compared number n =
+    move_code a to n ++ changed_by_code op to number n
+by_number_code (Compared r exchanged) left signed a b to bytes compared number n =
     if n == 0 then [] else constant_code b number bytes ++ compared_code r signed a b to compared n
-by_number_code f signed a b to bytes compared number n = []
+by_number_code (Shifted up) left signed a b to bytes compared number n =
+    if n == 0 then [] else counted_code (shift_of up left) a to (shifted_bytes up bytes n) (number % 256)
+by_number_code f left signed a b to bytes compared number n = []
 
 -- where the second operand is taken as a number, in two's complement of 16 bytes
 abbrev pub taking_code : (taken : Option RightNumber) → (telling : Option Told) → Family → (left right : Bool) → (a b to : Location)
     → (bytes n : ℕ) → List AsmItem
 taking_code None telling f left right a b to bytes n = operator_code telling f left right a b to bytes n
 taking_code (Some k) None f left right a b to bytes n =
-    by_number_code f (compared_signed (Some k) left) a b to bytes (bytes_compared (Some k) bytes) (low_bytes 16 k.number) n
+    by_number_code f left (compared_signed (Some k) left) a b to bytes (bytes_compared (Some k) bytes) (low_bytes 16 k.number) n
 taking_code (Some k) (Some told) f left right a b to bytes n =
     compared_with_code a (low_bytes 16 k.number) (bytes_compared (Some k) bytes)
 

@@ -54,15 +54,15 @@ BinaryHasBytes (Shifted up) wanted to a b =
 BinaryHasBytes (Divided r) wanted to a b =
     (1 ≤ a.bytes) × (a.bytes ≤ 4) × (a.bytes ≤ to.bytes) × (a.bytes ≤ b.bytes)
 
--- an operator that may take a number of up to 16 bytes in place of the second operand
-abbrev pub TakesNumbers : BinOp → (a b : Temp) → Type 0
-TakesNumbers op a b = takes_number op ≡ true → (a.bytes ≤ b.bytes) × (a.bytes ≤ 16)
-
--- the bytes of the second operand that an operator which computes its result in its place takes
+-- the bytes of the second operand that an operator takes which computes its result in its place, or takes a number
 abbrev pub second_bytes : BinOp → (bytes : ℕ) → ℕ
 second_bytes Shl bytes = 1
 second_bytes Shr bytes = 1
 second_bytes op bytes = bytes
+
+-- an operator that may take a number of up to 16 bytes in place of the second operand
+abbrev pub TakesNumbers : BinOp → (a b : Temp) → Type 0
+TakesNumbers op a b = takes_number op ≡ true → (second_bytes op a.bytes ≤ b.bytes) × (a.bytes ≤ 16)
 
 -- of operands that are fixed-point numbers all bytes are there
 pub record FixedHasBytes (op : BinOp) (wanted : ℕ) (to a b : Temp) (ty aty bty : PlainType) : Type 0 where

@@ -113,6 +113,8 @@ takes_number Lt = true
 takes_number Ge = true
 takes_number Eq = true
 takes_number Ne = true
+takes_number Shl = true
+takes_number Shr = true
 takes_number op = false
 
 -- the number that an operator takes, where its second operand is known to hold one: none of operands that are fixed-point
@@ -125,6 +127,12 @@ number_taken (Some n) whole op = if not whole && takes_number op then Some n els
 abbrev pub compared_bytes : (taken : Option RightNumber) → (bytes : ℕ) → ℕ
 compared_bytes None bytes = bytes
 compared_bytes (Some n) bytes = if n.in_byte then min 1 bytes else bytes
+
+-- and how many take part, of which a shift to the right takes all
+abbrev pub first_bytes : (taken : Option RightNumber) → BinOp → (bytes : ℕ) → ℕ
+first_bytes None op bytes = bytes
+first_bytes (Some n) Shr bytes = bytes
+first_bytes (Some n) op bytes = compared_bytes (Some n) bytes
 
 -- of a second operand that is taken as a number nothing is needed
 abbrev pub right_needed : Option RightNumber → (at bytes : ℕ) → Need → Need
@@ -147,7 +155,7 @@ before at n (store_object o offset t) need = at_least t.at t.bytes need
 before at n (binary_op op ty mode to a aty b bty) need =
     at_least a.at
     (first_wanted (is_whole aty || is_whole bty) op
-    (compared_bytes (number_taken n (is_whole aty || is_whole bty) op) a.bytes) (wanted need to))
+    (first_bytes (number_taken n (is_whole aty || is_whole bty) op) op a.bytes) (wanted need to))
     (right_needed (number_taken n (is_whole aty || is_whole bty) op) b.at
     (second_wanted (is_whole aty || is_whole bty) op b.bytes (wanted need to)) (without to.at need))
 before at n (unary_op op ty mode to a) need =

@@ -4,7 +4,7 @@ ghost use Rattle.ec_runs.specs.Behaviours.{BeginWith};
 ghost use Rattle.ec_asm.specs.Pieces.{HasBytes};
 ghost use Rattle.ec_select_operations.specs.Code.{same_location, move_code, family_of, compared_code, binary_code};
 ghost use Rattle.ec_select_operations.specs.Code.{combined_code, conversion_code, turn_code, unary_code, multiplied_code};
-ghost use Rattle.ec_select_operations.specs.Code.{shift_of, turned_code, shifted_code, long_code, divided_code};
+ghost use Rattle.ec_select_operations.specs.Code.{shift_of, turned_code, counted_code, shifted_code, long_code, divided_code};
 ghost use Rattle.ec_select_operations.specs.Emitted.{BinaryHasBytes};
 ghost use Rattle.ec_select_operations.specs.Code.{told_by, branch_code, told_of, flag_code, operator_code, tested_code};
 ghost use Rattle.ec_select_operations.specs.Homes.{home};
@@ -18,7 +18,7 @@ use ec_select_bytes::{combine_before, complement, extend, negate, test};
 use ec_select_order::{Relation, branch_unless, relate};
 use ec_select_products::{Factor, multiply};
 use ec_select_quotients::{Division, quotient};
-use ec_select_shifts::{Direction, shift};
+use ec_select_shifts::{Direction, shift, shift_by};
 use ec_space::{NoMemory, Seq};
 
 pub(crate) fn is_same(p: Location, q: Location) -> bool
@@ -205,7 +205,7 @@ pub fn multiply_bytes(
     multiply(out, left, right, to, wanted)
 }
 
-fn shift_of(left: bool, signed: bool) -> Direction
+pub(crate) fn shift_of(left: bool, signed: bool) -> Direction
     ensures { result ≡ shift_of left signed }
 {
     if left {
@@ -232,6 +232,25 @@ fn turn_by_count(
     move_number(out, a, to, bytes)?;
     move_number(out, b, Location::InRegisters(30), 1)?;
     shift(out, by, to, bytes)
+}
+
+/// Appends code that brings a number of so many bytes to another place, and shifts it there by a known count. Where memory
+/// runs out, a part of the code is appended.
+pub(crate) fn turn_by_number(
+    out: &mut Seq<AsmItem>,
+    by: Direction,
+    a: Location,
+    to: Location,
+    bytes: u8,
+    count: u8,
+) -> Result<(), NoMemory>
+    requires a { HasBytes a bytes }
+    requires to { HasBytes to bytes }
+    ensures ok { OnOk result (out.new.items ≡ out.old.items ++ counted_code by a to bytes count) }
+    ensures err { OnErr result (BeginWith out.old.items out.new.items) }
+{
+    move_number(out, a, to, bytes)?;
+    shift_by(out, by, to, bytes, count)
 }
 
 /// Appends code that shifts the left operand by the lowest byte of the right one: so many low bytes of the result stand

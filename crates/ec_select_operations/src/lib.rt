@@ -26,7 +26,7 @@ pub use families::{
 pub use fixed::{fixed_binary, fixed_conversion, fixed_unary};
 pub use homes::{Homes, home, index_place};
 pub use laws::{needed_code_is_written, needed_functions_are_written};
-pub use numbers::{compared_bytes, integer_binary, number_at, number_taken};
+pub use numbers::{compared_bytes, first_bytes, integer_binary, number_at, number_taken};
 pub use operations::{Flags, all_operations, function, operation};
 pub use pointers::{
     Offset, Pointers, combine_pointers, load_object, load_through, move_pointer, pointer_binary,

@@ -7,10 +7,11 @@ ghost use Rattle.ec_select_operations.specs.Code.{family_of, changed_by_code, by
 ghost use Rattle.ec_select_operations.specs.Code.{compared_signed};
 ghost use Rattle.ec_select_operations.specs.Emitted.{BinaryHasBytes, TakesNumbers};
 ghost use Rattle.ec_select_operations.specs.Homes.{home};
-ghost use Rattle.ec_select_operations.specs.Needs.{takes_number, number_taken, compared_bytes};
+ghost use Rattle.ec_select_operations.specs.Needs.{takes_number, number_taken, compared_bytes, first_bytes};
 
 use crate::families::{
-    BinaryOperation, Family, Operands, Told, family_of, move_number, operator, tell,
+    BinaryOperation, Family, Operands, Told, family_of, move_number, operator, shift_of, tell,
+    turn_by_number,
 };
 use crate::homes::{Homes, home};
 use ec_asm::{AsmItem, Location, Operator};
@@ -42,6 +43,8 @@ fn takes_number(op: BinOp) -> bool
             | BinOp::Ge
             | BinOp::Eq
             | BinOp::Ne
+            | BinOp::Shl
+            | BinOp::Shr
     )
 }
 
@@ -64,6 +67,16 @@ pub fn compared_bytes(taken: Option<RightNumber>, bytes: u8) -> u8
     match taken {
         Some(k) if k.in_byte => bytes.min(1),
         _ => bytes,
+    }
+}
+
+/// How many bytes of the first operand, which has so many, take part: of a shift to the right all.
+pub fn first_bytes(taken: Option<RightNumber>, op: BinOp, bytes: u8) -> u8
+    ensures { result ≡ first_bytes taken op bytes }
+{
+    match (taken, op) {
+        (None, _) | (Some(_), BinOp::Shr) => bytes,
+        _ => compared_bytes(taken, bytes),
     }
 }
 
@@ -124,12 +137,11 @@ fn by_number(
     wanted: u8,
 ) -> Result<(), NoMemory>
     requires bytes { BinaryHasBytes (family_of op) wanted of.to of.a of.b }
-    requires right { of.a.bytes ≤ of.b.bytes }
     requires most { of.a.bytes ≤ 16 }
     requires few { compared ≤ of.a.bytes }
     ensures ok { OnOk result (out.new.items ≡ out.old.items
-        ++ by_number_code (family_of op) signed (home homes of.a) (home homes of.b) (home homes of.to) of.a.bytes
-        compared number wanted) }
+        ++ by_number_code (family_of op) of.left_signed signed (home homes of.a) (home homes of.b) (home homes of.to)
+        of.a.bytes compared number wanted) }
     ensures err { OnErr result (BeginWith out.old.items out.new.items) }
 {
     let to = home(homes, of.to);
@@ -150,6 +162,14 @@ fn by_number(
             };
             constant(out, number, operands.right, of.a.bytes)?;
             tell(out, relation, operands, to, wanted)
+        }
+        Family::Shifted { left } => {
+            if wanted == 0 {
+                return Ok(());
+            }
+            let bytes = if left { wanted } else { of.a.bytes };
+            let by = shift_of(left, of.left_signed);
+            turn_by_number(out, by, home(homes, of.a), to, bytes, (number % 256) as u8)
         }
         _ => Ok(()),
     }

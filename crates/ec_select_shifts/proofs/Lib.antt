@@ -2,5 +2,7 @@
 pub mod Words
 pub mod Once
 pub mod Loops
+pub mod Counted
 -- For this crate alone.
 mod Halves
+mod Moved

@@ -1,12 +1,13 @@
 -- A number of several bytes shifted by the count in R30: the code, and what it makes of the number.
-use Rattle.std.specs.Prelude.{ℕ, ◌+◌, ◌-◌, ◌*◌, ◌/◌, ◌%◌, ◌^◌, nat_le, Bool, true, false, if◌then◌else◌, pos, negsuc, List}
-use Rattle.std.specs.Prelude.{[], ◌∷◌, ◌++◌}
-use Rattle.ec_isa.specs.declared.instructions.Instr.TheVariants.{Rjmp, Dec, Brbc}
+use Rattle.std.specs.Prelude.{ℕ, ◌+◌, ◌-◌, ◌*◌, ◌/◌, ◌%◌, ◌^◌, nat_le, nat_lt, Bool, true, false, ◌&&◌, if◌then◌else◌, pos, negsuc}
+use Rattle.std.specs.Prelude.{List, [], ◌∷◌, ◌++◌}
+use Rattle.ec_isa.specs.declared.instructions.Instr.TheVariants.{Rjmp, Dec, Brbc, Ldi, Mov, Eor, Add, Sbc}
 use Rattle.ec_asm.specs.declared.items.AsmItem.{AsmItem}
 use Rattle.ec_asm.specs.declared.items.AsmItem.TheVariants.{Plain}
 use Rattle.ec_asm.specs.declared.pieces.Location.{Location}
 use Rattle.ec_asm.specs.declared.pieces.Location.TheVariants.{InRegisters, InMemory}
 use Rattle.ec_asm.specs.declared.pieces.Operator.TheVariants.{Sum}
+use Rattle.ec_asm.specs.Items.{chain}
 use Rattle.ec_asm.specs.Pieces.{operate_code, halve_code}
 use Rattle.ec_select_shifts.specs.declared.shifts.Direction.{Direction}
 use Rattle.ec_select_shifts.specs.declared.shifts.Direction.TheVariants.{Left, Right}
@@ -43,3 +44,62 @@ end_code s p n = Plain (Dec 30) ∷ Plain (Brbc 2 (negsuc (turn_words s p n + 1)
 
 abbrev pub shift_code : Direction → Location → ℕ → List AsmItem
 shift_code s p n = jump_code s p n ++ (turn_code s p n ++ end_code s p n)
+
+-- ---- code for a count that is known
+
+-- so many turns, one after another
+abbrev pub turns_code : Direction → Location → (n k : ℕ) → List AsmItem
+turns_code s p n k = chain (λ i. turn_code s p n) k
+
+-- these where they have no more words than the loop, and else the loop with the count in R30
+abbrev pub bits_code : Direction → Location → (n k : ℕ) → List AsmItem
+bits_code s p n k =
+    if nat_le (k * turn_words s p n) (turn_words s p n + 4) then turns_code s p n k else Plain (Ldi 30 k) ∷ shift_code s p n
+
+-- ---- by whole bytes, in registers from r on
+
+-- R0 becomes the sign of a number of n bytes in all its bits
+abbrev pub sign_code : Direction → (r n : ℕ) → List AsmItem
+sign_code (Right true) r n = Plain (Mov 0 (r + (n - 1))) ∷ Plain (Add 0 0) ∷ Plain (Sbc 0 0) ∷ []
+sign_code s r n = []
+
+-- a byte into which none moves
+abbrev pub filled_byte : Direction → ℕ → List AsmItem
+filled_byte (Right true) d = Plain (Mov d 0) ∷ []
+filled_byte s d = Plain (Eor d d) ∷ []
+
+-- byte j of n moves q bytes up, or down
+abbrev pub raised_byte : (r q j : ℕ) → List AsmItem
+raised_byte r q j = if nat_le q j then Plain (Mov (r + j) (r + (j - q))) ∷ [] else filled_byte Left (r + j)
+
+abbrev pub lowered_byte : (signed : Bool) → (r n q j : ℕ) → List AsmItem
+lowered_byte signed r n q j =
+    if nat_lt (q + j) n then Plain (Mov (r + j) (r + (q + j))) ∷ [] else filled_byte (Right signed) (r + j)
+
+-- up from the highest byte on, and down from the lowest
+abbrev pub moved_byte : Direction → (r n q i : ℕ) → List AsmItem
+moved_byte Left r n q i = raised_byte r q (n - 1 - i)
+moved_byte (Right signed) r n q i = lowered_byte signed r n q i
+
+abbrev pub moved_code : Direction → (r n q : ℕ) → List AsmItem
+moved_code s r n q = sign_code s r n ++ chain (moved_byte s r n q) n
+
+-- where the bytes begin that have moved
+abbrev pub first_moved : Direction → (r q : ℕ) → ℕ
+first_moved Left r q = r + q
+first_moved (Right signed) r q = r
+
+-- by q bytes, and those that have moved by k bits
+abbrev pub bytes_code : Direction → (r n q k : ℕ) → List AsmItem
+bytes_code s r n q k = moved_code s r n q ++ bits_code s (InRegisters (first_moved s r q)) (n - q) k
+
+-- ---- the whole code
+
+-- whether a shift moves some whole bytes of n, and not all of them
+abbrev pub moves_bytes : (n k : ℕ) → Bool
+moves_bytes n k = nat_le 8 k && nat_lt (k / 8) n
+
+abbrev pub counted_code : Direction → Location → (n k : ℕ) → List AsmItem
+counted_code s (InRegisters r) n k =
+    if moves_bytes n k then bytes_code s r n (k / 8) (k % 8) else bits_code s (InRegisters r) n k
+counted_code s (InMemory o j) n k = bits_code s (InMemory o j) n k

@@ -1,8 +1,10 @@
 //! Shifts by a count that is known when the code runs.
-ghost use Rattle.std.specs.Prelude.{◌≡◌, ◌+◌, ◌++◌, ◌<◌, ◌^◌, pos, negsuc, OnOk, OnErr};
+ghost use Rattle.std.specs.Prelude.{◌≡◌, ◌+◌, ◌++◌, ◌<◌, ◌≤◌, ◌^◌, pos, negsuc, OnOk, OnErr};
 ghost use Rattle.ec_runs.specs.Behaviours.{BeginWith};
 ghost use Rattle.ec_asm.specs.Pieces.{HasBytes};
 ghost use Rattle.ec_select_shifts.specs.Shifts.{turn_code, turn_words, jump_code, end_code, shift_code};
+ghost use Rattle.ec_select_shifts.specs.Shifts.{turns_code, bits_code, filled_byte, raised_byte, lowered_byte};
+ghost use Rattle.ec_select_shifts.specs.Shifts.{sign_code, moved_byte, moved_code, moves_bytes, counted_code};
 
 use ec_asm::{AsmItem, Location, Operator, halve, operate};
 use ec_isa::Instr;
@@ -78,4 +80,192 @@ pub fn shift(
         AsmItem::Plain(Instr::Dec { d: 30 }),
         AsmItem::Plain(back(words)),
     ])
+}
+
+/// Appends code that shifts a number by so many bits, one after another.
+fn turns(
+    out: &mut Seq<AsmItem>,
+    shift: Direction,
+    at: Location,
+    bytes: u8,
+    count: u8,
+) -> Result<(), NoMemory>
+    requires { HasBytes at bytes }
+    ensures ok { OnOk result (out.new.items ≡ out.old.items ++ turns_code shift at bytes count) }
+    ensures err { OnErr result (BeginWith out.old.items out.new.items) }
+{
+    for i in 0..count {
+        turn(out, shift, at, bytes)?;
+    }
+    Ok(())
+}
+
+/// Appends code that shifts a number of so many bytes by so many bits: turns one after another where these have no more
+/// words than the loop, and else the loop. Where memory runs out, a part of the code is appended.
+fn bits(
+    out: &mut Seq<AsmItem>,
+    by: Direction,
+    at: Location,
+    bytes: u8,
+    count: u8,
+) -> Result<(), NoMemory>
+    requires { HasBytes at bytes }
+    ensures ok { OnOk result (out.new.items ≡ out.old.items ++ bits_code by at bytes count) }
+    ensures err { OnErr result (BeginWith out.old.items out.new.items) }
+{
+    let words = u32::from(turn_words(by, at, bytes));
+    if u32::from(count) * words <= words + 4 {
+        return turns(out, by, at, bytes, count);
+    }
+    out.extend_from_slice(&[AsmItem::Plain(Instr::Ldi { d: 30, k: count })])?;
+    shift(out, by, at, bytes)
+}
+
+/// Appends code for a byte into which none moves: it becomes the sign in R0, or 0.
+fn fill(out: &mut Seq<AsmItem>, by: Direction, d: u8) -> Result<(), NoMemory>
+    ensures ok { OnOk result (out.new.items ≡ out.old.items ++ filled_byte by d) }
+    ensures err { OnErr result (BeginWith out.old.items out.new.items) }
+{
+    match by {
+        Direction::Right { signed: true } => {
+            out.extend_from_slice(&[AsmItem::Plain(Instr::Mov { d, r: 0 })])
+        }
+        _ => out.extend_from_slice(&[AsmItem::Plain(Instr::Eor { d, r: d })]),
+    }
+}
+
+/// Appends code that moves a byte by so many up, to byte `j` of a number from register `r` on.
+fn raise(out: &mut Seq<AsmItem>, r: u8, skipped: u8, j: u8) -> Result<(), NoMemory>
+    requires { r + j < 32 }
+    ensures ok { OnOk result (out.new.items ≡ out.old.items ++ raised_byte r skipped j) }
+    ensures err { OnErr result (BeginWith out.old.items out.new.items) }
+{
+    if skipped <= j {
+        let from = r + (j - skipped);
+        return out.extend_from_slice(&[AsmItem::Plain(Instr::Mov { d: r + j, r: from })]);
+    }
+    fill(out, Direction::Left, r + j)
+}
+
+/// Appends code that moves a byte by so many down, to byte `j` of so many from register `r` on.
+fn lower(
+    out: &mut Seq<AsmItem>,
+    signed: bool,
+    r: u8,
+    bytes: u8,
+    skipped: u8,
+    j: u8,
+) -> Result<(), NoMemory>
+    requires row { r + bytes ≤ 32 }
+    requires index { j < bytes }
+    requires some { skipped < bytes }
+    ensures ok { OnOk result (out.new.items ≡ out.old.items ++ lowered_byte signed r bytes skipped j) }
+    ensures err { OnErr result (BeginWith out.old.items out.new.items) }
+{
+    if skipped + j < bytes {
+        let from = r + (skipped + j);
+        return out.extend_from_slice(&[AsmItem::Plain(Instr::Mov { d: r + j, r: from })]);
+    }
+    fill(out, Direction::Right { signed }, r + j)
+}
+
+/// Appends code that takes the sign of a number of so many bytes to R0, where it is shifted to the right with its sign.
+fn sign(out: &mut Seq<AsmItem>, by: Direction, r: u8, bytes: u8) -> Result<(), NoMemory>
+    requires row { r + bytes ≤ 32 }
+    requires some { 1 ≤ bytes }
+    ensures ok { OnOk result (out.new.items ≡ out.old.items ++ sign_code by r bytes) }
+    ensures err { OnErr result (BeginWith out.old.items out.new.items) }
+{
+    match by {
+        Direction::Right { signed: true } => out.extend_from_slice(&[
+            AsmItem::Plain(Instr::Mov {
+                d: 0,
+                r: r + (bytes - 1),
+            }),
+            AsmItem::Plain(Instr::Add { d: 0, r: 0 }),
+            AsmItem::Plain(Instr::Sbc { d: 0, r: 0 }),
+        ]),
+        _ => Ok(()),
+    }
+}
+
+/// Appends code that moves one byte of so many by so many: up from the highest one on, and down from the lowest.
+fn move_byte(
+    out: &mut Seq<AsmItem>,
+    by: Direction,
+    r: u8,
+    bytes: u8,
+    skipped: u8,
+    i: u8,
+) -> Result<(), NoMemory>
+    requires row { r + bytes ≤ 32 }
+    requires index { i < bytes }
+    requires some { skipped < bytes }
+    ensures ok { OnOk result (out.new.items ≡ out.old.items ++ moved_byte by r bytes skipped i) }
+    ensures err { OnErr result (BeginWith out.old.items out.new.items) }
+{
+    match by {
+        Direction::Left => raise(out, r, skipped, bytes - 1 - i),
+        Direction::Right { signed } => lower(out, signed, r, bytes, skipped, i),
+    }
+}
+
+/// Appends code that moves the bytes of a number by so many.
+fn move_bytes(
+    out: &mut Seq<AsmItem>,
+    by: Direction,
+    r: u8,
+    bytes: u8,
+    skipped: u8,
+) -> Result<(), NoMemory>
+    requires row { r + bytes ≤ 32 }
+    requires some { skipped < bytes }
+    ensures ok { OnOk result (out.new.items ≡ out.old.items ++ moved_code by r bytes skipped) }
+    ensures err { OnErr result (BeginWith out.old.items out.new.items) }
+{
+    sign(out, by, r, bytes)?;
+    for i in 0..bytes {
+        move_byte(out, by, r, bytes, skipped, i)?;
+    }
+    Ok(())
+}
+
+/// Whether a shift moves some whole bytes of a number, and not all of them.
+fn moves_bytes(bytes: u8, count: u8) -> bool
+    ensures { result ≡ moves_bytes bytes count }
+{
+    8 <= count && count / 8 < bytes
+}
+
+/// Appends code that shifts a number of so many bytes by a known count. In registers whole bytes are moved first. Where
+/// memory runs out, a part of the code is appended.
+pub fn shift_by(
+    out: &mut Seq<AsmItem>,
+    by: Direction,
+    at: Location,
+    bytes: u8,
+    count: u8,
+) -> Result<(), NoMemory>
+    requires { HasBytes at bytes }
+    ensures ok { OnOk result (out.new.items ≡ out.old.items ++ counted_code by at bytes count) }
+    ensures err { OnErr result (BeginWith out.old.items out.new.items) }
+{
+    match at {
+        Location::InRegisters(r) if moves_bytes(bytes, count) => {
+            let skipped = count / 8;
+            move_bytes(out, by, r, bytes, skipped)?;
+            let first = match by {
+                Direction::Left => r + skipped,
+                Direction::Right { .. } => r,
+            };
+            bits(
+                out,
+                by,
+                Location::InRegisters(first),
+                bytes - skipped,
+                count % 8,
+            )
+        }
+        _ => bits(out, by, at, bytes, count),
+    }
 }
