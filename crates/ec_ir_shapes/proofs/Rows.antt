@@ -2,13 +2,14 @@
 use Rattle.std.proofs.Common.{◌≡◌, ℕ, ◌+◌, ◌*◌, ◌≤◌, Bool, true, false, arith}
 use Rattle.std.specs.Prelude.{⊤, List}
 use Rattle.std.proofs.lemmas.Nat.{mul-le}
+use Rattle.ec_fx.specs.declared.numbers.Mode.{Mode}
 use Rattle.ec_core.specs.declared.expressions.BinOp.{BinOp}
 use Rattle.ec_core.specs.declared.expressions.BinOp.TheVariants.{Add, Sub, Mul, Div, Rem, Shl, Shr, And, Or, Xor, Lt, Gt, Le, Ge, Eq, Ne}
 use Rattle.ec_core.specs.Plain.{PlainType}
 use Rattle.ec_shapes.specs.Laws.{IsRow}
 use Rattle.ec_shapes.proofs.Rows.{least-rows-are-rows}
 use Rattle.ec_core_shapes.specs.Shapes.{Form, unary_form, binary_form, conversion_form, compound_form, step_form}
-use Rattle.ec_ir_shapes.specs.Costs.{Code, in_line, callable, code_row, integer_code, binary_code, unary_code, conversion_code}
+use Rattle.ec_ir_shapes.specs.Costs.{Code, in_line, callable, code_row, integer_code, exact_code, binary_code, unary_code, conversion_code}
 use Rattle.ec_ir_shapes.specs.Costs.{form_code, shape_code, CodesAreRows}
 
 -- a call is no longer than the code
@@ -34,10 +35,29 @@ integer_shorter Ge b = tt
 integer_shorter Eq b = tt
 integer_shorter Ne b = tt
 
-binary_shorter : (op : BinOp) (x y : Bool) (b : ℕ) → IsShorter (binary_code op x y b)
-binary_shorter op true y b = omega arith
-binary_shorter op false true b = tt
-binary_shorter op false false b = integer_shorter op b
+exact_shorter : (op : BinOp) (b : ℕ) → IsShorter (exact_code op b)
+exact_shorter Add b = tt
+exact_shorter Sub b = tt
+exact_shorter Mul b = tt
+exact_shorter Div b = tt
+exact_shorter Rem b = tt
+exact_shorter Shl b = tt
+exact_shorter Shr b = tt
+exact_shorter And b = tt
+exact_shorter Or b = tt
+exact_shorter Xor b = tt
+exact_shorter Lt b = tt
+exact_shorter Gt b = tt
+exact_shorter Le b = tt
+exact_shorter Ge b = tt
+exact_shorter Eq b = tt
+exact_shorter Ne b = tt
+
+binary_shorter : (op : BinOp) (e x y : Bool) (b : ℕ) → IsShorter (binary_code op e x y b)
+binary_shorter op true x y b = exact_shorter op b
+binary_shorter op false true y b = omega arith
+binary_shorter op false false true b = tt
+binary_shorter op false false false b = integer_shorter op b
 
 unary_shorter : (x : Bool) (b : ℕ) → IsShorter (unary_code x b)
 unary_shorter true b = omega arith
@@ -49,12 +69,12 @@ conversion_shorter true y false n b = omega arith
 conversion_shorter false true z n b = tt
 conversion_shorter false false z n b = tt
 
-form_shorter : (f : Form) (ty : PlainType) (tys : List PlainType) (b : ℕ) → IsShorter (form_code f ty tys b)
-form_shorter (unary_form op) ty tys b = unary_shorter _ b
-form_shorter (binary_form op) ty tys b = binary_shorter op _ _ b
-form_shorter conversion_form ty tys b = conversion_shorter _ _ _ _ b
-form_shorter (compound_form op own) ty tys b = tt
-form_shorter (step_form up) ty tys b = tt
+form_shorter : (f : Form) (mode : Mode) (ty : PlainType) (tys : List PlainType) (b : ℕ) → IsShorter (form_code f mode ty tys b)
+form_shorter (unary_form op) mode ty tys b = unary_shorter _ b
+form_shorter (binary_form op) mode ty tys b = binary_shorter op _ _ _ b
+form_shorter conversion_form mode ty tys b = conversion_shorter _ _ _ _ b
+form_shorter (compound_form op own) mode ty tys b = tt
+form_shorter (step_form up) mode ty tys b = tt
 
 times_sum : (a b n : ℕ) → (a + b) * n ≡ a * n + b * n
 times_sum a b n = omega arith
@@ -68,4 +88,4 @@ code_is_row (in_line own) h = record {
 code_is_row (callable own call) h = least-rows-are-rows own (own + 1) call h
 
 pub codes_are_rows : CodesAreRows
-codes_are_rows s = code_is_row (shape_code s) (form_shorter s.form s.ty s.operands s.bytes)
+codes_are_rows s = code_is_row (shape_code s) (form_shorter s.form s.mode s.ty s.operands s.bytes)

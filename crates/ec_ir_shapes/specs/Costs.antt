@@ -1,11 +1,12 @@
 -- What operations may cost in words of code where those of one shape share it (our own profile). The steps of an
 -- operation are told beside, by the words that it may have alone.
-use Rattle.std.specs.Prelude.{ℕ, ◌+◌, ◌*◌, max, Bool, true, false, ◌||◌, if◌then◌else◌, List, [], ◌∷◌, ◌++◌}
+use Rattle.std.specs.Prelude.{ℕ, ◌+◌, ◌*◌, max, Bool, true, false, ◌&&◌, ◌||◌, not, if◌then◌else◌, List, [], ◌∷◌, ◌++◌}
+use Rattle.ec_fx.specs.declared.numbers.Mode.{Mode}
 use Rattle.ec_space.specs.Spaces.{width}
 use Rattle.ec_core.specs.declared.expressions.BinOp.{BinOp}
-use Rattle.ec_core.specs.declared.expressions.BinOp.TheVariants.{Div, Rem, And, Or, Xor}
+use Rattle.ec_core.specs.declared.expressions.BinOp.TheVariants.{Add, Sub, Div, Rem, And, Or, Xor, Lt, Gt, Le, Ge, Eq, Ne}
 use Rattle.ec_core.specs.Layout.{scalar_size}
-use Rattle.ec_core.specs.Operators.{same_type}
+use Rattle.ec_core.specs.Operators.{same_kind, same_type}
 use Rattle.ec_core.specs.Plain.{PlainType, fixed, pointer}
 use Rattle.ec_core.specs.Words.{operation_words}
 use Rattle.ec_ir.specs.Costs.{op_words}
@@ -46,10 +47,17 @@ integer_code Or b = in_line (10 * b)
 integer_code Xor b = in_line (10 * b)
 integer_code op b = in_line (6 + 18 * b)
 
-abbrev pub binary_code : BinOp → (on_fixed on_pointers : Bool) → ℕ → Code
-binary_code op on_fixed on_pointers b =
-    if on_fixed then callable (operation_words b) (4 + 12 * b)
-    else (if on_pointers then in_line (64 + 5 * b) else integer_code op b)
+-- fixed-point operands of one format, which are combined or compared as the integers that their bytes stand for
+abbrev pub exact_code : BinOp → ℕ → Code
+exact_code Add b = in_line (1 + 17 * b)
+exact_code Sub b = in_line (1 + 17 * b)
+exact_code op b = in_line (19 + 5 * b)
+
+abbrev pub binary_code : BinOp → (exact on_fixed on_pointers : Bool) → ℕ → Code
+binary_code op exact on_fixed on_pointers b =
+    if exact then exact_code op b
+    else (if on_fixed then callable (operation_words b) (4 + 12 * b)
+    else (if on_pointers then in_line (64 + 5 * b) else integer_code op b))
 
 abbrev pub unary_code : (on_fixed : Bool) → ℕ → Code
 unary_code on_fixed b = if on_fixed then callable (60 + 40 * b) (4 + 8 * b) else in_line (6 + 18 * b)
@@ -61,6 +69,28 @@ conversion_code on_fixed on_pointers same bytes b =
     else (if on_pointers then in_line (10 * b) else in_line (4 + 6 * bytes))
 
 -- ---- shapes
+
+-- two fixed-point types whose numbers have one format
+abbrev pub has_one_format : PlainType → PlainType → Bool
+has_one_format (fixed kind saturates) (fixed other also) = same_kind kind other
+has_one_format ty other = false
+
+-- an operator that gives for numbers of one format what it gives for the integers that their bytes stand for: a comparison,
+-- and where it does not saturate a sum or a difference in that format
+abbrev pub is_as_exact : BinOp → Mode → (in_format : Bool) → Bool
+is_as_exact Add mode in_format = in_format && not mode.saturate
+is_as_exact Sub mode in_format = in_format && not mode.saturate
+is_as_exact Lt mode in_format = true
+is_as_exact Gt mode in_format = true
+is_as_exact Le mode in_format = true
+is_as_exact Ge mode in_format = true
+is_as_exact Eq mode in_format = true
+is_as_exact Ne mode in_format = true
+is_as_exact op mode in_format = false
+
+abbrev pub are_exact : BinOp → Mode → PlainType → List PlainType → Bool
+are_exact op mode ty (a ∷ b ∷ []) = has_one_format a b && is_as_exact op mode (has_one_format ty a)
+are_exact op mode ty operands = false
 
 abbrev pub any_fixed : List PlainType → Bool
 any_fixed [] = false
@@ -75,17 +105,17 @@ any_same ty [] = false
 any_same ty (other ∷ tys) = same_type ty other || any_same ty tys
 
 -- that of an operation; compound assignments and steps are made of others
-abbrev pub form_code : Form → PlainType → List PlainType → ℕ → Code
-form_code (unary_form op) ty operands b = unary_code (is_fixed ty) b
-form_code (binary_form op) ty operands b =
-    binary_code op (is_fixed ty || any_fixed operands) (is_pointer ty || any_pointer operands) b
-form_code conversion_form ty operands b =
+abbrev pub form_code : Form → Mode → PlainType → List PlainType → ℕ → Code
+form_code (unary_form op) mode ty operands b = unary_code (is_fixed ty) b
+form_code (binary_form op) mode ty operands b =
+    binary_code op (are_exact op mode ty operands) (is_fixed ty || any_fixed operands) (is_pointer ty || any_pointer operands) b
+form_code conversion_form mode ty operands b =
     conversion_code (is_fixed ty || any_fixed operands) (is_pointer ty || any_pointer operands) (any_same ty operands)
     (scalar_size ty) b
-form_code form ty operands b = in_line 0
+form_code form mode ty operands b = in_line 0
 
 abbrev pub shape_code : Shape → Code
-shape_code s = form_code s.form s.ty s.operands s.bytes
+shape_code s = form_code s.form s.mode s.ty s.operands s.bytes
 
 abbrev pub op_row : Shape → ℕ → ℕ
 op_row s u = code_row (shape_code s) u

@@ -7,7 +7,7 @@ use Rattle.ec_core.specs.declared.expressions.BinOp.{BinOp}
 use Rattle.ec_core.specs.declared.expressions.BinOp.TheVariants.{Add, Sub, Mul, Div, Rem, Shl, Shr, And, Or, Xor, Lt, Gt, Le, Ge, Eq, Ne}
 use Rattle.ec_shapes.specs.Shapes.{total, least_row}
 use Rattle.ec_core_shapes.specs.Shapes.{Shape}
-use Rattle.ec_ir_shapes.specs.Costs.{Code, in_line, callable, code_row, integer_code}
+use Rattle.ec_ir_shapes.specs.Costs.{Code, in_line, callable, code_row, integer_code, exact_code, binary_code}
 use Rattle.ec_ir_shapes.specs.Costs.{shape_code, op_row}
 use Rattle.ec_lower_shapes.proofs.Sizes.{at_most}
 
@@ -114,6 +114,31 @@ integer_cost op b m h = by_operator op
     by_operator Eq = own (6 + 18 * b) (omega arith)
     by_operator Ne = own (6 + 18 * b) (omega arith)
 
+-- operands of one format
+pub exact_cost : (op : BinOp) (b m : ℕ) → 1 ≤ b → b ≤ m → Costs (exact_code op b) (9 + 17 * m) 0 (9 + 17 * m)
+exact_cost op b m some h = by_operator op
+  where
+    own : (n : ℕ) → n ≤ 9 + 17 * b → Costs (in_line n) (9 + 17 * m) 0 (9 + 17 * m)
+    own n l = record { own_most = omega (arith, l, h); once_most = omega arith; each_most = omega (arith, l, h) }
+
+    by_operator : (op : BinOp) → Costs (exact_code op b) (9 + 17 * m) 0 (9 + 17 * m)
+    by_operator Add = own (1 + 17 * b) (omega arith)
+    by_operator Sub = own (1 + 17 * b) (omega arith)
+    by_operator Mul = own (19 + 5 * b) (omega (arith, some))
+    by_operator Div = own (19 + 5 * b) (omega (arith, some))
+    by_operator Rem = own (19 + 5 * b) (omega (arith, some))
+    by_operator Shl = own (19 + 5 * b) (omega (arith, some))
+    by_operator Shr = own (19 + 5 * b) (omega (arith, some))
+    by_operator And = own (19 + 5 * b) (omega (arith, some))
+    by_operator Or = own (19 + 5 * b) (omega (arith, some))
+    by_operator Xor = own (19 + 5 * b) (omega (arith, some))
+    by_operator Lt = own (19 + 5 * b) (omega (arith, some))
+    by_operator Gt = own (19 + 5 * b) (omega (arith, some))
+    by_operator Le = own (19 + 5 * b) (omega (arith, some))
+    by_operator Ge = own (19 + 5 * b) (omega (arith, some))
+    by_operator Eq = own (19 + 5 * b) (omega (arith, some))
+    by_operator Ne = own (19 + 5 * b) (omega (arith, some))
+
 pub sum_cost : (b m : ℕ) → b ≤ m → Costs (in_line (6 + 18 * b)) (6 + 18 * m) 0 (6 + 18 * m)
 sum_cost b m h = record { own_most = omega (arith, h); once_most = omega arith; each_most = omega (arith, h) }
 
@@ -128,6 +153,18 @@ fixed_cost b m h =
 
 pub number_cost : (n m : ℕ) → n ≤ m → Costs (in_line (4 + 6 * n)) (4 + 6 * m) 0 (4 + 6 * m)
 number_cost n m h = record { own_most = omega (arith, h); once_most = omega arith; each_most = omega (arith, h) }
+
+-- an operator on two fixed-point numbers, of one format or not
+pub fixed_operation : (op : BinOp) (exact : Bool) (b m : ℕ) → 1 ≤ b → b ≤ m
+    → Costs (binary_code op exact true false b) (150 + 40 * m + 40 * (m * m)) (151 + 40 * m + 40 * (m * m)) (9 + 17 * m)
+fixed_operation op true b m some h =
+    let c = exact_cost op b m some h in
+    let x = c.own_most in let y = c.once_most in let z = c.each_most in
+    record { own_most = omega (arith, x); once_most = omega (arith, y); each_most = omega (arith, z) }
+fixed_operation op false b m some h =
+    let c = fixed_cost b m h in
+    let x = c.own_most in let y = c.once_most in let z = c.each_most in
+    record { own_most = x; once_most = y; each_most = omega (arith, z) }
 
 -- a conversion with a fixed-point type
 abbrev pub fixed_conversion : (same : Bool) → ℕ → Code

@@ -1,5 +1,5 @@
 -- The rows of compound assignments and steps pay for the operations that they are made of.
-use Rattle.std.proofs.Common.{◌≡◌, ◌⊎◌, ℕ, ◌+◌, ◌*◌, ◌≤◌, Bool, true, false, ◌||◌, List, ◌∷◌, refl, sym, ap, subst, inl, inr, arith}
+use Rattle.std.proofs.Common.{◌≡◌, ◌⊎◌, ℕ, ◌+◌, ◌*◌, ◌≤◌, Bool, true, false, ◌||◌, List, [], ◌∷◌, refl, sym, ap, subst, inl, inr, arith}
 use Rattle.std.specs.Prelude.{max}
 use Rattle.std.proofs.Math.Nat.{mul-le-mul_left}
 use Rattle.ec_fx.specs.declared.numbers.Mode.{Mode}
@@ -20,11 +20,11 @@ use Rattle.ec_core.specs.Valid.{IsExprType}
 use Rattle.ec_core.specs.Words.{update_words}
 use Rattle.ec_core.proofs.Sameness.{type_itself}
 use Rattle.ec_shapes.specs.Shapes.{total, least_row}
-use Rattle.ec_core_shapes.specs.Shapes.{Shape, conversion_shape, compound_shape, step_shape, shape_row}
-use Rattle.ec_ir_shapes.specs.Costs.{is_fixed, binary_code, shape_code, op_row}
+use Rattle.ec_core_shapes.specs.Shapes.{Shape, binary_shape, conversion_shape, compound_shape, step_shape, shape_row}
+use Rattle.ec_ir_shapes.specs.Costs.{is_fixed, are_exact, binary_code, shape_code, op_row}
 use Rattle.ec_lower_code.specs.Code.{update_types}
 use Rattle.ec_lower_shapes.proofs.Bounds.{Bound, paid, none, Costs, and_more, integer_cost, sum_cost}
-use Rattle.ec_lower_shapes.proofs.Bounds.{fixed_cost, number_cost, fixed_conversion, brought_cost, kept_cost}
+use Rattle.ec_lower_shapes.proofs.Bounds.{fixed_cost, fixed_operation, number_cost, fixed_conversion, brought_cost, kept_cost}
 use Rattle.ec_lower_shapes.proofs.Made.{update_made, change_made, place_words, Pays, one_place, more_place}
 use Rattle.ec_lower_shapes.proofs.Sizes.{size, one_or_two, integer_bytes, promoted_size, common_size, kind_bytes, fixed_size, beside}
 use Rattle.ec_lower_shapes.proofs.Sizes.{beside_size, one_stays, kind_itself, some_width}
@@ -159,11 +159,14 @@ module _ (op : BinOp) (own mode : Mode) where
     common_most : size (Fixed (common_fixed s t)) ≤ b
     common_most = fixed_size s t b hs ht
 
-    operation : Costs (binary_code op true false (max (size (Fixed (common_fixed s t))) (max (size (Fixed left)) (max (size (Fixed right)) 1))))
-        (150 + 40 * b + 40 * (b * b)) (151 + 40 * b + 40 * (b * b)) (4 + 12 * b)
+    operation : Costs (shape_code (binary_shape op (type_of (Fixed (common_fixed s t))) own (type_of (Fixed left)) (type_of (Fixed right))))
+        (150 + 40 * b + 40 * (b * b)) (151 + 40 * b + 40 * (b * b)) (9 + 17 * b)
     operation =
         let x = left_size in let y = right_size in let z = common_most in
-        fixed_cost (max (size (Fixed (common_fixed s t))) (max (size (Fixed left)) (max (size (Fixed right)) 1))) b (omega (arith, x, y, z, some))
+        fixed_operation op
+        (are_exact op own (type_of (Fixed (common_fixed s t))) (type_of (Fixed left) ∷ type_of (Fixed right) ∷ []))
+        (max (size (Fixed (common_fixed s t))) (max (size (Fixed left)) (max (size (Fixed right)) 1))) b (omega arith)
+        (omega (arith, x, y, z, some))
 
     back : Costs (fixed_conversion (same_type (type_of (Fixed s)) (type_of (Fixed (common_fixed s t))) || false)
         (max (size (Fixed s)) (max (size (Fixed (common_fixed s t))) 1))) (100 + 40 * b) (101 + 40 * b) (4 + 8 * b)
@@ -182,7 +185,7 @@ module _ (op : BinOp) (own mode : Mode) where
             by_whole b 0 (update_made op (record { left = Fixed left; right = Fixed right; result = Fixed (common_fixed s t) }) own mode
             (type_of (Fixed s)) (type_of (Fixed t))) (4 * b + ((100 + 40 * b) + ((150 + 40 * b + 40 * (b * b)) + ((100 + 40 * b) + 0))))
             (0 + ((101 + 40 * b) + ((151 + 40 * b + 40 * (b * b)) + ((101 + 40 * b) + 0))))
-            (4 * b + ((4 + 8 * b) + ((4 + 12 * b) + ((4 + 8 * b) + 0)))) some
+            (4 * b + ((4 + 8 * b) + ((9 + 17 * b) + ((4 + 8 * b) + 0)))) some
             (and_more _ _ _ _ _ _ _ _ (kept_cost (same_type (type_of (Fixed left)) (type_of (Fixed s)) || false) (max (size (Fixed left)) (max (size (Fixed s)) 1)) b
             (ap (λ c. c || false) (kind_itself (beside s t) s.kind s.sat k)) (omega (arith, x, hs, some)))
             (and_more _ _ _ _ _ _ _ _ (brought_cost (same_type (type_of (Fixed right)) (type_of (Fixed t)) || false) (max (size (Fixed right)) (max (size (Fixed t)) 1)) b (omega (arith, y, ht, some)))
@@ -194,7 +197,7 @@ module _ (op : BinOp) (own mode : Mode) where
             by_whole b 0 (update_made op (record { left = Fixed left; right = Fixed right; result = Fixed (common_fixed s t) }) own mode
             (type_of (Fixed s)) (type_of (Fixed t))) ((100 + 40 * b) + (4 * b + ((150 + 40 * b + 40 * (b * b)) + ((100 + 40 * b) + 0))))
             ((101 + 40 * b) + (0 + ((151 + 40 * b + 40 * (b * b)) + ((101 + 40 * b) + 0))))
-            ((4 + 8 * b) + (4 * b + ((4 + 12 * b) + ((4 + 8 * b) + 0)))) some
+            ((4 + 8 * b) + (4 * b + ((9 + 17 * b) + ((4 + 8 * b) + 0)))) some
             (and_more _ _ _ _ _ _ _ _ (brought_cost (same_type (type_of (Fixed left)) (type_of (Fixed s)) || false) (max (size (Fixed left)) (max (size (Fixed s)) 1)) b (omega (arith, x, hs, some)))
             (and_more _ _ _ _ _ _ _ _ (kept_cost (same_type (type_of (Fixed right)) (type_of (Fixed t)) || false) (max (size (Fixed right)) (max (size (Fixed t)) 1)) b
             (ap (λ c. c || false) (kind_itself (beside t s) t.kind t.sat k)) (omega (arith, y, ht, some)))
@@ -264,7 +267,7 @@ update_within Ne own mode x y b some h p q l = absurd h
 -- ---- pointers
 
 moved_cost : (op : BinOp) (x : Bool) (b m : ℕ) → b ≤ m
-    → Costs (binary_code op x true b) (150 + 40 * m + 40 * (m * m)) (151 + 40 * m + 40 * (m * m)) (64 + 12 * m)
+    → Costs (binary_code op false x true b) (150 + 40 * m + 40 * (m * m)) (151 + 40 * m + 40 * (m * m)) (64 + 12 * m)
 moved_cost op true b m h =
     let c = fixed_cost b m h in let x = c.own_most in let y = c.once_most in let z = c.each_most in
     record { own_most = x; once_most = y; each_most = omega (arith, z) }
@@ -330,7 +333,7 @@ compound_pays program op own mode (struct j) right b i k h some p q n u = absurd
 abbrev int_type : IntegerType
 int_type = record { signed = true; bytes = 2 }
 
-stepped_sum : (up : Bool) (b m : ℕ) → b ≤ m → Costs (binary_code (step_operator up) false false b) (6 + 18 * m) 0 (6 + 18 * m)
+stepped_sum : (up : Bool) (b m : ℕ) → b ≤ m → Costs (binary_code (step_operator up) false false false b) (6 + 18 * m) 0 (6 + 18 * m)
 stepped_sum true b m h = sum_cost b m h
 stepped_sum false b m h = sum_cost b m h
 

@@ -16,9 +16,9 @@ use Rattle.ec_shapes.specs.Shapes.{total, least_row}
 use Rattle.ec_core_shapes.specs.Shapes.{Form, compound_form, step_form, Shape, unary_shape}
 use Rattle.ec_core_shapes.specs.Shapes.{binary_shape, conversion_shape, shape_row}
 use Rattle.ec_ir_shapes.specs.Costs.{Code, integer_code, binary_code, unary_code, conversion_code, shape_code, op_row}
-use Rattle.ec_ir_shapes.specs.Costs.{is_fixed, is_pointer, any_fixed, any_pointer, any_same}
+use Rattle.ec_ir_shapes.specs.Costs.{is_fixed, is_pointer, are_exact, any_fixed, any_pointer, any_same}
 use Rattle.ec_lower_code.specs.Code.{update_types}
-use Rattle.ec_lower_shapes.proofs.Bounds.{own_of, once_of, each_of, paid, none, and_more}
+use Rattle.ec_lower_shapes.proofs.Bounds.{own_of, once_of, each_of, paid, none, and_more, exact_cost}
 
 -- ---- what parts are made of
 
@@ -103,10 +103,14 @@ integer_within Ge b l m = (omega arith, omega arith, omega arith)
 integer_within Eq b l m = (omega arith, omega arith, omega arith)
 integer_within Ne b l m = (omega arith, omega arith, omega arith)
 
-binary_within : (op : BinOp) (x y : Bool) (b : ℕ) → 1 ≤ b → b ≤ 8 → IsWithin (binary_code op x y b) b
-binary_within op true y b l m = (omega arith, omega arith, omega arith)
-binary_within op false true b l m = (omega (arith, l), omega arith, omega (arith, l))
-binary_within op false false b l m = integer_within op b l m
+binary_within : (op : BinOp) (e x y : Bool) (b : ℕ) → 1 ≤ b → b ≤ 8 → IsWithin (binary_code op e x y b) b
+binary_within op true x y b l m =
+    let c = exact_cost op b b l (omega arith) in
+    let a = c.own_most in let o = c.once_most in let f = c.each_most in
+    (omega (arith, a), omega (arith, o), omega (arith, f))
+binary_within op false true y b l m = (omega arith, omega arith, omega arith)
+binary_within op false false true b l m = (omega (arith, l), omega arith, omega (arith, l))
+binary_within op false false false b l m = integer_within op b l m
 
 unary_within : (x : Bool) (b : ℕ) → 1 ≤ b → b ≤ 8 → IsWithin (unary_code x b) b
 unary_within true b l m = (omega arith, omega arith, omega arith)
@@ -126,7 +130,7 @@ unary_paid op ty a mode x y u =
 pub binary_paid : (op : BinOp) (ty a b : PlainType) (mode : Mode) → scalar_size ty ≤ 8 → scalar_size a ≤ 8 → scalar_size b ≤ 8
     → Pays (binary_shape op ty mode a b)
 binary_paid op ty a b mode x y z u =
-    let w = binary_within op (is_fixed ty || any_fixed (a ∷ b ∷ [])) (is_pointer ty || any_pointer (a ∷ b ∷ []))
+    let w = binary_within op (are_exact op mode ty (a ∷ b ∷ [])) (is_fixed ty || any_fixed (a ∷ b ∷ [])) (is_pointer ty || any_pointer (a ∷ b ∷ []))
     (widest (ty ∷ a ∷ b ∷ [])) (omega arith) (omega (arith, x, y, z)) in
     alone_paid (binary_shape op ty mode a b) _ _ _ u w.0 w.1 w.2
 
