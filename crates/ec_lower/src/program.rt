@@ -8,6 +8,7 @@ ghost use Rattle.ec_ir.specs.Valid.{ValidIr};
 ghost use Rattle.ec_lower.specs.Emits.{IsLaidOut};
 ghost use Rattle.ec_lower_code.specs.Code.{stmt_code, end_code, lowered_function, lowered};
 ghost use Rattle.ec_lower_code.specs.Correct.{Follows, IsMadeOf};
+ghost use Rattle.ec_lower_shapes.specs.Laws.{CountsByShapes};
 
 use crate::copies::{copied_objects, copied_structs};
 use crate::emit::put;
@@ -19,6 +20,7 @@ use ec_core::{Func, Program, Stmt};
 use ec_iohw::IoTable;
 use ec_ir::{Ir, IrFunc, IrProgram};
 use ec_lower_code::{lowered_follows, lowered_is_made_of_its_program};
+use ec_lower_shapes::lowered_counts_by_shapes;
 use ec_space::{NoMemory, Seq};
 use std::alloc::Global;
 
@@ -91,18 +93,20 @@ pub fn operations(alloc: Global, program: &Program, io: &IoTable) -> Result<IrPr
 }
 
 /// The operations of a program. They reach all events that the program shows, within its work, and show no others;
-/// they keep the rules of intermediate programs, and their words are within the program's weight. Only running out of
-/// memory keeps it from an answer.
+/// they keep the rules of intermediate programs, and their words are within the program's weight, those by shapes within
+/// its weight by shapes. Only running out of memory keeps it from an answer.
 pub fn lower(alloc: Global, program: &Program, io: &IoTable) -> Result<IrProgram, NoMemory>
     requires valid { Valid (plain_program program.now) io.now }
     ensures code { IfOk result (λ ir. plain_ir_program ir ≡ lowered (plain_program program.now) (plain_table io.now)) }
     ensures follows { IfOk result (λ ir. Follows (plain_program program.now) io.now (plain_ir_program ir)) }
     ensures made { IfOk result (λ ir. IsMadeOf (plain_program program.now) io.now (plain_ir_program ir)) }
     ensures valid { IfOk result (λ ir. ValidIr (plain_ir_program ir)) }
+    ensures shapes { IfOk result (λ ir. CountsByShapes (plain_program program.now) io.now (plain_ir_program ir)) }
 {
     read_groups(io);
     lowered_follows();
     lowered_is_made_of_its_program();
+    lowered_counts_by_shapes();
     let ir = operations(alloc, program, io)?;
     Ok(ir)
 }
