@@ -398,7 +398,7 @@ pub fn primary(
 {
     match e {
         Primary::Name(n) => naming(alloc, known, faults, n),
-        Primary::Constant(_, c) => Ok(Some(constant(known.modes, *c))),
+        Primary::Constant(_, c) => Ok(Some(constant(known.modes, **c))),
         Primary::Parenthesised(_, e, _) => expression(alloc, known, faults, e),
         Primary::Operation(s, op, _, n, more, _) => {
             operation(alloc, known, faults, *op, n, more, s.index)

@@ -100,13 +100,13 @@ abbrev mutual
 
   pub view_cast : cast.Cast → t.Cast
   view_cast (casts.Uncast u) = t.uncast (view_unary u)
-  view_cast (casts.Convert' l ty r c_at c) = t.convert l (view_type_name ty) r (view_cast c)
+  view_cast (casts.Convert' l ty r c_at c) = t.convert l (view_type_name ty.value) r (view_cast c)
 
   pub view_unary : unary.Unary → t.Unary
   view_unary (unaries.Postfix p) = t.postfix (view_postfix p)
   view_unary (unaries.Step' s op u_at u) = t.step s op (view_unary u)
   view_unary (unaries.Prefix' s op c_at c) = t.prefix s op (view_cast c)
-  view_unary (unaries.Size s l ty r) = t.size s l (view_type_name ty) r
+  view_unary (unaries.Size s l ty r) = t.size s l (view_type_name ty.value) r
 
   pub view_postfix : postfix.Postfix → t.Postfix
   view_postfix (postfixes.Primary p) = t.primary (view_primary p)
@@ -125,10 +125,10 @@ abbrev mutual
 
   pub view_primary : primary.Primary → t.Primary
   view_primary (primaries.Name n) = t.name (view_identifier n)
-  view_primary (primaries.Constant s k) = t.constant s k
+  view_primary (primaries.Constant s k) = t.constant s k.value
   view_primary (primaries.Parenthesised' l e_at e r) = t.parenthesised l (view_expression e) r
   view_primary (primaries.Operation' s op l n shape more r) =
-      t.operation s op l (view_identifier n) (view_further more) r
+      t.operation s op l (view_identifier n.value) (view_further more) r
 
 -- an expression that may be left out, as the types that hold it have it
 abbrev pub view_optional : Option (Box expression.Expression Global) → Option t.Expression

@@ -132,7 +132,7 @@ pub enum Binary {
 pub enum Cast {
     Uncast(Unary),
     /// `(`, the type name, `)` and the operand.
-    Convert(Spot, TypeName, Spot, Box<Cast>),
+    Convert(Spot, Box<TypeName>, Spot, Box<Cast>),
 }
 
 /// A unary expression (6.5.3).
@@ -145,7 +145,7 @@ pub enum Unary {
     /// Another operator before a cast expression.
     Prefix(Spot, PunctKind, Box<Cast>),
     /// `sizeof`, `(`, the type name and `)`.
-    Size(Spot, Spot, TypeName, Spot),
+    Size(Spot, Spot, Box<TypeName>, Spot),
 }
 
 /// A postfix expression (6.5.2).
@@ -184,10 +184,10 @@ pub struct Argument {
 #[cycle(expression)]
 pub enum Primary {
     Name(Identifier),
-    Constant(Spot, Constant),
+    Constant(Spot, Box<Constant>),
     Parenthesised(Spot, Box<Expression>, Spot),
     /// The operation, `(`, the name of the port or group, the further arguments and `)`.
-    Operation(Spot, Operation, Spot, Identifier, Vec<Argument>, Spot),
+    Operation(Spot, Operation, Spot, Box<Identifier>, Vec<Argument>, Spot),
 }
 
 /// A parameter (6.7.5), whose name may be left out where no function is defined.

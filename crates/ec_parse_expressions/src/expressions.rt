@@ -125,6 +125,7 @@ fn operation_end(
 {
     let (closing, rest) = expect(source, tokens, PunctKind::RightParenthesis)?;
     let height = ended(source, room, below, rest)?;
+    let port = boxed(source, port)?;
     let tree = Primary::Operation(spot, op, opening, port, more, closing);
     Ok((tree, height, rest))
 }
@@ -179,6 +180,7 @@ fn atom(source: Source, room: u8, tokens: &[Token]) -> Result<(Primary, u8, &[To
 {
     if let Some((spot, constant, rest)) = take_constant(source, tokens) {
         let height = ended(source, room, 0, rest)?;
+        let constant = boxed(source, constant)?;
         return Ok((Primary::Constant(spot, constant), height, rest));
     }
     if let Some((name, rest)) = take_name(source, tokens)? {
@@ -441,11 +443,7 @@ fn size(
     let (ty, rest) = type_name(source, rest)?;
     let (closing, rest) = expect(source, rest, PunctKind::RightParenthesis)?;
     let height = ended(source, room, 0, rest)?;
-    Ok((
-        Unary::Size(spot, opening, Box::into_inner(ty), closing),
-        height,
-        rest,
-    ))
+    Ok((Unary::Size(spot, opening, ty, closing), height, rest))
 }
 
 fn prefixed(
@@ -531,7 +529,7 @@ fn converted(
         (leaves_of source.count tokens.now)) }
 {
     let operand = boxed(source, operand)?;
-    let tree = Cast::Convert(opening, Box::into_inner(ty), closing, operand);
+    let tree = Cast::Convert(opening, ty, closing, operand);
     Ok((tree, height + 1, tokens))
 }
 

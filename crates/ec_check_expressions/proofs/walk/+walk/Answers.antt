@@ -40,12 +40,12 @@ further-returns t c =
 pub cast-returns-in_ok-z-in-Convert : goal.cast-returns-in_ok-z-in-Convert
 cast-returns-in_ok-z-in-Convert t c =
     let k = plain_known c.args.known.now in
-    let n = view_type_name c.in-Convert.n in
+    let n = view_type_name c.deref-in-Convert-2.result.now in
     let x = option_map plain_operand c.in_ok-x-in-Convert.x in
     let first = c.first_cast.ensures ∙ ap (λ u. first_cast (view_cast u)) (c.deref-in-Convert.ensures ∙ sym c.deref.ensures) in
     let taken = subst (λ (at : ℕ). Walked c.cast.new.faults.least c.take_first-p.new.faults.least (λ rest. on (a_use x at) ∷ rest)
     (option_map plain_operand c.take_first-p.result) (used x)) first c.take_first-p.ensures in
-    rw (c.in-Convert.is, ← c.deref.ensures)
+    rw (c.in-Convert.is, ← c.deref.ensures, ← c.deref-in-Convert-2.ensures)
     (then (λ v rest. a_type_name k.tags n ∷ on (a_cast (said_type k.tags n) v c.in-Convert.l.index) ∷ rest)
     (λ v. with_both (meant_type (void_said k.tags n) (said_type k.tags n)) v (cast k.modes)) (then (λ v rest.
     on (a_use v (first_cast (view_cast c.deref.result.now))) ∷ rest) used c.in_ok-x-in-Convert.ensures taken) c.in_ok-z-in-Convert.ensures)
@@ -54,5 +54,5 @@ pub primary-operation-requires : goal.primary-operation-requires
 primary-operation-requires t c =
     let row = c.in-Operation in
     let deep = ap views.size-Primary row.is ∙ views.sized-Operation row.s row.op row.field-2 row.n row.more row.field-5 in
-    let same : c.deref-in-Operation.result.now ≡ row.more.items = c.deref-in-Operation.ensures.value in
+    let same : c.deref-in-Operation-2.result.now ≡ row.more.items = c.deref-in-Operation-2.ensures.value in
     (rw same (omega (arith, deep, c.decreases)), c.requires)
