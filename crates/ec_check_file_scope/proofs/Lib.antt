@@ -6,3 +6,4 @@ mod Walks
 mod After
 mod Conflicts
 mod Grouped
+mod DeclaredHomes

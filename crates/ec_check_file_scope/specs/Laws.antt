@@ -1,9 +1,14 @@
 -- Which declarations of a name at file scope conflict (rule 6), in the words of the rule (ISO/IEC 9899:1999, 6.2.2, 6.2.7
--- and 6.9).
-use Rattle.std.specs.Prelude.{◌≡◌, ◌≢◌, ◌⊎◌, ⊤, IsTrue, Option, Some, None, List, [], ◌∷◌}
+-- and 6.9), and which pointers reach an object by the space of its declaration (ISO/IEC TR 18037:2008, 5.1.3).
+use Rattle.std.specs.Prelude.{◌≡◌, ◌≢◌, ◌⊎◌, ◌↔◌, ⊤, IsTrue, Option, Some, None, List, [], ◌∷◌}
 use Rattle.std.specs.Bool.{Decides}
+use Rattle.ec_space.specs.declared.space.Home.TheVariants.{Data as DataHome}
+use Rattle.ec_space.specs.declared.space.SpaceId.{SpaceId}
+use Rattle.ec_space.specs.declared.space.SpaceId.TheVariants.{Generic}
+use Rattle.ec_space.specs.Spaces.{holds, encloses}
 use Rattle.ec_check_names.specs.declared.linkage.Linkage.TheVariants.{External}
 use Rattle.ec_check_file_scope.specs.FileNames.{FileKind, an_object, a_register, a_function, FileName, is_register, conflicts}
+use Rattle.ec_check_file_scope.specs.FileObjects.{home_of}
 
 -- two of them, where both are known: a declaration that breaks a rule has no type
 abbrev pub AreTwo : {X : Type 0} → Option X → Option X → Type 0
@@ -42,3 +47,10 @@ ConflictsWithOne d (e ∷ es) = Conflict d e ⊎ ConflictsWithOne d es
 
 abbrev pub ConflictsAreTold : Type 0
 ConflictsAreTold = (d : FileName) (es : List FileName) → Decides (conflicts d es) (ConflictsWithOne d es)
+
+-- An object that is declared in a named space is in those spaces alone that enclose it, and one that is declared in none has its
+-- home in data.
+pub record HomesAreDeclared : Type 0 where
+  pub named : (space declared : SpaceId) → declared ≢ Generic
+      → IsTrue (holds space (home_of declared)) ↔ IsTrue (encloses space declared)
+  pub unnamed : home_of Generic ≡ DataHome

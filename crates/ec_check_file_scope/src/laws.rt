@@ -1,5 +1,5 @@
 //! The laws of declarations at file scope: each function proves one, and does nothing.
-ghost use Rattle.ec_check_file_scope.specs.Laws.{ConflictsAreTold};
+ghost use Rattle.ec_check_file_scope.specs.Laws.{ConflictsAreTold, HomesAreDeclared};
 
 use ec_core::types_are_told;
 
@@ -11,3 +11,10 @@ pub fn conflicts_are_told()
 {
     types_are_told();
 }
+
+/// An object that is declared in a named space is in those spaces alone that enclose it, and one that is declared in none
+/// has its home in data. So a pointer to an object that is declared `__farflash` is never one into `__flash`, wherever the
+/// object stands.
+pub fn homes_are_declared()
+    ensures { HomesAreDeclared }
+{}

@@ -18,5 +18,5 @@ pub use file_names::{FileKind, FileName};
 pub use file_objects::{file_register, word_of};
 pub use file_scope::{file_declaration, file_structure};
 pub use file_table::FileNames;
-pub use laws::conflicts_are_told;
+pub use laws::{conflicts_are_told, homes_are_declared};
 pub use states::{Setting, State, known_of};

@@ -1,7 +1,7 @@
 -- What qualifiers say, and the rules that they can break (ISO/IEC 9899:1999, 6.7.3; ISO/IEC TR 18037:2008, 5.1.2).
 use Rattle.std.specs.Prelude.{Bool, true, false, Option, Some, None}
 use Rattle.ec_space.specs.declared.space.SpaceId.{SpaceId}
-use Rattle.ec_space.specs.declared.space.SpaceId.TheVariants.{Flash, Data}
+use Rattle.ec_space.specs.declared.space.SpaceId.TheVariants.{Flash, FarFlash, Data}
 use Rattle.ec_grammar.specs.declared.token.WordKind.{WordKind}
 use Rattle.ec_grammar.specs.declared.token.WordKind.TheVariants as w
 use Rattle.std.specs.Prelude.{ℕ, not, ◌&&◌, ◌||◌, is_some, List, [], ◌∷◌}
@@ -13,6 +13,7 @@ use Rattle.ec_check_names.specs.declared.qualifiers.Qualities.{Qualities}
 
 abbrev pub space_word : WordKind → Option SpaceId
 space_word w.Flash = Some Flash
+space_word w.FarFlash = Some FarFlash
 space_word w.Data = Some Data
 space_word word = None
 
@@ -20,8 +21,10 @@ abbrev pub is_const_word : WordKind → Bool
 is_const_word w.Const = true
 is_const_word word = false
 
+-- the name of a space that lies in the flash
 abbrev pub is_flash_word : WordKind → Bool
 is_flash_word w.Flash = true
+is_flash_word w.FarFlash = true
 is_flash_word word = false
 
 -- nothing is qualified
@@ -52,7 +55,7 @@ abbrev pub space_in : Option SpaceWord → SpaceId
 space_in None = Generic
 space_in (Some s) = s.space
 
--- a word of a list is a second space (rule 2), or `__flash` in a list without const (rule 4); then what follows
+-- a word of a list is a second space (rule 2), or `__flash` or `__farflash` in a list without const (rule 4); then what follows
 abbrev pub quality_rules : (before : Option SpaceWord) (konst : Bool) → ℕ → WordKind → List Judgement → List Judgement
 quality_rules before konst at word rest =
     rule 2 (is_some before && is_some (space_word word)) at ∷ rule 4 (is_flash_word word && not konst) at ∷ rest

@@ -17,6 +17,7 @@ pub fn space_word(word: WordKind) -> Option<SpaceId>
 {
     match word {
         WordKind::Flash => Some(SpaceId::Flash),
+        WordKind::FarFlash => Some(SpaceId::FarFlash),
         WordKind::Data => Some(SpaceId::Data),
         _ => None,
     }
@@ -32,12 +33,12 @@ pub fn is_const_word(word: WordKind) -> bool
     }
 }
 
-/// Whether a word is `__flash`.
+/// Whether a word names a space that lies in the flash: `__flash` or `__farflash`.
 pub fn is_flash_word(word: WordKind) -> bool
     ensures { result ≡ is_flash_word word }
 {
     match word {
-        WordKind::Flash => true,
+        WordKind::Flash | WordKind::FarFlash => true,
         _ => false,
     }
 }
@@ -130,7 +131,7 @@ pub fn qualities_of(qualifiers: &[Qualifier]) -> Qualities
 }
 
 /// Judges a word of a list that said so much before it, and that has `const` or not: a second space (rule 2), and
-/// `__flash` without `const` (rule 4).
+/// `__flash` or `__farflash` without `const` (rule 4).
 pub fn judge_quality(faults: &mut Faults, before: Qualities, konst: bool, at: u32, word: WordKind)
     ensures judged { (rest : List Judgement) → all_judged faults.new.least rest
         ≡ all_judged faults.old.least (quality_rules before.space konst at word rest) }

@@ -17,11 +17,13 @@ no n = (λ e. absurd (false≢true e), λ h. absurd (n h))
 
 pub space_told : (k : WordKind) → Decides (is_some (space_word k)) (IsSpaceWord k)
 space_told w.Flash = yes tt
+space_told w.FarFlash = yes tt
 space_told w.Data = yes tt
 space_told k = no (λ h. h)
 
 pub flash_told : (k : WordKind) → Decides (is_flash_word k) (IsFlashWord k)
 flash_told w.Flash = yes tt
+flash_told w.FarFlash = yes tt
 flash_told k = no (λ h. h)
 
 pub const_told : (k : WordKind) → Decides (is_const_word k) (IsConstWord k)

@@ -1,5 +1,5 @@
 -- The constraints on specifiers and on lists of qualifiers, in words (ISO/IEC 9899:1999, 6.7.1 to 6.7.3; ISO/IEC TR
--- 18037:2008, 5.1.2; that `__flash` asks for const is this project's profile).
+-- 18037:2008, 5.1.2; that `__flash` and `__farflash` ask for const is this project's profile).
 use Rattle.std.specs.Prelude.{ℕ, ◌≡◌, ◌⊎◌, Bool, true, false, None, List, [], ◌∷◌}
 use Rattle.ec_grammar.specs.Trees.{Spec, word_spec, struct_spec, Specs, specs, identifier}
 use Rattle.ec_check_operands.specs.declared.faults.Fault.{Fault}
@@ -14,7 +14,7 @@ use Rattle.ec_check_parts.specs.Words.{HasOne, HasTwo, HasAt, HasSecondAt}
 pub data BreakQualifiers (ws : List Word) (f : Fault) : Type 0 where
   -- two spaces stand in it
   second_space : f.rule ≡ 2 → HasSecondAt IsSpaceWord ws f.at → BreakQualifiers ws f
-  -- `__flash` stands in it without const
+  -- `__flash` or `__farflash` stands in it without const
   flash_not_const : f.rule ≡ 4 → HasAt IsFlashWord ws f.at → ¬ HasOne IsConstWord ws → BreakQualifiers ws f
 
 -- the words for types, taken together, name one

@@ -35,11 +35,14 @@ own_words ws (star spot qs ∷ more) = own_words (words_of qs) more
 -- the name of a space
 abbrev pub IsSpaceWord : WordKind → Type 0
 IsSpaceWord w.Flash = ⊤
+IsSpaceWord w.FarFlash = ⊤
 IsSpaceWord w.Data = ⊤
 IsSpaceWord word = ⊥
 
+-- the name of a space that lies in the flash
 abbrev pub IsFlashWord : WordKind → Type 0
 IsFlashWord w.Flash = ⊤
+IsFlashWord w.FarFlash = ⊤
 IsFlashWord word = ⊥
 
 abbrev pub IsConstWord : WordKind → Type 0

@@ -19,10 +19,11 @@ use Rattle.ec_grammar.specs.Spelling.{of_tree}
 
 -- ---- words
 
--- `const`, `__flash` and `__data` (6.7.3; TR 18037, 5.1.2)
+-- `const` and the names of spaces (6.7.3; TR 18037, 5.1.2)
 abbrev pub is_qualifier : WordKind → Bool
 is_qualifier words.Const = true
 is_qualifier words.Flash = true
+is_qualifier words.FarFlash = true
 is_qualifier words.Data = true
 is_qualifier _ = false
 

@@ -35,6 +35,8 @@ pub enum WordKind {
     Sat,
     /// `__flash`
     Flash,
+    /// `__farflash`
+    FarFlash,
     /// `__data`
     Data,
     /// `int8_t` of `<stdint.h>`

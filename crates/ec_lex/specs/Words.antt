@@ -63,7 +63,8 @@ group_names =
     (codes "iogroup_acquire", groups.Acquire) ∷ (codes "iogroup_release", groups.Release)
     ∷ (codes "iogroup_map", groups.Map) ∷ []
 
--- words of C, of TR 18037 and of this compiler without a place in the grammar
+-- Words of C, of TR 18037 and of this compiler without a place in the grammar, and `__farflash`, which has one: no text gives it
+-- before the core that has such memory is compiled.
 abbrev pub reserved_words : List (List ℕ)
 reserved_words =
     codes "auto" ∷ codes "case" ∷ codes "default" ∷ codes "double" ∷ codes "enum" ∷ codes "float" ∷ codes "goto"

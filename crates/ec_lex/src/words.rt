@@ -157,7 +157,7 @@ pub fn io_word(name: &[u8]) -> Option<TokenKind>
     }
 }
 
-/// Whether the name is a reserved word without a place in the grammar.
+/// Whether the name is reserved: a word without a place in the grammar, or `__farflash`, which no text gives yet.
 #[tactic(auto, unfolding(crate::specs::Words::is_reserved))]
 pub fn is_reserved(name: &[u8]) -> bool
     ensures { result ≡ is_reserved name.now }

@@ -108,8 +108,8 @@ punct_named n = nth puncts.Comma (puncts.LeftBrace ∷ puncts.RightBrace ∷ pun
 abbrev word_named : ℕ → WordKind
 word_named n = nth words.If (words.Break ∷ words.Char ∷ words.Const ∷ words.Continue ∷ words.Do ∷ words.Else ∷ words.Extern ∷ words.For
     ∷ words.If ∷ words.Int ∷ words.Long ∷ words.Register ∷ words.Return ∷ words.Short ∷ words.Signed ∷ words.Sizeof ∷ words.Static
-    ∷ words.Struct ∷ words.Unsigned ∷ words.Void ∷ words.While ∷ words.Fract ∷ words.Accum ∷ words.Sat ∷ words.Flash ∷ words.Data
-    ∷ words.Int8 ∷ words.Uint8 ∷ words.Int16 ∷ words.Uint16 ∷ words.Int32 ∷ words.Uint32 ∷ []) n
+    ∷ words.Struct ∷ words.Unsigned ∷ words.Void ∷ words.While ∷ words.Fract ∷ words.Accum ∷ words.Sat ∷ words.Flash
+    ∷ words.FarFlash ∷ words.Data ∷ words.Int8 ∷ words.Uint8 ∷ words.Int16 ∷ words.Uint16 ∷ words.Int32 ∷ words.Uint32 ∷ []) n
 
 punct_code : (p : PunctKind) → punct_named (code_of_punct p) ≡ p
 punct_code puncts.LeftBrace = refl

@@ -78,13 +78,14 @@ code_of_word words.Fract = 21
 code_of_word words.Accum = 22
 code_of_word words.Sat = 23
 code_of_word words.Flash = 24
-code_of_word words.Data = 25
-code_of_word words.Int8 = 26
-code_of_word words.Uint8 = 27
-code_of_word words.Int16 = 28
-code_of_word words.Uint16 = 29
-code_of_word words.Int32 = 30
-code_of_word words.Uint32 = 31
+code_of_word words.FarFlash = 25
+code_of_word words.Data = 26
+code_of_word words.Int8 = 27
+code_of_word words.Uint8 = 28
+code_of_word words.Int16 = 29
+code_of_word words.Uint16 = 30
+code_of_word words.Int32 = 31
+code_of_word words.Uint32 = 32
 
 abbrev pub same_punct : PunctKind → PunctKind → Bool
 same_punct a b = code_of_punct a == code_of_punct b

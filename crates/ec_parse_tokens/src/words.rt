@@ -8,7 +8,10 @@ use ec_grammar::WordKind;
 pub fn is_qualifier(word: WordKind) -> bool
     ensures { result ≡ is_qualifier word }
 {
-    matches!(word, WordKind::Const | WordKind::Flash | WordKind::Data)
+    matches!(
+        word,
+        WordKind::Const | WordKind::Flash | WordKind::FarFlash | WordKind::Data
+    )
 }
 
 /// Whether it is a storage word, a qualifier or a type word (6.7.1 to 6.7.3; TR 18037, 4.1.1 and 5.1.2).
@@ -21,6 +24,7 @@ pub fn is_spec_word(word: WordKind) -> bool
             | WordKind::Static
             | WordKind::Const
             | WordKind::Flash
+            | WordKind::FarFlash
             | WordKind::Data
             | WordKind::Char
             | WordKind::Int

@@ -8,7 +8,8 @@ use ec_grammar::{GroupOp, IoOp, PragmaKind, PragmaState, PunctKind, TokenKind, W
 use ec_space::Seq;
 use std::alloc::Global;
 
-/// A kind of token, of which the grammar reads each the same. Reserved words have no place in the grammar.
+/// A kind of token, of which the grammar reads each the same. Reserved words have no place in the grammar, but for
+/// `__farflash`, which no text gives and so no list names.
 #[derive(Clone, Copy)]
 pub enum Candidate {
     Word(WordKind),
