@@ -4,7 +4,6 @@ use Rattle.std.proofs.Common.{subst, inl, inr}
 use Rattle.std.proofs.Common.{arith}
 use Rattle.std.specs.Prelude.{◌⊎◌, ◌↔◌, if◌then◌else◌, is_none, unwrap_or, Option, Some, None, slice_get}
 use Rattle.std.specs.Bool.{Decides}
-use Rattle.std.proofs.lemmas.Bool.{false≢true}
 use Rattle.std.proofs.lemmas.Bool.Decides.{Decides-and}
 use Rattle.ec_space.specs.declared.space.SpaceId.TheVariants.{Generic}
 use Rattle.ec_grammar.specs.Trees as t
@@ -28,7 +27,8 @@ use Rattle.ec_check_statements.proofs.Growth.{NamesAdded, no_names_added, names_
 use Rattle.ec_check_file_scope.specs.FileFunctions.{named_function_sites}
 use Rattle.ec_check_file_scope.specs.States.{Setting, State, context_of, with_scope, broken, in_unit, nothing_declared}
 use Rattle.ec_check_least.specs.Told.{IsToldAt}
-use Rattle.ec_check_parts.specs.Parts.{Part, specifiers, function, function_name, end, HasNoMain, Breaks, OneBreaks}
+use Rattle.ec_check_parts.specs.Mains.{HasNoMain}
+use Rattle.ec_check_parts.specs.Parts.{Part, specifiers, function, function_name, end, Breaks, OneBreaks}
 use Rattle.ec_check_parts.specs.Places.{Inside, behind_body, StandsInBody}
 use Rattle.ec_check_parts.specs.Units.{Outside, inside_at, behind_params, function_at, function_name_at, word_in}
 use Rattle.ec_check_parts.specs.Units.{behind_definition, behind_external, behind_externals, behind_unit, unit_begins, nothing_known}
@@ -37,6 +37,7 @@ use Rattle.ec_check_parts.specs.Units.{StandsAmong, Stands}
 use Rattle.ec_check_parts.specs.Units as parts
 use Rattle.ec_check_parts.specs.Laws.{TellAt, FunctionsAreJudged, FileNamesAreJudged, BodiesAreJudged, FileScopeIsJudged}
 use Rattle.ec_check_parts.specs.Laws.{inside_of, outside_of, surroundings_of}
+use Rattle.ec_check_parts.proofs.Mains.{no_main_told}
 use Rattle.ec_check_parts.proofs.Joined.{at_one, like}
 use Rattle.ec_check_parts.proofs.Standing.{stands_nowhere, stands_alone, stand_both}
 use Rattle.ec_check.specs.Broken.{sites_from, sites_of}
@@ -225,16 +226,12 @@ module _ (laws : PartLaws) where
 
   -- ---- units
 
-  none_told : (o : Option ℕ) → Decides (is_none o) (o ≡ None)
-  none_told None = (λ e. refl, λ e. refl)
-  none_told (Some n) = (λ e. absurd (false≢true e), λ e. cc)
-
   -- what is told at the end of a unit
   abbrev IsEnd : List Definition → (last : Bool) → (at : ℕ) → Fault → Type 0
   IsEnd ds last at f = (f.rule ≡ 18) × (f.at ≡ at) × ((last ≡ true) × HasNoMain ds)
 
   end_told : (ds : List Definition) (last : Bool) → Decides (last && is_none (main_of ds)) ((last ≡ true) × HasNoMain ds)
-  end_told ds last = Decides-and last (is_none (main_of ds)) (λ e. e, λ e. e) (none_told (main_of ds))
+  end_told ds last = Decides-and last (is_none (main_of ds)) (λ e. e, λ e. e) (no_main_told ds)
 
   end_there : (ds : List Definition) (last : Bool) (at : ℕ) (f : Fault)
       → IsTold (rule 18 (last && is_none (main_of ds)) at ∷ []) f → IsEnd ds last at f

@@ -1,6 +1,7 @@
 -- What units add to the program is what the walk adds, so the program of the relation is that of the walk.
-use Rattle.std.proofs.Common.{◌≡◌, ◌∙◌, ◌+◌, ◌<◌, ◌≤◌, ℕ, Bool, true, false, ◌&&◌, List, [], ◌∷◌, ◌++◌, length, append_assoc, refl, sym, ap, subst, arith}
-use Rattle.std.specs.Prelude.{if◌then◌else◌, nat_le, Option, Some, None}
+use Rattle.std.proofs.Common.{◌≡◌, ◌∙◌, ◌+◌, ◌<◌, ◌≤◌, ℕ, Bool, true, false, ◌&&◌, List, [], ◌∷◌, ◌++◌, length, append_assoc, refl, sym, ap}
+use Rattle.std.proofs.Common.{subst, arith}
+use Rattle.std.specs.Prelude.{if◌then◌else◌, nat_le, Option, Some, None, map}
 use Rattle.std.proofs.lemmas.Bool.{false≢true}
 use Rattle.std.proofs.lemmas.Bool.Decides.{Decides-ltb, nat_tests}
 use Rattle.std.proofs.lemmas.List.{append-nil}
@@ -10,15 +11,21 @@ use Rattle.ec_grammar.specs.Trees as t
 use Rattle.ec_iohw.specs.declared.table.IoTable.{IoTable}
 use Rattle.ec_core.specs.Plain.{PlainType, PlainStmt, PlainObject, param, PlainFunction, PlainProgram}
 use Rattle.ec_check_names.specs.Definitions.{Definition, definitions}
+use Rattle.ec_check_names.specs.Tags.{Tags}
 use Rattle.ec_check_declarations.specs.Functions.{FunctionDeclared}
-use Rattle.ec_check_declarations.specs.Params.{ParamDeclared}
+use Rattle.ec_check_declarations.specs.Params.{ParamDeclared, param_declared, next_declared, params_declared}
 use Rattle.ec_check_declarations.specs.Scopes.{Context, Scope, has_room, made_number, with_inner}
 use Rattle.ec_check_statements.specs.Around.{Around}
 use Rattle.ec_check_statements.specs.Statements.{body_of, after_body}
 use Rattle.ec_check_file_scope.specs.States.{Setting, State, context_of, with_scope, broken, in_unit, nothing_declared}
+use Rattle.ec_check_parts.specs.Declared.{DeclareResult}
+use Rattle.ec_check_parts.specs.Functions.{params_behind, params_in}
 use Rattle.ec_check_parts.specs.Laws.{inside_of, outside_of}
 use Rattle.ec_check_parts.specs.Places.{Inside}
+use Rattle.ec_check_parts.specs.Said.{DeclaratorsAreSaid}
 use Rattle.ec_check_parts.specs.Units.{Outside, function_at, behind_external, behind_unit}
+use Rattle.ec_check_parts.proofs.Mains.{mains_are_found}
+use Rattle.ec_check_parts.proofs.Types.{same_const}
 use Rattle.ec_check_typed.specs.Laws.{AreAdded, place_of, IsFurther, IsSaid, StatementsAreSaid, FileScopeIsSaid}
 use Rattle.ec_check_typed.specs.Statements.{Enclosing, declaring, IsBody}
 use Rattle.ec_check_typed.specs.Units as units
@@ -85,20 +92,32 @@ made_then unit function p ps s n ty ns os named typed room h =
       };
     }
 
-params_to : (unit function : ℕ) (i : Inside) (ps : List ParamDeclared) (ns : List ℕ) (os : List PlainObject)
-    → AreParams unit function i ps ns os → (s : Scope) → inside_of s ≡ i → AreMade unit function ps s ns os
-params_to unit function _ _ _ _ units.no_param = λ s e. record {
-  numbers = λ found. ap Some (sym (append-nil found));
-  behind = nothing_behind s;
-}
-params_to unit function _ _ _ _ (units.more_params {i = i} {p = p} {ps = ps} {n = n} {ty = ty} {ns = ns} {os = os} named typed room h) =
-    λ s e.
-    let left = (Decides-ltb (length s.objects) 65_536).1 (subst (λ (z : Inside). z.made < 65_536) (sym e) room) in
-    let one = param_behind unit function p n ty s named typed left in
-    let m = params_to unit function (declaring (param_object unit function n ty p.konst ∷ []) i) ps ns os h
-    (with_param unit function p.name p s) (one.known ∙ ap (declaring (param_object unit function n ty p.konst ∷ [])) e) in
-    subst (λ (z : ℕ). AreMade unit function (p ∷ ps) s (z ∷ ns) (param_object unit function n ty p.konst ∷ os))
-    (ap (λ (z : Inside). z.made) e) (made_then unit function p ps s n ty ns os named typed left m)
+-- the parameters of trees
+module _ (declarators : DeclaratorsAreSaid) (tags : Tags) (structs unit function : ℕ) where
+  abbrev declared : t.Param → ParamDeclared
+  declared p = param_declared tags structs p
+
+  params_to : (i : Inside) (ps : List t.Param) (ns : List ℕ) (os : List PlainObject) → AreParams tags structs unit function i ps ns os
+      → (s : Scope) → inside_of s ≡ i → AreMade unit function (map declared ps) s ns os
+  params_to _ _ _ _ units.no_param = λ s e. record {
+    numbers = λ found. ap Some (sym (append-nil found));
+    behind = nothing_behind s;
+  }
+  params_to _ _ _ _ (units.more_params {i = i} {ss = ss} {stars = stars} {at = at} {n = n} {ps = ps} {ty = ty} {konst = konst} {ns = ns}
+      {os = os} says qualified room h) =
+      λ s e.
+      let q = t.param (t.type_name ss stars) (Some (t.identifier at n)) in
+      let p = declared q in
+      let typed = (declarators.params tags structs ss stars (Some (t.identifier at n)) ty).1 says in
+      let const = same_const p.konst konst (declarators.constness_of_params tags structs ss stars (Some (t.identifier at n))) qualified in
+      let left = (Decides-ltb (length s.objects) 65_536).1 (subst (λ (z : Inside). z.made < 65_536) (sym e) room) in
+      let one = param_behind unit function p n ty s refl typed left in
+      let m = params_to (declaring (param_object unit function n ty konst ∷ []) i) ps ns os h (with_param unit function p.name p s)
+      (one.known ∙ ap (declaring (param_object unit function n ty p.konst ∷ [])) e
+      ∙ ap (λ (z : Bool). declaring (param_object unit function n ty z ∷ []) i) const) in
+      subst (λ (z : Bool). AreMade unit function (map declared (q ∷ ps)) s (i.made ∷ ns) (param_object unit function n ty z ∷ os)) const
+      (subst (λ (z : ℕ). AreMade unit function (map declared (q ∷ ps)) s (z ∷ ns) (param_object unit function n ty p.konst ∷ os))
+      (ap (λ (z : Inside). z.made) e) (made_then unit function p (map declared ps) s n ty ns os refl typed left m))
 
 no_numbers : (unit function : ℕ) (ps : List ParamDeclared) (s : Scope) → param_numbers unit function ps s None ≡ None
 no_numbers unit function [] s = refl
@@ -110,55 +129,64 @@ next_given : (unit function : ℕ) (ps : List ParamDeclared) (s : Scope) (found 
 next_given unit function ps s found all None q = absurd (nothing_there all (sym (no_numbers unit function ps s) ∙ q))
 next_given unit function ps s found all (Some m) q = (m, refl, q)
 
--- a parameter with a number has a name and a type, and a number is left for it
-number_given : (p : ParamDeclared) (s : Scope) (m : ℕ) → param_number p.name p s ≡ Some m
-    → (n : List ℕ) × (ty : PlainType) × (p.name ≡ Some n) × (p.ty ≡ Some ty) × (has_room s.objects ≡ true)
-number_given p s m q = named p.name refl q
+-- a parameter with a number has a type, and a number is left for it
+number_given : (ty : Option PlainType) (s : Scope) (m : ℕ) → made_number ty s.objects ≡ Some m
+    → (u : PlainType) × (ty ≡ Some u) × (has_room s.objects ≡ true) × (length s.objects ≡ m)
+number_given None s m q = absurd (nothing_there m q)
+number_given (Some ty) s m q = by (has_room s.objects) refl q
   where
-    roomy : (n : List ℕ) (ty : PlainType) (b : Bool) → p.name ≡ Some n → p.ty ≡ Some ty → has_room s.objects ≡ b
-        → (if b then Some (length s.objects) else None) ≡ Some m
-        → (n : List ℕ) × (ty : PlainType) × (p.name ≡ Some n) × (p.ty ≡ Some ty) × (has_room s.objects ≡ true)
-    roomy n ty true e f g q = (n, ty, e, f, g)
-    roomy n ty false e f g q = absurd (nothing_there m q)
+    by : (b : Bool) → has_room s.objects ≡ b → (if b then Some (length s.objects) else None) ≡ Some m
+        → (u : PlainType) × (Some ty ≡ Some u) × (has_room s.objects ≡ true) × (length s.objects ≡ m)
+    by true e q = (ty, refl, e, inside q)
+    by false e q = absurd (nothing_there m q)
 
-    typed : (n : List ℕ) (ty : Option PlainType) → p.name ≡ Some n → p.ty ≡ ty → made_number ty s.objects ≡ Some m
-        → (n : List ℕ) × (ty : PlainType) × (p.name ≡ Some n) × (p.ty ≡ Some ty) × (has_room s.objects ≡ true)
-    typed n None e f q = absurd (nothing_there m q)
-    typed n (Some ty) e f q = roomy n ty (has_room s.objects) e f refl q
+module _ (declarators : DeclaratorsAreSaid) (tags : Tags) (structs unit function : ℕ) where
+  abbrev all_declared : List t.Param → List ParamDeclared
+  all_declared ps = map (param_declared tags structs) ps
 
-    named : (n : Option (List ℕ)) → p.name ≡ n → param_number n p s ≡ Some m
-        → (n : List ℕ) × (ty : PlainType) × (p.name ≡ Some n) × (p.ty ≡ Some ty) × (has_room s.objects ≡ true)
-    named None e q = absurd (nothing_there m q)
-    named (Some n) e q = typed n p.ty e refl q
+  abbrev FoundParams : List t.Param → (s : Scope) (found all : List ℕ) → Type 0
+  FoundParams ps s found all =
+      (ns : List ℕ) × (os : List PlainObject) × AreParams tags structs unit function (inside_of s) ps ns os
+      × AreMade unit function (all_declared ps) s ns os × (found ++ ns ≡ all)
 
-abbrev FoundParams : (unit function : ℕ) (ps : List ParamDeclared) (s : Scope) (found all : List ℕ) → Type 0
-FoundParams unit function ps s found all =
-    (ns : List ℕ) × (os : List PlainObject) × AreParams unit function (inside_of s) ps ns os × AreMade unit function ps s ns os
-    × (found ++ ns ≡ all)
+  to_params : (ps : List t.Param) (s : Scope) (found all : List ℕ)
+      → param_numbers unit function (all_declared ps) s (Some found) ≡ Some all → FoundParams ps s found all
+  to_params [] s found all q = (
+    [],
+    [],
+    units.no_param,
+    record { numbers = λ found. ap Some (sym (append-nil found)); behind = nothing_behind s },
+    append-nil found ∙ inside q,
+  )
+  to_params (t.param (t.type_name ss stars) None ∷ ps) s found all q =
+      let p = param_declared tags structs (t.param (t.type_name ss stars) None) in
+      absurd (nothing_there all (sym (no_numbers unit function (all_declared ps) (with_param unit function p.name p s)) ∙ q))
+  to_params (t.param (t.type_name ss stars) (Some (t.identifier at n)) ∷ ps) s found all q =
+      let p = param_declared tags structs (t.param (t.type_name ss stars) (Some (t.identifier at n))) in
+      let next = with_param unit function p.name p s in
+      let g = next_given unit function (all_declared ps) next found all (param_number p.name p s) q in
+      let h = number_given p.ty s g.0 g.1 in
+      let m = to_params ps next (found ++ g.0 ∷ []) all g.2 in
+      let one = param_behind unit function p n h.0 s refl h.1 h.2 in (
+        length s.objects ∷ m.0,
+        param_object unit function n h.0 p.konst ∷ m.1,
+        units.more_params ((declarators.params tags structs ss stars (Some (t.identifier at n)) h.0).0 h.1)
+            (declarators.constness_of_params tags structs ss stars (Some (t.identifier at n)))
+            ((Decides-ltb (length s.objects) 65_536).0 h.2)
+            (subst (λ (z : Inside). AreParams tags structs unit function z ps m.0 m.1) one.known m.2),
+        made_then unit function p (all_declared ps) s n h.0 m.0 m.1 refl h.1 h.2 m.3,
+        sym (append_assoc found (length s.objects ∷ []) m.0) ∙ ap (λ (z : ℕ). (found ++ z ∷ []) ++ m.0) h.3 ∙ m.4,
+      )
 
-to_params : (unit function : ℕ) (ps : List ParamDeclared) (s : Scope) (found all : List ℕ)
-    → param_numbers unit function ps s (Some found) ≡ Some all → FoundParams unit function ps s found all
-to_params unit function [] s found all q = (
-  [],
-  [],
-  units.no_param,
-  record { numbers = λ found. ap Some (sym (append-nil found)); behind = nothing_behind s },
-  append-nil found ∙ inside q,
-)
-to_params unit function (p ∷ ps) s found all q =
-    let next = with_param unit function p.name p s in
-    let g = next_given unit function ps next found all (param_number p.name p s) q in
-    let h = number_given p s g.0 g.1 in
-    let same : length s.objects ≡ g.0 = inside (sym (numbered p h.0 h.1 s h.2 h.3 h.4) ∙ g.1) in
-    let m = to_params unit function ps next (found ++ g.0 ∷ []) all g.2 in
-    let one = param_behind unit function p h.0 h.1 s h.2 h.3 h.4 in (
-      length s.objects ∷ m.0,
-      param_object unit function h.0 h.1 p.konst ∷ m.1,
-      units.more_params h.2 h.3 ((Decides-ltb (length s.objects) 65_536).0 h.4)
-          (subst (λ (z : Inside). AreParams unit function z ps m.0 m.1) one.known m.2),
-      made_then unit function p ps s h.0 h.1 m.0 m.1 h.2 h.3 h.4 m.3,
-      sym (append_assoc found (length s.objects ∷ []) m.0) ∙ ap (λ (z : ℕ). (found ++ z ∷ []) ++ m.0) same ∙ m.4,
-    )
+-- the parameters of a function, one behind the other
+more_declared : (tags : Tags) (n : ℕ) (ps : List t.NextParam)
+    → map (next_declared tags n) ps ≡ map (param_declared tags n) (params_behind ps)
+more_declared tags n [] = refl
+more_declared tags n (t.next_param comma p ∷ ps) = ap (λ zs. param_declared tags n p ∷ zs) (more_declared tags n ps)
+
+all_params : (tags : Tags) (n : ℕ) (ps : t.Params) → params_declared tags n ps ≡ map (param_declared tags n) (params_in ps)
+all_params tags n (t.void_params s) = refl
+all_params tags n (t.params first more) = ap (λ zs. param_declared tags n first ∷ zs) (more_declared tags n more)
 
 -- ---- functions
 
@@ -190,7 +218,12 @@ function_further g s v os room whole structs functions objects =
       functions = ap (λ z. z ++ g ∷ []) functions;
     }
 
-module _ (bodies : StatementsAreSaid) (r : Setting) (ss : t.Specs) (stars : List t.Star) (at : Spot) (n : List ℕ) (l : Spot)
+-- the laws of functions
+pub record FunctionLaws : Type 0 where
+  pub statements : StatementsAreSaid
+  pub declarators : DeclaratorsAreSaid
+
+module _ (bodies : FunctionLaws) (r : Setting) (ss : t.Specs) (stars : List t.Star) (at : Spot) (n : List ℕ) (l : Spot)
     (ps : t.Params) (e : Spot) (b : t.Compound) (s : State) where
   abbrev f : t.Function
   f = t.function (t.type_name ss stars) (t.identifier at n) l ps e b
@@ -261,8 +294,19 @@ module _ (bodies : StatementsAreSaid) (r : Setting) (ss : t.Specs) (stars : List
   abbrev w : PlainType → Enclosing
   w returns = record { unit = r.unit; function = length s.functions; result = returns }
 
+  abbrev Params : List ℕ → List PlainObject → Type 0
+  Params ns os = AreParams s.tags (length s.structs) r.unit (length s.functions) (inside_of named.scope) (params_in ps) ns os
+
+  -- what parameters make, in the place of what they declare
+  params_are : (ns : List ℕ) (os : List PlainObject)
+      → AreMade r.unit (length s.functions) (map (param_declared s.tags (length s.structs)) (params_in ps)) named.scope ns os
+      → AreMade r.unit (length s.functions) d.params named.scope ns os
+  params_are ns os h =
+      subst (λ (z : List ParamDeclared). AreMade r.unit (length s.functions) z named.scope ns os)
+      (sym (all_params s.tags (length s.structs) ps)) h
+
   definition_to : (returns : PlainType) (ns : List ℕ) (os us : List PlainObject) (body : PlainStmt) → length s.functions < 65_536
-      → d.returns ≡ Some returns → AreParams r.unit (length s.functions) (inside_of named.scope) d.params ns os
+      → DeclareResult s.tags (length s.structs) ss stars returns → Params ns os
       → IsBody (w returns) c (declaring os (inside_of named.scope)) b body us
       → IsFurther
       (record {
@@ -270,9 +314,13 @@ module _ (bodies : StatementsAreSaid) (r : Setting) (ss : t.Specs) (stars : List
         objects = os ++ us;
         functions = record { name = n; unit = r.unit; returns = returns; params = ns; body = body } ∷ [];
       }) s (after_definition r f s)
-  definition_to returns ns os us body room typed h m =
-      let made = params_to r.unit (length s.functions) (inside_of named.scope) d.params ns os h named.scope refl in
-      let meant = (bodies.bodies (w returns) c (length named.scope.names.inside) b (params (length s.functions)) body us).0
+  definition_to returns ns os us body room says h m =
+      let typed = (bodies.declarators.results s.tags (length s.structs) ss stars ps returns).1 says in
+      let made =
+      params_are ns os
+      (params_to bodies.declarators s.tags (length s.structs) r.unit (length s.functions) (inside_of named.scope) (params_in ps) ns os h
+      named.scope refl) in
+      let meant = (bodies.statements.bodies (w returns) c (length named.scope.names.inside) b (params (length s.functions)) body us).0
       (subst (λ (z : Inside). IsBody (w returns) c z b body us) (sym made.behind.known) m) in
       definition_further returns os us body ns made meant.0 meant.1 typed ((Decides-ltb (length s.functions) 65_536).1 room)
 
@@ -287,12 +335,16 @@ module _ (bodies : StatementsAreSaid) (r : Setting) (ss : t.Specs) (stars : List
           → param_numbers r.unit (length s.functions) d.params named.scope (Some []) ≡ Some ns → (body : PlainStmt)
           → body_of c (around_as (length s.functions) (Some returns)) b (params (length s.functions)) ≡ Some body → FoundFunction
       bodied returns ns room typed q body meant =
-          let g = to_params r.unit (length s.functions) d.params named.scope [] ns q in
-          let m = bodies.given (w returns) c (length named.scope.names.inside) b (params (length s.functions)) body meant in (
+          let g =
+          to_params bodies.declarators s.tags (length s.structs) r.unit (length s.functions) (params_in ps) named.scope [] ns
+          (ap (λ (z : List ParamDeclared). param_numbers r.unit (length s.functions) z named.scope (Some []))
+          (sym (all_params s.tags (length s.structs) ps)) ∙ q) in
+          let m = bodies.statements.given (w returns) c (length named.scope.names.inside) b (params (length s.functions)) body meant in (
             record { name = n; unit = r.unit; returns = returns; params = g.0; body = body },
             g.1 ++ m.0,
-            units.a_function ((Decides-ltb (length s.functions) 65_536).0 room) typed g.2
-                (subst (λ (z : Inside). IsBody (w returns) c z b body m.0) g.3.behind.known m.1),
+            units.a_function ((Decides-ltb (length s.functions) 65_536).0 room)
+                ((bodies.declarators.results s.tags (length s.structs) ss stars ps returns).0 typed) g.2
+                (subst (λ (z : Inside). IsBody (w returns) c z b body m.0) (params_are g.0 g.1 g.3).behind.known m.1),
           )
 
       made_from : (returns : Option PlainType) (ns : Option (List ℕ)) (body : Option PlainStmt) (g : PlainFunction)
@@ -317,7 +369,7 @@ module _ (bodies : StatementsAreSaid) (r : Setting) (ss : t.Specs) (stars : List
 
 -- ---- external declarations
 
-module _ (parts : PartLaws) (file : FileScopeIsSaid) (bodies : StatementsAreSaid) where
+module _ (parts : PartLaws) (file : FileScopeIsSaid) (bodies : FunctionLaws) where
   function_added : (r : Setting) (f : t.Function) (s : State) (a : Added) → Adds r (place_of s) (t.function_item f) a
       → IsFurther a s (after_definition r f s)
   function_added r _ s _ (units.by_function {f = f} {g = g} {os = os} h) = by f g os h
@@ -462,7 +514,7 @@ few_units ds io _ _ _ _ (units.more_units {unit = n} {p = p} {xs = xs} {e = z} {
 
 -- ---- programs
 
-module _ (parts : PartLaws) (file : FileScopeIsSaid) (bodies : StatementsAreSaid) (us : List t.Tree) (io : IoTable) where
+module _ (parts : PartLaws) (file : FileScopeIsSaid) (bodies : FunctionLaws) (us : List t.Tree) (io : IoTable) where
   abbrev behind : State
   behind = after_units (definitions us) io 0 us nothing_declared
 
@@ -487,7 +539,7 @@ module _ (parts : PartLaws) (file : FileScopeIsSaid) (bodies : StatementsAreSaid
           record { structs = behind.structs; objects = behind.scope.objects; functions = behind.functions; main = start }
 
   typed_to : (p : PlainProgram) → Typed us io p → program_of us io ≡ Some p
-  typed_to _ (units.typed {a = a} {start = start} h e) = program_at a start e h
+  typed_to _ (units.typed {a = a} {start = start} h e) = program_at a start ((mains_are_found (definitions us) start).1 e) h
 
   to_typed : (p : PlainProgram) → program_of us io ≡ Some p → Typed us io p
   to_typed p q = by (main_of (definitions us)) refl q
@@ -497,7 +549,7 @@ module _ (parts : PartLaws) (file : FileScopeIsSaid) (bodies : StatementsAreSaid
           → Typed us io p
       whole start true c w e f =
           let g = units_there parts file bodies (definitions us) io 0 us nothing_declared w in
-          subst (λ (z : PlainProgram). Typed us io z) (inside (sym (program_at g.0 start e g.1) ∙ q)) (units.typed g.1 e)
+          subst (λ (z : PlainProgram). Typed us io z) (inside (sym (program_at g.0 start e g.1) ∙ q)) (units.typed g.1 ((mains_are_found (definitions us) start).0 e))
       whole start false c w e f = absurd (nothing_there p f)
 
       by : (start : Option ℕ) → main_of (definitions us) ≡ start → program_by start behind ≡ Some p → Typed us io p
@@ -505,7 +557,7 @@ module _ (parts : PartLaws) (file : FileScopeIsSaid) (bodies : StatementsAreSaid
       by (Some start) e f = whole start behind.whole (nat_le (length behind.functions) 65_536) refl e f
 
 -- the laws of programs
-pub programs_are_typed : PartLaws → FileScopeIsSaid → StatementsAreSaid → LeastIsFound → ProgramsExist → ProgramsAreTyped
+pub programs_are_typed : PartLaws → FileScopeIsSaid → FunctionLaws → LeastIsFound → ProgramsExist → ProgramsAreTyped
 programs_are_typed parts file bodies least exist = record {
   walked = λ us io p. (typed_to parts file bodies us io p, to_typed parts file bodies us io p);
   only = λ us io p q h g. inside (sym (typed_to parts file bodies us io p h) ∙ typed_to parts file bodies us io q g);

@@ -12,7 +12,8 @@ use ec_check_initialisers::{initial_values_suit, sizes_are_values};
 use ec_check_least::the_least_is_told;
 use ec_check_names::{blocks_end, equal_structs_are_one};
 use ec_check_parts::{
-    bodies_are_judged, file_names_are_judged, file_scope_is_judged, functions_are_judged,
+    bodies_are_judged, declarators_are_said, file_names_are_judged, file_scope_is_judged,
+    functions_are_judged,
 };
 use ec_check_statements::{
     bodies_are_valid, bodies_need_their_tokens, function_types_are_usable,
@@ -101,6 +102,7 @@ pub fn programs_are_typed()
     file_scope_is_judged();
     scopes_end();
     blocks_end();
+    declarators_are_said();
     file_scope_is_said();
     statements_are_said();
 }

@@ -2,13 +2,13 @@
 pub mod Options
 pub mod Conversions
 pub mod Parts
+pub mod Stores
 -- For this crate alone.
 mod Operations
 mod Choices
 mod Names
 mod Ports
 mod Forms
-mod Stores
 mod Meanings
 mod Around
 mod NodeModes

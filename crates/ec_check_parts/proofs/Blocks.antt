@@ -91,7 +91,7 @@ newest_told best n [] = (λ e. inl e, back)
     back (inr h) = absurd h
 newest_told best n (e ∷ es) = newest_step best n e es (bytes_eq e.name n) (bytes_eq-Decides e.name n) (λ best. newest_told best n es)
 
-again_told : (first : ℕ) (n : List ℕ) (names : Names) → Decides (is_declared_since first n names) (DeclaresName first n names)
+pub again_told : (first : ℕ) (n : List ℕ) (names : Names) → Decides (is_declared_since first n names) (DeclaresName first n names)
 again_told first n names =
     (λ q. there ((newest_told None n (drop first names.inside)).0 q), λ h. (newest_told None n (drop first names.inside)).1 (inr h))
   where

@@ -30,6 +30,7 @@ use Rattle.ec_check_parts.specs.Functions.{HasName, IsNamed, IsMisnamed, BreakPa
 use Rattle.ec_check_parts.specs.Functions.{misnamed, no_parameter}
 use Rattle.ec_check_parts.specs.Functions.{BreakParams, params_behind, params_in, BreakFunction, result_headed, no_result, in_params}
 use Rattle.ec_check_parts.specs.Laws.{TellAt, FunctionsAreJudged}
+use Rattle.ec_check_parts.proofs.Types.{type_said}
 use Rattle.ec_check_parts.proofs.Specifiers.{specifiers_alone}
 use Rattle.ec_check_parts.proofs.Heads.{heads_are_judged}
 use Rattle.ec_check_parts.proofs.Joined.{nowhere, at_one, both, like}
@@ -158,13 +159,13 @@ module _ (tags : Tags) (defined : Bool) (before : List t.Param) (ss : t.Specs) (
   of_parts f (inl b) = param_specified b
   of_parts f (inr (inl b)) = param_headed b
   of_parts f (inr (inr (inl (r, a, w)))) = misnamed r a w
-  of_parts f (inr (inr (inr (r, a, (ty, e, n))))) = no_parameter r a ty e n
+  of_parts f (inr (inr (inr (r, a, (ty, e, n))))) = no_parameter r a ty ((type_said tags ss stars ty).0 e) n
 
   to_parts : (f : Fault) → BreakParam tags defined before ss stars name f → Parts f
   to_parts f (param_specified b) = inl b
   to_parts f (param_headed b) = inr (inl b)
   to_parts f (misnamed r a w) = inr (inr (inl (r, a, w)))
-  to_parts f (no_parameter r a ty e n) = inr (inr (inr (r, a, (ty, e, n))))
+  to_parts f (no_parameter r a ty e n) = inr (inr (inr (r, a, (ty, (type_said tags ss stars ty).1 e, n))))
 
   pub param_judged : (b : Bool) → Decides b (IsMisnamed defined before (t.param (t.type_name ss stars) name))
       → TellAt (param_sites tags b (t.param (t.type_name ss stars) name)) (BreakParam tags defined before ss stars name)
@@ -261,12 +262,12 @@ functions_are_judged tags defined ss stars at ps =
         ⊎ (BreakResult (head_of (specified tags ss) stars).ty at f ⊎ BreakParams tags defined [] (params_in ps) f)
         → BreakFunction tags defined ss stars at ps f
     there f (inl b) = result_headed b
-    there f (inr (inl (r, a, (ty, e, (n, m))))) = no_result r a ty e n m
+    there f (inr (inl (r, a, (ty, e, (n, m))))) = no_result r a ty ((type_said tags ss stars ty).0 e) n m
     there f (inr (inr b)) = in_params b
 
     back : (f : Fault) → BreakFunction tags defined ss stars at ps f
         → BreakHead tags result ss stars f
         ⊎ (BreakResult (head_of (specified tags ss) stars).ty at f ⊎ BreakParams tags defined [] (params_in ps) f)
     back f (result_headed b) = inl b
-    back f (no_result r a ty e n m) = inr (inl (r, a, (ty, e, (n, m))))
+    back f (no_result r a ty e n m) = inr (inl (r, a, (ty, (type_said tags ss stars ty).1 e, (n, m))))
     back f (in_params b) = inr (inr b)

@@ -1,16 +1,16 @@
 -- What is told of initialisers breaks a constraint there, and the other way round.
-use Rattle.std.proofs.Common.{◌≡◌, ◌∙◌, ◌+◌, ◌<◌, ℕ, Bool, true, false, not, ◌||◌, List, [], ◌∷◌, refl, sym, subst, inl, inr}
-use Rattle.std.specs.Prelude.{◌⊎◌, ◌↔◌, ◌≢◌, if◌then◌else◌, nat_lt, is_none, Option, Some, None}
+use Rattle.std.proofs.Common.{◌≡◌, ◌∙◌, ◌+◌, ◌<◌, ℕ, Bool, true, false, not, ◌||◌, List, [], ◌∷◌, refl, sym, ap, subst, inl, inr}
+use Rattle.std.specs.Prelude.{◌⊎◌, ◌↔◌, if◌then◌else◌, nat_lt, is_none, Option, Some, None}
 use Rattle.std.specs.Bool.{Decides}
 use Rattle.std.proofs.lemmas.Bool.{false≢true}
-use Rattle.std.proofs.lemmas.Bool.Decides.{Decides-not, Decides-or, Decides-ltb}
+use Rattle.std.proofs.lemmas.Bool.Decides.{Decides-like, Decides-not, Decides-or, Decides-ltb}
 use Rattle.ec_grammar.specs.declared.Spot.{Spot}
 use Rattle.ec_grammar.specs.Trees as t
 use Rattle.ec_core.specs.declared.programs.LeafInit.{LeafInit}
 use Rattle.ec_core.specs.Plain.{PlainType, PlainStruct, PlainExpr}
 use Rattle.ec_check_operands.specs.declared.faults.Fault.{Fault}
 use Rattle.ec_check_operands.specs.Laws.{IsTold}
-use Rattle.ec_check_operands.specs.Operands.{Operand}
+use Rattle.ec_check_operands.specs.Operands.{Operand, with_one}
 use Rattle.ec_check_operands.specs.Sorts.{is_aggregate}
 use Rattle.ec_check_forms.specs.Constraints.{IsAggregate}
 use Rattle.ec_check_forms.specs.Nodes.{used, use_rules}
@@ -26,28 +26,27 @@ use Rattle.ec_check_initialisers.specs.Locals.{items_count, leaf_sites, items_si
 use Rattle.ec_check_initialisers.specs.Parts.{part_of, part_count, scalar_of, is_bare, has_no_place}
 use Rattle.ec_check_initialisers.specs.Places.{StaticPlace, in_assignment, address_constant, address_form, form_of}
 use Rattle.ec_check_initialisers.specs.Sites as initialisers
-use Rattle.ec_check_initialisers.specs.Statics.{item_is_null, item_value, item_sites, walked_sites, static_sites, static_items_sites}
+use Rattle.ec_check_initialisers.specs.Statics.{item_is_null, item_value, item_leaf, walked_leaf, item_sites, walked_sites, static_sites}
+use Rattle.ec_check_initialisers.specs.Statics.{static_items_sites}
 use Rattle.ec_check_declarations.specs.Sites.{initialiser_in}
 use Rattle.ec_check_meanings.specs.Terms.{term_of_assignment}
+use Rattle.ec_check_meanings.proofs.Options.{clash, refuted}
+use Rattle.ec_check_parts.specs.ConstantForms.{IsConstantTerm}
 use Rattle.ec_check_parts.specs.Expressions.{BreakTerm, BreakUsed, in_term}
+use Rattle.ec_check_parts.specs.Items.{HasItemValue, IsInitialValue}
 use Rattle.ec_check_parts.specs.Initialisers.{IsBare, HasNoPlace, BreakItem, item_used, item_passed, item_bare, HasNoInitialValue}
 use Rattle.ec_check_parts.specs.Initialisers.{IsFormless, BreakStaticItem, no_constant_form, formless_bare, static_item, no_initial_value}
 use Rattle.ec_check_parts.specs.Initialisers.{BreakInitialiser, BreakPartsFrom, BreakStatic}
 use Rattle.ec_check_parts.specs.Laws.{TellAt, InitialisersAreJudged}
+use Rattle.ec_check_parts.proofs.Addresses.{address_told}
+use Rattle.ec_check_parts.proofs.ConstantForms.{constants_are_told}
+use Rattle.ec_check_parts.proofs.Items.{scalar_is, items_have_values}
 use Rattle.ec_check_parts.proofs.Joined.{like}
 use Rattle.ec_check_parts.proofs.Nested.{IsToldIn, IsToldInside, inside_told, in_expressions}
 use Rattle.ec_check_parts.proofs.Expressions.{ExpressionLaws, assignment_told, means_assignment, used_told, uses_is, no_some, same_some}
 use Rattle.ec_check_parts.proofs.Expressions.{IsPassing, passing_is}
 
 -- ---- types
-
-pub scalar_is : (ty : Option PlainType) (u : PlainType) → scalar_of ty ≡ Some u ↔ ((ty ≡ Some u) × (¬ IsAggregate u))
-scalar_is None u = (λ e. absurd (no_some u e), λ h. absurd (no_some u h.0))
-scalar_is (Some v) u = by (is_aggregate v) (aggregates v)
-  where
-    by : (b : Bool) → Decides b (IsAggregate v) → (if b then None else Some v) ≡ Some u ↔ ((Some v ≡ Some u) × (¬ IsAggregate u))
-    by true d = (λ e. absurd (no_some u e), λ h. absurd (h.1 (subst IsAggregate (same_some v u h.0) (d.0 refl))))
-    by false d = (λ e. (e, λ a. false≢true (d.1 (subst IsAggregate (sym (same_some v u e)) a))), λ h. h.0)
 
 bare_told : (ty : Option PlainType) → Decides (is_bare ty) (IsBare ty)
 bare_told None = (λ e. absurd (false≢true e), λ h. absurd (no_some h.0 h.1))
@@ -219,7 +218,22 @@ module _ (laws : ExpressionLaws) (k : Known) where
     formless_by false (Some s) = (λ e. absurd (false≢true e), λ h. absurd (no_some s (sym h.1)))
 
     formless_told : Decides (is_other (form_of k a)) (IsFormless k a)
-    formless_told = formless_by (is_constant_assignment k a) (address_constant (in_assignment k a))
+    formless_told =
+        Decides-like (is_other (form_of k a)) there back
+        (formless_by (is_constant_assignment k a) (address_constant (in_assignment k a)))
+      where
+        constant : Decides (is_constant_assignment k a) (IsConstantTerm k (term_of_assignment a))
+        constant = (constants_are_told laws.meanings k).assignments a
+
+        there : (is_constant_assignment k a ≡ false) × (address_constant (in_assignment k a) ≡ None) → IsFormless k a
+        there (e, q) = (λ h. clash (constant.1 h) e, λ s h. no_some s (sym q ∙ (address_told laws k a s).1 h))
+
+        back : IsFormless k a → (is_constant_assignment k a ≡ false) × (address_constant (in_assignment k a) ≡ None)
+        back (n, m) = (refuted (is_constant_assignment k a) (λ e. n (constant.0 e)), by (address_constant (in_assignment k a)) refl)
+          where
+            by : (o : Option StaticPlace) → address_constant (in_assignment k a) ≡ o → o ≡ None
+            by None e = refl
+            by (Some s) e = absurd (m s ((address_told laws k a s).0 e))
 
     module _ (ty : Option PlainType) where
       -- one that is looked into
@@ -250,12 +264,52 @@ module _ (laws : ExpressionLaws) (k : Known) where
             (subst (λ z. leaf_of (form_of k a) (item_is_null k ty a) z ≡ None) (sym (same_some v h.0 h.1)) h.2),
       )
 
+      -- the leaf of an item that is looked into
+      leaf_walked : (b : Bool) (p : Option StaticPlace) → is_other (if b then form_of k a_constant else address_form p) ≡ false
+          → item_leaf k (if b then form_of k a_constant else address_form p) ty a
+          ≡ walked_leaf k (if b then form_of k a_constant else address_form p) ty a
+      leaf_walked true p n = refl
+      leaf_walked false None n = absurd (false≢true (sym n))
+      leaf_walked false (Some s) n = refl
+
+      abbrev leaf_by_form : PlainExpr → Option LeafInit
+      leaf_by_form e = leaf_of (form_of k a) (item_is_null k ty a) e
+
+      abbrev NoLeaf : Type 0
+      NoLeaf = (e : PlainExpr) × (item_value k ty a ≡ Some e) × (leaf_by_form e ≡ None)
+
+      module _ (n : is_other (form_of k a) ≡ false) where
+        values : (e : PlainExpr) → item_value k ty a ≡ Some e ↔ HasItemValue k ty a e
+        values e = (items_have_values laws).values k ty a e
+
+        leaf_is : (leaf : LeafInit) → with_one (item_value k ty a) leaf_by_form ≡ Some leaf ↔ IsInitialValue k ty a leaf
+        leaf_is leaf =
+            subst (λ (z : Option LeafInit). z ≡ Some leaf ↔ IsInitialValue k ty a leaf)
+            (leaf_walked (is_constant_assignment k a) (address_constant (in_assignment k a)) n) ((items_have_values laws).leaves k ty a leaf)
+
+        no_leaf_there : NoLeaf → HasNoInitialValue k ty a
+        no_leaf_there (e, v, q) = (e, (values e).0 v, none)
+          where
+            none : (leaf : LeafInit) → ¬ IsInitialValue k ty a leaf
+            none leaf h =
+                no_some leaf
+                (sym (ap (λ (z : Option PlainExpr). with_one z leaf_by_form) v ∙ q) ∙ (leaf_is leaf).1 h)
+
+        no_leaf_back : HasNoInitialValue k ty a → NoLeaf
+        no_leaf_back (e, h, none) = (e, (values e).1 h, by (leaf_by_form e) refl)
+          where
+            by : (o : Option LeafInit) → leaf_by_form e ≡ o → o ≡ None
+            by None q = refl
+            by (Some leaf) q =
+                absurd (none leaf ((leaf_is leaf).0 (ap (λ (z : Option PlainExpr). with_one z leaf_by_form) ((values e).1 h) ∙ q)))
+
       leaf_told : is_other (form_of k a) ≡ false
           → Decides (is_other (form_of k a) || has_no_leaf (form_of k a) (item_is_null k ty a) (item_value k ty a))
           (HasNoInitialValue k ty a)
       leaf_told n =
           subst (λ b. Decides (b || has_no_leaf (form_of k a) (item_is_null k ty a) (item_value k ty a)) (HasNoInitialValue k ty a)) (sym n)
-          (leaf_by (item_value k ty a))
+          (Decides-like (has_no_leaf (form_of k a) (item_is_null k ty a) (item_value k ty a)) (no_leaf_there n) (no_leaf_back n)
+          (leaf_by (item_value k ty a)))
 
       abbrev leaf : List initialisers.Site → List initialisers.Site
       leaf rest = initialisers.a_leaf (form_of k a) (item_is_null k ty a) (item_value k ty a) (first_assignment a) ∷ rest

@@ -3,9 +3,12 @@
 -- For the crates of the family.
 pub mod Joined
 pub mod Standing
+pub mod Types
+pub mod Mains
 -- For this crate alone.
 mod Tests
 mod Qualifiers
+mod TypeWords
 mod Storages
 mod Specifiers
 mod Voids
@@ -13,7 +16,13 @@ mod Heads
 mod Nested
 mod Expressions
 mod Functions
+mod ConstantForms
+mod Numbers
+mod Declared
+mod Addresses
+mod Items
 mod Sizes
+mod Members
 mod Structures
 mod Objects
 mod Initialisers
@@ -21,6 +30,7 @@ mod FirstStorages
 mod Blocks
 mod Statements
 mod FileNames
+mod Linkages
 mod Places
 mod Outside
 mod FileScope

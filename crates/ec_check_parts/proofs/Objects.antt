@@ -17,6 +17,7 @@ use Rattle.ec_check_expressions.specs.Known.{Known}
 use Rattle.ec_check_declarations.specs.Declarators.{head_rules, misused_in, shape_size, shape_sites, type_declared, object_sites}
 use Rattle.ec_check_declarations.specs.ObjectTypes.{is_too_large}
 use Rattle.ec_check_declarations.specs.Sites.{on}
+use Rattle.ec_check_parts.specs.Declared.{DeclareType}
 use Rattle.ec_check_parts.specs.Heads.{Role, file_object, block_object, BreakHead}
 use Rattle.ec_check_parts.specs.Objects.{BreakObject, object_sized, object_headed, object_too_large}
 use Rattle.ec_check_parts.specs.Sizes.{BreakShape}
@@ -24,7 +25,8 @@ use Rattle.ec_check_parts.specs.Structures.{role_of, IsFunction}
 use Rattle.ec_check_parts.specs.Laws.{TellAt, ObjectsAreJudged}
 use Rattle.ec_check_parts.proofs.Heads.{heads_are_judged}
 use Rattle.ec_check_parts.proofs.Joined.{at_one, both, like}
-use Rattle.ec_check_parts.proofs.Expressions.{ExpressionLaws}
+use Rattle.ec_check_parts.proofs.Declared.{type_declares}
+use Rattle.ec_check_parts.proofs.Expressions.{ExpressionLaws, uses_conditional}
 use Rattle.ec_check_parts.proofs.Sizes.{shape_judged}
 use Rattle.ec_check_parts.proofs.Structures.{BreakOne, one_judged}
 
@@ -54,6 +56,9 @@ module _ (laws : ExpressionLaws) (k : Known) (role : Role) (ss : t.Specs) (stars
   abbrev declared_type : Option PlainType
   declared_type = type_declared (length k.structs) (specified k.tags ss) stars shape (shape_size k shape start)
 
+  declares : (ty : PlainType) → declared_type ≡ Some ty ↔ DeclareType k ss stars shape start ty
+  declares ty = type_declares laws.meanings (uses_conditional laws) k ss stars shape start ty
+
   abbrev Parts : Fault → Type 0
   Parts f =
       BreakShape k shape start f
@@ -62,12 +67,12 @@ module _ (laws : ExpressionLaws) (k : Known) (role : Role) (ss : t.Specs) (stars
   of_parts : (f : Fault) → Parts f → BreakObject k role ss stars at.index shape start f
   of_parts f (inl b) = object_sized b
   of_parts f (inr (inl b)) = object_headed b
-  of_parts f (inr (inr (r, a, (ty, e, b)))) = object_too_large r a ty e b
+  of_parts f (inr (inr (r, a, (ty, e, b)))) = object_too_large r a ty ((declares ty).0 e) b
 
   to_parts : (f : Fault) → BreakObject k role ss stars at.index shape start f → Parts f
   to_parts f (object_sized b) = inl b
   to_parts f (object_headed b) = inr (inl b)
-  to_parts f (object_too_large r a ty e b) = inr (inr (r, a, (ty, e, b)))
+  to_parts f (object_too_large r a ty e b) = inr (inr (r, a, (ty, (declares ty).1 e, b)))
 
   in_role : ((f : Fault)
       → IsTold (head_rules may (misused_in shape (void_at (specified k.tags ss).types) stars) (specified k.tags ss) stars) f

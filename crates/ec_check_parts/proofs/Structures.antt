@@ -1,5 +1,5 @@
 -- What is told of members, structs and named registers breaks a constraint there, and the other way round.
-use Rattle.std.proofs.Common.{◌≡◌, ◌∙◌, ◌+◌, ◌<◌, ℕ, Bool, true, false, ◌||◌, not, List, [], ◌∷◌, ◌++◌, length, refl, ap}
+use Rattle.std.proofs.Common.{◌≡◌, ◌∙◌, ◌+◌, ◌<◌, ℕ, Bool, true, false, ◌||◌, not, List, [], ◌∷◌, ◌++◌, length, refl, sym, ap}
 use Rattle.std.proofs.Common.{subst, inl, inr}
 use Rattle.std.specs.Prelude.{◌⊎◌, ◌↔◌, ◌≢◌, is_none, Option, Some, None}
 use Rattle.std.specs.Bool.{Decides}
@@ -32,21 +32,27 @@ use Rattle.ec_check_declarations.specs.Structures.{MemberDeclared, is_member, me
 use Rattle.ec_check_declarations.specs.Structures.{more_member_sites, with_declared, declared_sites, all_declared_sites}
 use Rattle.ec_check_declarations.specs.Structures.{size_together, is_over}
 use Rattle.ec_check_declarations.specs.Structures.{is_too_large_together, members_of, member_list_sites, structure_sites}
+use Rattle.ec_check_least.specs.Told.{LeastIsTold}
+use Rattle.ec_check_meanings.proofs.Options.{inside, nothing_there}
 use Rattle.ec_check_parts.specs.Words.{Word, words_among, words_of, own_words}
 use Rattle.ec_check_parts.specs.Specifiers.{BreakSpecifiers}
 use Rattle.ec_check_parts.specs.Heads.{member, register_object, BreakHead}
 use Rattle.ec_check_parts.specs.Sizes.{BreakShape}
 use Rattle.ec_check_parts.specs.Structures.{role_of, IsFunction, SayConst, IsAmong, BreakMember, member_sized, member_headed, member_again}
 use Rattle.ec_check_parts.specs.Structures.{const_member, function_member, declarators_behind, BreakDeclarators, names_behind, BreakMembers}
-use Rattle.ec_check_parts.specs.Structures.{BreakStructure, defined_again, in_members, too_large, BreakRegister, register_specified}
+use Rattle.ec_check_parts.specs.Structures.{HasMembers, BreakStructure, defined_again, in_members, too_large, BreakRegister, register_specified}
 use Rattle.ec_check_parts.specs.Structures.{register_headed, no_register, no_number, passes_last_register}
 use Rattle.ec_check_parts.specs.Laws.{TellAt, StructuresAreJudged}
+use Rattle.ec_check_parts.specs.Said.{StructsAreDeclared}
 use Rattle.ec_check_parts.proofs.Qualifiers.{SaysConst, star_says}
 use Rattle.ec_check_parts.proofs.Specifiers.{says, specifiers_alone}
 use Rattle.ec_check_parts.proofs.Heads.{heads_are_judged}
 use Rattle.ec_check_parts.proofs.Joined.{nowhere, at_one, both, like}
 use Rattle.ec_check_parts.proofs.Expressions.{ExpressionLaws}
+use Rattle.ec_check_parts.proofs.Declared.{register_named, register_typed}
+use Rattle.ec_check_parts.proofs.Members.{has_members, struct_declares}
 use Rattle.ec_check_parts.proofs.Sizes.{shape_judged}
+use Rattle.ec_check_parts.proofs.Types.{type_said}
 
 -- ---- const
 
@@ -244,7 +250,7 @@ all_judged laws k before ms (t.members ss first more e ∷ ds) h =
 nothing_before : AreBefore [] []
 nothing_before n = (λ e. absurd (false≢true e), λ h. absurd h)
 
-members_judged : (laws : ExpressionLaws) (k : Known) (first : t.Member) (more : List t.Member)
+pub members_judged : (laws : ExpressionLaws) (k : Known) (first : t.Member) (more : List t.Member)
     → TellAt (member_list_sites k first more) (BreakMembers k [] (first ∷ more))
 members_judged laws k first more = all_judged laws k [] [] (first ∷ more) nothing_before
 
@@ -255,35 +261,30 @@ defined_told None = (λ e. absurd (false≢true e), λ n. absurd (n refl))
 defined_told (Some None) = (λ e q. cc, λ n. refl)
 defined_told (Some (Some i)) = (λ e q. cc, λ n. refl)
 
--- the members have too many bytes
-abbrev IsOver : List PlainStruct → List PlainMember → Type 0
-IsOver structs ms = (bytes : ℕ) × (size_together structs ms ≡ Some bytes) × (32_767 < bytes)
+-- the members have too many bytes, as the walk finds them, and in words
+abbrev IsLargeWalked : List PlainStruct → Option (List PlainMember) → Type 0
+IsLargeWalked structs o =
+    (ms : List PlainMember) × (bytes : ℕ) × ((o ≡ Some ms) × (size_together structs ms ≡ Some bytes)) × (32_767 < bytes)
 
--- the size that is too large
-abbrev IsLarge : List PlainStruct → Option (List PlainMember) → Type 0
-IsLarge structs o =
-    (ms : List PlainMember) × (o ≡ Some ms) × IsOver structs ms
+abbrev IsLarge : Known → t.Member → List t.Member → Type 0
+IsLarge k first more = (ms : List PlainMember) × (bytes : ℕ) × HasMembers k first more ms bytes × (32_767 < bytes)
 
 over_told : (o : Option ℕ) → Decides (is_over o) ((bytes : ℕ) × (o ≡ Some bytes) × (32_767 < bytes))
-over_told None = (λ e. absurd (false≢true e), λ h. absurd (none h.0 h.1))
-  where
-    none : (n : ℕ) → ◌≡◌ {A = Option ℕ} None (Some n) → ⊥
-    none n e = cc
-over_told (Some m) = (λ e. (m, refl, (Decides-ltb 32_767 m).0 e), λ h. (Decides-ltb 32_767 m).1 (moved h.0 h.1 h.2))
-  where
-    moved : (n : ℕ) → ◌≡◌ {A = Option ℕ} (Some m) (Some n) → 32_767 < n → 32_767 < m
-    moved n e b = let same : n ≡ m = cc in subst (λ z. 32_767 < z) same b
+over_told None = (λ e. absurd (false≢true e), λ h. absurd (nothing_there h.0 h.1))
+over_told (Some m) =
+    (λ e. (m, refl, (Decides-ltb 32_767 m).0 e), λ h. (Decides-ltb 32_767 m).1 (subst (λ z. 32_767 < z) (sym (inside h.1)) h.2))
 
-large_told : (structs : List PlainStruct) (o : Option (List PlainMember)) → Decides (is_too_large_together structs o) (IsLarge structs o)
-large_told structs None = (λ e. absurd (false≢true e), λ h. absurd (none h.0 h.1))
+large_walked : (structs : List PlainStruct) (o : Option (List PlainMember)) → Decides (is_too_large_together structs o) (IsLargeWalked structs o)
+large_walked structs None = (λ e. absurd (false≢true e), λ h. absurd (nothing_there h.0 h.2.0))
+large_walked structs (Some ms) = (there, back)
   where
-    none : (ms : List PlainMember) → ◌≡◌ {A = Option (List PlainMember)} None (Some ms) → ⊥
-    none ms e = cc
-large_told structs (Some ms) =
-    (λ e. (ms, refl, (over_told (size_together structs ms)).0 e), λ h. (over_told (size_together structs ms)).1 (moved h.0 h.1 h.2))
-  where
-    moved : (ns : List PlainMember) → ◌≡◌ {A = Option (List PlainMember)} (Some ms) (Some ns) → IsOver structs ns → IsOver structs ms
-    moved ns e h = let same : ns ≡ ms = cc in subst (IsOver structs) same h
+    there : is_over (size_together structs ms) ≡ true → IsLargeWalked structs (Some ms)
+    there e = let g = (over_told (size_together structs ms)).0 e in (ms, g.0, (refl, g.1), g.2)
+
+    back : IsLargeWalked structs (Some ms) → is_over (size_together structs ms) ≡ true
+    back (ns, bytes, (e, q), b) =
+        (over_told (size_together structs ms)).1
+        (bytes, subst (λ (z : List PlainMember). size_together structs z ≡ Some bytes) (sym (inside e)) q, b)
 
 -- what is told of one rule
 abbrev pub BreakOne : ℕ → ℕ → Type 0 → Fault → Type 0
@@ -304,16 +305,23 @@ one_judged number b at P d f = (there, back)
 abbrev StructureParts : Known → (at : ℕ) → List ℕ → t.Member → List t.Member → Fault → Type 0
 StructureParts k at tag first more f =
     BreakOne 10 at (at_name tag k.tags ≢ None) f
-    ⊎ (BreakMembers k [] (first ∷ more) f ⊎ BreakOne 9 at (IsLarge k.structs (members_of k first more)) f)
+    ⊎ (BreakMembers k [] (first ∷ more) f ⊎ BreakOne 9 at (IsLarge k first more) f)
 
-structure_judged : (laws : ExpressionLaws) (k : Known) (w : Spot) (at : Spot) (tag : List ℕ) (l : Spot) (first : t.Member)
+large_told : (laws : ExpressionLaws) (least : LeastIsTold) (k : Known) (first : t.Member) (more : List t.Member)
+    → Decides (is_too_large_together k.structs (members_of k first more)) (IsLarge k first more)
+large_told laws least k first more =
+    let has = has_members laws k least first more (members_judged laws k first more) in
+    Decides-like (is_too_large_together k.structs (members_of k first more)) (λ h. (h.0, h.1, (has h.0 h.1).0 h.2, h.3))
+    (λ h. (h.0, h.1, (has h.0 h.1).1 h.2, h.3)) (large_walked k.structs (members_of k first more))
+
+structure_judged : (laws : ExpressionLaws) (least : LeastIsTold) (k : Known) (w : Spot) (at : Spot) (tag : List ℕ) (l : Spot) (first : t.Member)
     (more : List t.Member) (r e : Spot)
     → TellAt (structure_sites k (t.structure w (t.identifier at tag) l first more r e)) (BreakStructure k at.index tag first more)
-structure_judged laws k w at tag l first more r e =
+structure_judged laws least k w at tag l first more r e =
     let again = rule 10 (not (is_undefined (tag_state tag k.tags))) at.index ∷ [] in
     let large = rule 9 (is_too_large_together k.structs (members_of k first more)) at.index ∷ [] in
     let Again = BreakOne 10 at.index (at_name tag k.tags ≢ None) in
-    let Large = BreakOne 9 at.index (IsLarge k.structs (members_of k first more)) in
+    let Large = BreakOne 9 at.index (IsLarge k first more) in
     like (structure_sites k (t.structure w (t.identifier at tag) l first more r e))
     (λ f. Again f ⊎ (BreakMembers k [] (first ∷ more) f ⊎ Large f)) (BreakStructure k at.index tag first more) there back
     (both (λ rest. on again ∷ rest) (λ rest. member_list_sites k first more (on large ∷ rest)) Again
@@ -323,17 +331,17 @@ structure_judged laws k w at tag l first more r e =
     (both (member_list_sites k first more) (λ rest. on large ∷ rest) (BreakMembers k [] (first ∷ more)) Large
     (members_judged laws k first more)
     (at_one large Large (one_judged 9 (is_too_large_together k.structs (members_of k first more)) at.index
-    (IsLarge k.structs (members_of k first more)) (large_told k.structs (members_of k first more))))))
+    (IsLarge k first more) (large_told laws least k first more)))))
   where
     there : (f : Fault) → StructureParts k at.index tag first more f → BreakStructure k at.index tag first more f
     there f (inl (q, a, n)) = defined_again q a n
     there f (inr (inl b)) = in_members b
-    there f (inr (inr (q, a, (ms, m, (bytes, s, b))))) = too_large q a ms m bytes s b
+    there f (inr (inr (q, a, (ms, bytes, h, b)))) = too_large q a ms bytes h b
 
     back : (f : Fault) → BreakStructure k at.index tag first more f → StructureParts k at.index tag first more f
     back f (defined_again q a n) = inl (q, a, n)
     back f (in_members b) = inr (inl b)
-    back f (too_large q a ms m bytes s b) = inr (inr (q, a, (ms, m, (bytes, s, b))))
+    back f (too_large q a ms bytes h b) = inr (inr (q, a, (ms, bytes, h, b)))
 
 -- ---- named registers
 
@@ -416,16 +424,25 @@ register_judged k w at register ss name e =
     there : (f : Fault) → RegisterParts k at.index register ss f → BreakRegister k at.index register ss f
     there f (inl b) = register_specified b
     there f (inr (inl b)) = register_headed b
-    there f (inr (inr (q, a, inl (inl n)))) = no_register q a n
-    there f (inr (inr (q, a, inl (inr (ty, m, n))))) = no_number q a ty m n
-    there f (inr (inr (q, a, inr (first, m, ty, n, b)))) = passes_last_register q a first m ty n b
+    there f (inr (inr (q, a, inl (inl n)))) = no_register q a (λ first h. nothing_there first (sym n ∙ (register_named register first).1 h))
+    there f (inr (inr (q, a, inl (inr (ty, m, n))))) = no_number q a ty ((type_said k.tags ss [] ty).0 m) n
+    there f (inr (inr (q, a, inr (first, m, ty, n, b)))) =
+        let g = (register_typed k ss ty).0 n in passes_last_register q a first ((register_named register first).0 m) ty g.0 g.1 b
 
     back : (f : Fault) → BreakRegister k at.index register ss f → RegisterParts k at.index register ss f
     back f (register_specified b) = inl b
     back f (register_headed b) = inr (inl b)
-    back f (no_register q a n) = inr (inr (q, a, inl (inl n)))
-    back f (no_number q a ty m n) = inr (inr (q, a, inl (inr (ty, m, n))))
-    back f (passes_last_register q a first m ty n b) = inr (inr (q, a, inr (first, m, ty, n, b)))
+    back f (no_register q a n) = inr (inr (q, a, inl (inl (by (register_number register) refl))))
+      where
+        by : (o : Option ℕ) → register_number register ≡ o → o ≡ None
+        by None e = refl
+        by (Some first) e = absurd (n first ((register_named register first).0 e))
+    back f (no_number q a ty m n) = inr (inr (q, a, inl (inr (ty, (type_said k.tags ss [] ty).1 m, n))))
+    back f (passes_last_register q a first m ty n o b) =
+        inr (inr (q, a, inr (first, (register_named register first).1 m, ty, (register_typed k ss ty).1 (n, o), b)))
 
-pub structures_are_judged : ExpressionLaws → StructuresAreJudged
-structures_are_judged laws = record { structures = structure_judged laws; registers = register_judged }
+pub structures_are_judged : ExpressionLaws → LeastIsTold → StructuresAreJudged
+structures_are_judged laws least = record { structures = structure_judged laws least; registers = register_judged }
+
+pub structs_are_declared : ExpressionLaws → LeastIsTold → StructsAreDeclared
+structs_are_declared laws least k d s = struct_declares laws k least (members_judged laws k) d s

@@ -4,16 +4,11 @@ use Rattle.ec_grammar.specs.Trees as t
 use Rattle.ec_core.specs.Plain.{PlainType, void}
 use Rattle.ec_check_operands.specs.declared.faults.Fault.{Fault}
 use Rattle.ec_check_forms.specs.Constraints.{IsScalar}
-use Rattle.ec_check_names.specs.Specifiers.{specified}
 use Rattle.ec_check_names.specs.Tags.{Tags}
-use Rattle.ec_check_declarations.specs.Declarators.{head_of}
 use Rattle.ec_check_declarations.specs.Params.{param_at}
 use Rattle.ec_check_parts.specs.Specifiers.{BreakSpecifiers}
 use Rattle.ec_check_parts.specs.Heads.{parameter, result, BreakHead}
-
--- specifiers and stars say the type, void and pointers to void among them
-abbrev pub SayType : Tags → t.Specs → List t.Star → PlainType → Type 0
-SayType tags ss stars ty = (head_of (specified tags ss) stars).ty ≡ Some ty
+use Rattle.ec_check_parts.specs.Types.{SayType}
 
 -- ---- parameters
 

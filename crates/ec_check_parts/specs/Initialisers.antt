@@ -1,22 +1,23 @@
 -- Initialisers of objects, in blocks and of static ones, and the constraints on them, in words (ISO/IEC 9899:1999, 6.6 and
 -- 6.7.8). A type is known where the declarator of the object breaks no constraint on it.
-use Rattle.std.specs.Prelude.{ℕ, ◌+◌, ◌<◌, ◌≡◌, ◌⊎◌, false, Option, Some, None, List}
+use Rattle.std.specs.Prelude.{ℕ, ◌+◌, ◌<◌, ◌≡◌, ◌⊎◌, Option, Some, List}
 use Rattle.ec_grammar.specs.Trees as t
+use Rattle.ec_core.specs.declared.programs.LeafInit.{LeafInit}
 use Rattle.ec_core.specs.Plain.{PlainType, PlainStruct, PlainExpr}
 use Rattle.ec_check_operands.specs.declared.faults.Fault.{Fault}
 use Rattle.ec_check_operands.specs.Operands.{Operand}
 use Rattle.ec_check_forms.specs.Constraints.{IsAggregate}
 use Rattle.ec_check_names.specs.Firsts.{first_assignment}
 use Rattle.ec_check_expressions.specs.Known.{Known}
-use Rattle.ec_check_initialisers.specs.Forms.{is_constant_assignment}
-use Rattle.ec_check_initialisers.specs.Items.{leaf_of}
 use Rattle.ec_check_initialisers.specs.Locals.{items_count}
 use Rattle.ec_check_initialisers.specs.Parts.{part_of, part_count}
-use Rattle.ec_check_initialisers.specs.Places.{in_assignment, address_constant, form_of}
-use Rattle.ec_check_initialisers.specs.Statics.{item_is_null, item_value}
+use Rattle.ec_check_initialisers.specs.Places.{StaticPlace}
 use Rattle.ec_check_meanings.specs.Means.{Uses}
 use Rattle.ec_check_meanings.specs.Terms.{term_of_assignment}
+use Rattle.ec_check_parts.specs.Addresses.{IsAddressConstant}
+use Rattle.ec_check_parts.specs.ConstantForms.{IsConstantTerm}
 use Rattle.ec_check_parts.specs.Expressions.{BreakUsed, BreakPassing}
+use Rattle.ec_check_parts.specs.Items.{HasItemValue, IsInitialValue}
 
 -- ---- braces
 
@@ -40,13 +41,14 @@ pub data BreakItem (k : Known) (ty : Option PlainType) (a : t.Assignment) (f : F
 
 -- it is built neither as a constant expression nor as an address constant
 abbrev pub IsFormless : Known → t.Assignment → Type 0
-IsFormless k a = (is_constant_assignment k a ≡ false) × (address_constant (in_assignment k a) ≡ None)
+IsFormless k a =
+    (¬ IsConstantTerm k (term_of_assignment a)) × ((s : StaticPlace) → ¬ IsAddressConstant k (term_of_assignment a) s)
 
 -- what it means in the type of its place is no initial value of a static object: the value of a constant expression that is
 -- undefined, or the address of an object that no unit defines
 abbrev pub HasNoInitialValue : Known → Option PlainType → t.Assignment → Type 0
 HasNoInitialValue k ty a =
-    (e : PlainExpr) × (item_value k ty a ≡ Some e) × (leaf_of (form_of k a) (item_is_null k ty a) e ≡ None)
+    (e : PlainExpr) × HasItemValue k ty a e × ((leaf : LeafInit) → ¬ IsInitialValue k ty a leaf)
 
 -- the same of a static object; what has no form of a constant is not looked into further
 pub data BreakStaticItem (k : Known) (ty : Option PlainType) (a : t.Assignment) (f : Fault) : Type 0 where

@@ -1,5 +1,9 @@
--- The constraints on parts of declarations, in words, and what the laws say of them.
+-- What declarations say and the constraints on their parts, in words, and what the laws say of them.
 pub mod Words
+pub mod TypeWords
+pub mod Types
+pub mod ConstantForms
+pub mod Declared
 pub mod Specifiers
 pub mod Heads
 pub mod Functions
@@ -7,11 +11,16 @@ pub mod Expressions
 pub mod Sizes
 pub mod Structures
 pub mod Objects
-pub mod Initialisers
 pub mod Blocks
+pub mod Addresses
+pub mod Items
+pub mod Initialisers
 pub mod Statements
 pub mod FileNames
+pub mod Linkages
+pub mod Mains
 pub mod Parts
 pub mod Places
 pub mod Units
 pub mod Laws
+pub mod Said

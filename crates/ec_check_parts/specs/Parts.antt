@@ -1,11 +1,10 @@
 -- The parts of units of which constraints speak, each with what is known where it stands, and what breaks a constraint there.
-use Rattle.std.specs.Prelude.{ℕ, ◌≡◌, Bool, true, Option, None, List}
+use Rattle.std.specs.Prelude.{ℕ, ◌≡◌, Bool, true, Option, List}
 use Rattle.ec_grammar.specs.Trees as t
 use Rattle.ec_core.specs.Plain.{PlainType}
 use Rattle.ec_check_operands.specs.declared.faults.Fault.{Fault}
-use Rattle.ec_check_names.specs.declared.linkage.Linkage.TheVariants.{External}
 use Rattle.ec_check_names.specs.declared.specifiers.StorageWord.{StorageWord}
-use Rattle.ec_check_names.specs.Definitions.{Definition, number_of}
+use Rattle.ec_check_names.specs.Definitions.{Definition}
 use Rattle.ec_check_names.specs.Tags.{Tags}
 use Rattle.ec_check_expressions.specs.Known.{Known}
 use Rattle.ec_check_file_scope.specs.FileNames.{FileName}
@@ -17,7 +16,8 @@ use Rattle.ec_check_parts.specs.Objects.{BreakObject}
 use Rattle.ec_check_parts.specs.Initialisers.{BreakInitialiser, BreakStatic}
 use Rattle.ec_check_parts.specs.Blocks.{BreakBlockSpecifiers, BreakBlockObject}
 use Rattle.ec_check_parts.specs.Statements.{BreakCondition, BreakEvaluation, BreakReturn, BreakLeaving}
-use Rattle.ec_check_parts.specs.FileNames.{main, BreakExtern, BreakName, BreakFunctionName, BreakSharing}
+use Rattle.ec_check_parts.specs.FileNames.{BreakExtern, BreakName, BreakFunctionName, BreakSharing}
+use Rattle.ec_check_parts.specs.Mains.{HasNoMain}
 
 -- `at` is the index of the token of a name, of a tag, of a word, or of the end of a unit
 pub data Part : Type 0 where
@@ -45,10 +45,6 @@ pub data Part : Type 0 where
   evaluation : Known → t.Expression → Part
   returned : Known → (result : Option PlainType) → Option t.Expression → (at : ℕ) → Part
   leaving : (in_loop : Bool) → (at : ℕ) → Part
-
--- no unit defines `main`
-abbrev pub HasNoMain : List Definition → Type 0
-HasNoMain ds = number_of main 0 External true ds ≡ None
 
 -- a fault of a part: the constraint with its number is broken there, and is told at its token
 abbrev pub Breaks : Part → Fault → Type 0

@@ -1,25 +1,25 @@
 -- Sizes of arrays, and the constraint on them, in words (ISO/IEC 9899:1999, 6.7.5.2; the greatest size is this project's
 -- profile).
-use Rattle.std.specs.Prelude.{ℕ, ◌+◌, ◌<◌, ◌≡◌, ⊤, true, false, Option, Some, None}
+use Rattle.std.specs.Prelude.{ℕ, ◌+◌, ◌<◌, ◌≡◌, ⊤, Option, Some, None}
 use Rattle.ec_grammar.specs.Trees as t
 use Rattle.ec_check_operands.specs.declared.faults.Fault.{Fault}
 use Rattle.ec_check_operands.specs.Operands.{Operand}
 use Rattle.ec_check_names.specs.Firsts.{first_conditional}
 use Rattle.ec_check_expressions.specs.Known.{Known}
-use Rattle.ec_check_initialisers.specs.Forms.{is_constant_conditional}
 use Rattle.ec_check_initialisers.specs.Locals.{items_count}
-use Rattle.ec_check_initialisers.specs.Sizes.{size_of_operand}
 use Rattle.ec_check_meanings.specs.Means.{Uses}
 use Rattle.ec_check_meanings.specs.Terms.{term_of_conditional}
+use Rattle.ec_check_parts.specs.ConstantForms.{IsConstantTerm}
+use Rattle.ec_check_parts.specs.Declared.{IsSize}
 use Rattle.ec_check_parts.specs.Expressions.{BreakUsed}
 
 -- a size, whose `[` is at a token; what is not built as a constant expression is not looked into further
 pub data BreakSize (k : Known) (c : t.Conditional) (at : ℕ) (f : Fault) : Type 0 where
-  no_form : f.rule ≡ 8 → f.at ≡ at → is_constant_conditional k c ≡ false → BreakSize k c at f
+  no_form : f.rule ≡ 8 → f.at ≡ at → ¬ IsConstantTerm k (term_of_conditional c) → BreakSize k c at f
   -- it is built so, and what it means is no integer from 1 to 32,767
-  no_size : f.rule ≡ 8 → f.at ≡ at → is_constant_conditional k c ≡ true → (x : Operand)
-      → Uses k (term_of_conditional c) x → size_of_operand x ≡ None → BreakSize k c at f
-  in_size : is_constant_conditional k c ≡ true → BreakUsed k (term_of_conditional c) (first_conditional c) f → BreakSize k c at f
+  no_size : f.rule ≡ 8 → f.at ≡ at → IsConstantTerm k (term_of_conditional c) → (x : Operand) → Uses k (term_of_conditional c) x
+      → ((n : ℕ) → ¬ IsSize x n) → BreakSize k c at f
+  in_size : IsConstantTerm k (term_of_conditional c) → BreakUsed k (term_of_conditional c) (first_conditional c) f → BreakSize k c at f
 
 -- the initialiser does not give the size that is left out: it has no braces, or too many items in them
 abbrev pub GivesNoSize : Option t.Start → Type 0

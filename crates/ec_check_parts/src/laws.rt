@@ -2,8 +2,12 @@
 ghost use Rattle.ec_check_parts.specs.Laws.{SpecifiersAreJudged, HeadsAreJudged, FunctionsAreJudged, ObjectsAreJudged};
 ghost use Rattle.ec_check_parts.specs.Laws.{StructuresAreJudged, InitialisersAreJudged, BlocksAreJudged};
 ghost use Rattle.ec_check_parts.specs.Laws.{StatementsAreJudged, FileNamesAreJudged, BodiesAreJudged, FileScopeIsJudged};
+ghost use Rattle.ec_check_parts.specs.Linkages.{LinkagesAreFound};
+ghost use Rattle.ec_check_parts.specs.Mains.{MainsAreFound};
+ghost use Rattle.ec_check_parts.specs.Said.{ConstantsAreTold, ItemsHaveValues, TypesAreSaid, DeclaratorsAreSaid, StructsAreDeclared};
 
 use ec_check_file_scope::conflicts_are_told;
+use ec_check_least::the_least_is_told;
 use ec_check_meanings::{constraints_are_told, sites_are_judged, walk_gives_meanings};
 use ec_check_names::blocks_end;
 use ec_core::types_are_told;
@@ -30,6 +34,7 @@ pub fn functions_are_judged()
 pub fn structures_are_judged()
     ensures { StructuresAreJudged }
 {
+    the_least_is_told();
     types_are_told();
     walk_gives_meanings();
     sites_are_judged();
@@ -109,3 +114,59 @@ pub fn file_scope_is_judged()
     initialisers_are_judged();
     file_names_are_judged();
 }
+
+/// What is looked into as a constant expression, of a size or of a static initialiser, is built as one (ISO/IEC 9899:1999,
+/// 6.6).
+pub fn constants_are_told()
+    ensures { ConstantsAreTold }
+{
+    walk_gives_meanings();
+}
+
+/// Which items are address constants, what an item of an initialiser means in its place, and the initial value that it gives a
+/// static object: a number, the null pointer or an address (ISO/IEC 9899:1999, 6.6 and 6.7.8).
+pub fn items_have_values()
+    ensures { ItemsHaveValues }
+{
+    types_are_told();
+    walk_gives_meanings();
+    sites_are_judged();
+    constraints_are_told();
+}
+
+/// The type that specifiers name, and the one that they say with stars before a name (ISO/IEC 9899:1999, 6.7.2 and 6.7.5.1).
+pub fn types_are_said()
+    ensures { TypesAreSaid }
+{}
+
+/// What declarators of objects, of parameters and of functions declare, and objects in named registers (ISO/IEC 9899:1999,
+/// 6.7.5; ISO/IEC TR 18037:2008, 5.2.2).
+pub fn declarators_are_said()
+    ensures { DeclaratorsAreSaid }
+{
+    types_are_told();
+    walk_gives_meanings();
+    sites_are_judged();
+    constraints_are_told();
+}
+
+/// The linkage of a declaration at file scope is that of ISO/IEC 9899:1999, 6.2.2.
+pub fn linkages_are_found()
+    ensures { LinkagesAreFound }
+{}
+
+/// The struct that a definition declares (ISO/IEC 9899:1999, 6.7.2.1).
+pub fn structs_are_declared()
+    ensures { StructsAreDeclared }
+{
+    the_least_is_told();
+    types_are_told();
+    walk_gives_meanings();
+    sites_are_judged();
+    constraints_are_told();
+}
+
+/// The function that a program begins with is the first one of the name `main` that is defined for all units.
+pub fn mains_are_found()
+    ensures { MainsAreFound }
+{}

@@ -1,6 +1,6 @@
 -- The definitions of all units are those of the declarators that define.
-use Rattle.std.proofs.Common.{◌≡◌, ◌∙◌, ◌+◌, ℕ, Bool, true, false, ◌&&◌, ◌||◌, List, [], ◌∷◌, ◌++◌, refl, sym, ap, subst, inl, inr}
-use Rattle.std.specs.Prelude.{◌⊎◌, option_map, Option, Some, None}
+use Rattle.std.proofs.Common.{◌≡◌, ◌∙◌, ◌+◌, ℕ, Bool, true, false, ◌&&◌, List, [], ◌∷◌, refl, sym, ap, subst}
+use Rattle.std.specs.Prelude.{option_map, Option, Some, None}
 use Rattle.std.specs.Bool.{Decides}
 use Rattle.std.specs.Str.{bytes_eq}
 use Rattle.std.proofs.lemmas.Bool.{false≢true}
@@ -22,8 +22,8 @@ use Rattle.ec_check_names.specs.Definitions.{Definition, Numbering, nothing_numb
 use Rattle.ec_check_names.specs.Definitions.{registered_as}
 use Rattle.ec_check_names.specs.Specifiers.{storage_word, no_storage, first_storage, with_storage, storages_from}
 use Rattle.ec_check_tokens.specs.Definers.{Definer, first_word, word_of, unless_extern, in_declarator, in_declarators}
-use Rattle.ec_check_tokens.specs.Definers.{in_external, in_externals, in_unit}
-use Rattle.ec_check_tokens.specs.Definers.{definers_from, IsRegister, IsDefinition, Define, done, again, defined, DefinersDefine}
+use Rattle.ec_check_tokens.specs.Definers.{in_external, in_externals}
+use Rattle.ec_check_tokens.specs.Definers.{definers_from, IsRegister, Define, done, again, defined, DefinersDefine}
 
 -- ---- storage words
 
@@ -75,10 +75,10 @@ word_is (t.specs first more) = words_found no_storage (first ∷ more)
 
 module _ (all : List Definition) where
   -- behind what is defined so far these give the others
-  abbrev Give : Numbering → List Definer → Type 0
+  abbrev Give : Numbering → List (Definer Defined) → Type 0
   Give s ds = Define all s.definitions ds
 
-  object_gives : (unit at : ℕ) (word : Option StorageWord) (n : List ℕ) (l : Linkage) (s : Numbering) (ds : List Definer)
+  object_gives : (unit at : ℕ) (word : Option StorageWord) (n : List ℕ) (l : Linkage) (s : Numbering) (ds : List (Definer Defined))
       → Give (declared_as (is_defined word false) unit n l s) ds
       → Give s (unless_extern word (record { unit = unit; at = at; name = n; kind = Object }) ds)
   object_gives unit at None n l s ds h = defined _ (λ e. absurd (no_register e)) (record { name = refl; unit = refl; kind = refl }) h
@@ -92,7 +92,7 @@ module _ (all : List Definition) where
       no_register e = cc
   object_gives unit at (Some Extern) n l s ds h = h
 
-  declarator_gives : (unit : ℕ) (word : Option StorageWord) (d : t.InitDeclarator) (s : Numbering) (ds : List Definer)
+  declarator_gives : (unit : ℕ) (word : Option StorageWord) (d : t.InitDeclarator) (s : Numbering) (ds : List (Definer Defined))
       → Give (number.numbered_declarator unit word d s) ds → Give s (in_declarator unit word d ds)
   declarator_gives unit word (t.init_declarator (t.declarator stars (t.identifier at n) (t.function_shape l ps r)) start) s ds h = h
   declarator_gives unit word (t.init_declarator (t.declarator stars (t.identifier at n) t.object) start) s ds h =
@@ -100,14 +100,14 @@ module _ (all : List Definition) where
   declarator_gives unit word (t.init_declarator (t.declarator stars (t.identifier at n) (t.array l c r)) start) s ds h =
       object_gives unit at.index word n (number.link_in word false n s) s ds h
 
-  declarators_give : (unit : ℕ) (word : Option StorageWord) (xs : List t.NextInitDeclarator) (s : Numbering) (ds : List Definer)
+  declarators_give : (unit : ℕ) (word : Option StorageWord) (xs : List t.NextInitDeclarator) (s : Numbering) (ds : List (Definer Defined))
       → Give (number.numbered_more unit word xs s) ds → Give s (in_declarators unit word xs ds)
   declarators_give unit word [] s ds h = h
   declarators_give unit word (t.next_init_declarator comma d ∷ xs) s ds h =
       declarator_gives unit word d s (in_declarators unit word xs ds)
       (declarators_give unit word xs (number.numbered_declarator unit word d s) ds h)
 
-  declaration_gives : (unit : ℕ) (d : t.Declaration) (s : Numbering) (ds : List Definer)
+  declaration_gives : (unit : ℕ) (d : t.Declaration) (s : Numbering) (ds : List (Definer Defined))
       → Give (number.numbered_declaration unit d s) ds → Give s (in_external unit (t.declaration_item d) ds)
   declaration_gives unit (t.declaration ss first more e) s ds h =
       subst (λ (word : Option StorageWord). Give s (in_declarator unit word first (in_declarators unit word more ds))) (word_is ss)
@@ -127,7 +127,7 @@ module _ (all : List Definition) where
       Decides-or (number.is_register e.kind && bytes_eq e.name n) (is_registered n es)
       (Decides-and (number.is_register e.kind) (bytes_eq e.name n) (kind_told e.kind) (bytes_eq-Decides e.name n)) (register_told n es)
 
-  register_gives : (unit at : ℕ) (n : List ℕ) (s : Numbering) (ds : List Definer) (b : Bool) → Decides b (IsRegister n s.definitions)
+  register_gives : (unit at : ℕ) (n : List ℕ) (s : Numbering) (ds : List (Definer Defined)) (b : Bool) → Decides b (IsRegister n s.definitions)
       → Give (registered_as b unit n s) ds → Give s (record { unit = unit; at = at; name = n; kind = Register } ∷ ds)
   register_gives unit at n s ds true d h = again refl (d.0 refl) h
   register_gives unit at n s ds false d h =
@@ -135,7 +135,7 @@ module _ (all : List Definition) where
 
   -- ---- units
 
-  external_gives : (unit : ℕ) (x : t.External) (s : Numbering) (ds : List Definer) → Give (number.numbered_external unit x s) ds
+  external_gives : (unit : ℕ) (x : t.External) (s : Numbering) (ds : List (Definer Defined)) → Give (number.numbered_external unit x s) ds
       → Give s (in_external unit x ds)
   external_gives unit (t.pragma_item p) s ds h = h
   external_gives unit (t.structure_item d) s ds h = h
@@ -148,7 +148,7 @@ module _ (all : List Definition) where
       no_register : ◌≡◌ {A = Defined} Function Register → ⊥
       no_register e = cc
 
-  externals_give : (unit : ℕ) (xs : List t.External) (s : Numbering) (ds : List Definer) → Give (number.numbered_externals unit xs s) ds
+  externals_give : (unit : ℕ) (xs : List t.External) (s : Numbering) (ds : List (Definer Defined)) → Give (number.numbered_externals unit xs s) ds
       → Give s (in_externals unit xs ds)
   externals_give unit [] s ds h = h
   externals_give unit (x ∷ xs) s ds h =

@@ -1,18 +1,16 @@
 -- The functions of a program stand in the order of their definitions.
-use Rattle.std.proofs.Common.{◌≡◌, ◌∙◌, ◌+◌, ℕ, Bool, true, false, not, ◌&&◌, List, [], ◌∷◌, ◌++◌, length, refl, sym, ap, subst}
+use Rattle.std.proofs.Common.{◌≡◌, ◌+◌, ℕ, Bool, true, false, ◌&&◌, List, [], ◌∷◌, ◌++◌, length, refl, sym, ap, subst}
 use Rattle.std.specs.Prelude.{Option, Some, None, if◌then◌else◌, nat_le}
 use Rattle.std.proofs.lemmas.Bool.{false≢true}
 use Rattle.ec_grammar.specs.Trees as t
 use Rattle.ec_iohw.specs.declared.table.IoTable.{IoTable}
-use Rattle.ec_core.specs.Plain.{PlainType, PlainStmt, PlainFunction, PlainProgram}
+use Rattle.ec_core.specs.Plain.{PlainType, PlainStruct, PlainStmt, PlainFunction, PlainProgram}
 use Rattle.ec_check_names.specs.declared.numbering.Defined.{Defined}
 use Rattle.ec_check_names.specs.declared.numbering.Defined.TheVariants.{Object, Register, Function}
 use Rattle.ec_check_names.specs.declared.specifiers.StorageWord.{StorageWord}
 use Rattle.ec_check_names.specs.declared.specifiers.StorageWord.TheVariants.{Extern, Static}
 use Rattle.ec_check_names.specs.Definitions.{Definition, definitions}
 use Rattle.ec_check_statements.specs.Statements.{body_of, after_body}
-use Rattle.ec_check_file_scope.specs.FileScope.{after_declaration, after_structure}
-use Rattle.ec_check_file_scope.specs.FileObjects.{after_register}
 use Rattle.ec_check_file_scope.specs.States.{Setting, State, context_of, with_scope, broken, nothing_declared}
 use Rattle.ec_check_file_scope.specs.States as states
 use Rattle.ec_check.specs.Laws.{ProgramsAreTyped}
@@ -51,16 +49,16 @@ made_named unit n (Some returns) (Some params) (Some body) f e =
 
 module _ (all : List PlainFunction) where
   -- behind the functions so far these give the others
-  abbrev Give : State → List Definer → Type 0
+  abbrev Give : State → List (Definer Defined) → Type 0
   Give s ds = Make all s.functions ds
 
-  object_passed : (word : Option StorageWord) (unit at : ℕ) (n : List ℕ) (fs : List PlainFunction) (ds : List Definer)
+  object_passed : (word : Option StorageWord) (unit at : ℕ) (n : List ℕ) (fs : List PlainFunction) (ds : List (Definer Defined))
       → Make all fs ds → Make all fs (unless_extern word (record { unit = unit; at = at; name = n; kind = Object }) ds)
   object_passed None unit at n fs ds h = other no_object h
   object_passed (Some Static) unit at n fs ds h = other no_object h
   object_passed (Some Extern) unit at n fs ds h = h
 
-  declarator_passed : (word : Option StorageWord) (unit : ℕ) (d : t.InitDeclarator) (fs : List PlainFunction) (ds : List Definer)
+  declarator_passed : (word : Option StorageWord) (unit : ℕ) (d : t.InitDeclarator) (fs : List PlainFunction) (ds : List (Definer Defined))
       → Make all fs ds → Make all fs (in_declarator unit word d ds)
   declarator_passed word unit (t.init_declarator (t.declarator stars (t.identifier at n) (t.function_shape l ps r)) i) fs ds h = h
   declarator_passed word unit (t.init_declarator (t.declarator stars (t.identifier at n) t.object) i) fs ds h =
@@ -68,7 +66,7 @@ module _ (all : List PlainFunction) where
   declarator_passed word unit (t.init_declarator (t.declarator stars (t.identifier at n) (t.array l c r)) i) fs ds h =
       object_passed word unit at.index n fs ds h
 
-  declarators_passed : (word : Option StorageWord) (unit : ℕ) (xs : List t.NextInitDeclarator) (fs : List PlainFunction) (ds : List Definer)
+  declarators_passed : (word : Option StorageWord) (unit : ℕ) (xs : List t.NextInitDeclarator) (fs : List PlainFunction) (ds : List (Definer Defined))
       → Make all fs ds → Make all fs (in_declarators unit word xs ds)
   declarators_passed word unit [] fs ds h = h
   declarators_passed word unit (t.next_init_declarator at d ∷ xs) fs ds h =
@@ -76,7 +74,7 @@ module _ (all : List PlainFunction) where
 
   -- ---- definitions of functions
 
-  function_gives : (unit at : ℕ) (n : List ℕ) (o : Option PlainFunction) (s : State) (ds : List Definer)
+  function_gives : (unit at : ℕ) (n : List ℕ) (o : Option PlainFunction) (s : State) (ds : List (Definer Defined))
       → ((f : PlainFunction) → o ≡ Some f → (f.name ≡ n) × (f.unit ≡ unit)) → (with_function o s).whole ≡ true
       → Give (with_function o s) ds → (s.whole ≡ true) × Give s (record { unit = unit; at = at; name = n; kind = Function } ∷ ds)
   function_gives unit at n None s ds own w h = absurd (false≢true w)
@@ -88,7 +86,7 @@ module _ (all : List PlainFunction) where
       by true w h = (w, function f refl (own f refl).0 (own f refl).1 h)
       by false w h = absurd (false≢true w)
 
-  definition_gives : (r : Setting) (x : t.Function) (s : State) (ds : List Definer) → (after_definition r x s).whole ≡ true
+  definition_gives : (r : Setting) (x : t.Function) (s : State) (ds : List (Definer Defined)) → (after_definition r x s).whole ≡ true
       → Give (after_definition r x s) ds → (s.whole ≡ true) × Give s (in_external r.unit (t.function_item x) ds)
   definition_gives r (t.function ty (t.identifier at n) l ps e b) s ds w h =
       let d = definition_declared (t.function ty (t.identifier at n) l ps e b) s in
@@ -100,11 +98,11 @@ module _ (all : List PlainFunction) where
 
   -- ---- units
 
-  like : (s z : State) (ds es : List Definer) → Leaves s z → z.whole ≡ true → (Make all s.functions ds → Make all s.functions es)
+  like : (s z : State) (ds es : List (Definer Defined)) → Leaves s z → z.whole ≡ true → (Make all s.functions ds → Make all s.functions es)
       → Give z ds → (s.whole ≡ true) × Give s es
   like s z ds es l w go h = (l.whole w, go (subst (λ (fs : List PlainFunction). Make all fs ds) l.functions h))
 
-  external_gives : (r : Setting) (x : t.External) (s : State) (ds : List Definer) → (after_external r x s).whole ≡ true
+  external_gives : (r : Setting) (x : t.External) (s : State) (ds : List (Definer Defined)) → (after_external r x s).whole ≡ true
       → Give (after_external r x s) ds → (s.whole ≡ true) × Give s (in_external r.unit x ds)
   external_gives r (t.pragma_item p) s ds w h = (w, h)
   external_gives r (t.structure_item d) s ds w h = like s _ ds ds (structure_leaves r d s) w (λ z. z) h
@@ -115,7 +113,7 @@ module _ (all : List PlainFunction) where
       (λ z. declarator_passed (word_of ss) r.unit first s.functions _ (declarators_passed (word_of ss) r.unit more s.functions ds z)) h
   external_gives r (t.function_item x) s ds w h = definition_gives r x s ds w h
 
-  externals_give : (r : Setting) (xs : List t.External) (s : State) (ds : List Definer) → (after_externals r xs s).whole ≡ true
+  externals_give : (r : Setting) (xs : List t.External) (s : State) (ds : List (Definer Defined)) → (after_externals r xs s).whole ≡ true
       → Give (after_externals r xs s) ds → (s.whole ≡ true) × Give s (in_externals r.unit xs ds)
   externals_give r [] s ds w h = (w, h)
   externals_give r (x ∷ xs) s ds w h =
@@ -133,10 +131,14 @@ functions_of : Option PlainProgram → List PlainFunction
 functions_of None = []
 functions_of (Some p) = p.functions
 
--- a program is made where all has a meaning, and has these functions
-program_has : (main : Option ℕ) (z : State) (p : PlainProgram) → program_by main z ≡ Some p
-    → (z.whole ≡ true) × (z.functions ≡ p.functions)
-unfolding functions_of
+-- a program is made where all has a meaning, and has these functions and structs
+structs_of : Option PlainProgram → List PlainStruct
+structs_of None = []
+structs_of (Some p) = p.structs
+
+pub program_has : (main : Option ℕ) (z : State) (p : PlainProgram) → program_by main z ≡ Some p
+    → (z.whole ≡ true) × (z.functions ≡ p.functions) × (z.structs ≡ p.structs)
+unfolding functions_of structs_of
 program_has None z p e = absurd (nothing e)
   where
     nothing : ◌≡◌ {A = Option PlainProgram} None (Some p) → ⊥
@@ -145,8 +147,8 @@ program_has (Some main) z p e = by z.whole (nat_le (length z.functions) 65_536) 
   where
     by : (a b : Bool) → z.whole ≡ a
         → (if a && b then Some (record { structs = z.structs; objects = z.scope.objects; functions = z.functions; main = main }) else None)
-        ≡ Some p → (z.whole ≡ true) × (z.functions ≡ p.functions)
-    by true true w e = (w, ap functions_of e)
+        ≡ Some p → (z.whole ≡ true) × (z.functions ≡ p.functions) × (z.structs ≡ p.structs)
+    by true true w e = (w, ap functions_of e, ap structs_of e)
     by true false w e = absurd (nothing e)
       where
         nothing : ◌≡◌ {A = Option PlainProgram} None (Some p) → ⊥

@@ -7,10 +7,9 @@ mod Outside
 mod Values
 mod Bodies
 mod Programs
-mod Linkages
-mod ConstantForms
-mod Items
 mod Definers
 mod Order
 mod Functions
+mod Objects
+mod Structs
 mod Samples

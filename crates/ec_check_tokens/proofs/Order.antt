@@ -1,6 +1,6 @@
 -- The names of the declarators that define stand among the tokens of their unit, in order, and so at tokens that rise.
 use Rattle.std.proofs.Common.{◌≡◌, ◌≤◌, ◌∙◌, ℕ, suc, List, [], ◌∷◌, refl, sym, ap, subst, arith}
-use Rattle.std.specs.Prelude.{Option, Some, None, ⊤}
+use Rattle.std.specs.Prelude.{Option, Some, None}
 use Rattle.ec_grammar.specs.declared.Pragma.{Pragma}
 use Rattle.ec_grammar.specs.declared.Qualifier.{Qualifier}
 use Rattle.ec_grammar.specs.declared.Spot.{Spot}
@@ -20,41 +20,41 @@ use Rattle.ec_check_tokens.specs.Definers.{StandInOrder, ended, passed, named, R
 
 -- ---- what stands among tokens stands among more of them
 
-module _ (ds : List Definer) where
+module _ {K : Type 0} (ds : List (Definer K)) where
   abbrev In : List Leaf → Type 0
   In ls = StandInOrder ds ls
 
-  each : {A : Type 0} (of : A → List Leaf → List Leaf) → ((x : A) (rest : List Leaf) → In rest → In (of x rest)) → (xs : List A)
+  pub each : {A : Type 0} (of : A → List Leaf → List Leaf) → ((x : A) (rest : List Leaf) → In rest → In (of x rest)) → (xs : List A)
       → (rest : List Leaf) → In rest → In (s.of_list of xs rest)
   each of go [] rest h = h
   each of go (x ∷ xs) rest h = go x _ (each of go xs rest h)
 
-  maybe : {A : Type 0} (of : A → List Leaf → List Leaf) → ((x : A) (rest : List Leaf) → In rest → In (of x rest)) → (x : Option A)
+  pub maybe : {A : Type 0} (of : A → List Leaf → List Leaf) → ((x : A) (rest : List Leaf) → In rest → In (of x rest)) → (x : Option A)
       → (rest : List Leaf) → In rest → In (s.of_option of x rest)
   maybe of go None rest h = h
   maybe of go (Some x) rest h = go x rest h
 
-  name : (x : t.Identifier) (rest : List Leaf) → In rest → In (s.of_identifier x rest)
+  pub name : (x : t.Identifier) (rest : List Leaf) → In rest → In (s.of_identifier x rest)
   name (t.identifier at n) rest h = passed h
 
-  qualifier : (x : Qualifier) (rest : List Leaf) → In rest → In (s.of_qualifier x rest)
+  pub qualifier : (x : Qualifier) (rest : List Leaf) → In rest → In (s.of_qualifier x rest)
   qualifier x rest h = passed h
 
-  star : (x : t.Star) (rest : List Leaf) → In rest → In (s.of_star x rest)
+  pub star : (x : t.Star) (rest : List Leaf) → In rest → In (s.of_star x rest)
   star (t.star at qs) rest h = passed (each s.of_qualifier qualifier qs rest h)
 
-  spec : (x : t.Spec) (rest : List Leaf) → In rest → In (s.of_spec x rest)
+  pub spec : (x : t.Spec) (rest : List Leaf) → In rest → In (s.of_spec x rest)
   spec (t.word_spec at w) rest h = passed h
   spec (t.struct_spec at tag) rest h = passed (name tag rest h)
 
   pub specs : (x : t.Specs) (rest : List Leaf) → In rest → In (s.of_specs x rest)
   specs (t.specs first more) rest h = spec first _ (each s.of_spec spec more rest h)
 
-  type_name : (x : t.TypeName) (rest : List Leaf) → In rest → In (s.of_type_name x rest)
+  pub type_name : (x : t.TypeName) (rest : List Leaf) → In rest → In (s.of_type_name x rest)
   type_name (t.type_name ss stars) rest h = specs ss _ (each s.of_star star stars rest h)
 
   mutual
-    expression : (x : t.Expression) (rest : List Leaf) → In rest → In (s.of_expression x rest)
+    pub expression : (x : t.Expression) (rest : List Leaf) → In rest → In (s.of_expression x rest)
     expression (t.single a) rest h = assignment a rest h
     expression (t.comma e at a) rest h = expression e _ (passed (assignment a rest h))
 
@@ -62,7 +62,7 @@ module _ (ds : List Definer) where
     assignment (t.value c) rest h = conditional c rest h
     assignment (t.assign u at op a) rest h = unary u _ (passed (assignment a rest h))
 
-    conditional : (x : t.Conditional) (rest : List Leaf) → In rest → In (s.of_conditional x rest)
+    pub conditional : (x : t.Conditional) (rest : List Leaf) → In rest → In (s.of_conditional x rest)
     conditional (t.plain b) rest h = binary b rest h
     conditional (t.choose b q e k c) rest h = binary b _ (passed (expression e _ (passed (conditional c rest h))))
 
@@ -101,25 +101,25 @@ module _ (ds : List Definer) where
     primary (t.parenthesised l e r) rest h = passed (expression e _ (passed h))
     primary (t.operation at op l n more r) rest h = passed (passed (name n _ (further more _ (passed h))))
 
-  param : (x : t.Param) (rest : List Leaf) → In rest → In (s.of_param x rest)
+  pub param : (x : t.Param) (rest : List Leaf) → In rest → In (s.of_param x rest)
   param (t.param ty n) rest h = type_name ty _ (maybe s.of_identifier name n rest h)
 
   next_param : (x : t.NextParam) (rest : List Leaf) → In rest → In (s.of_next_param x rest)
   next_param (t.next_param at p) rest h = passed (param p rest h)
 
-  params : (x : t.Params) (rest : List Leaf) → In rest → In (s.of_params x rest)
+  pub params : (x : t.Params) (rest : List Leaf) → In rest → In (s.of_params x rest)
   params (t.void_params at) rest h = passed h
   params (t.params p more) rest h = param p _ (each s.of_next_param next_param more rest h)
 
-  shape : (x : t.Shape) (rest : List Leaf) → In rest → In (s.of_shape x rest)
+  pub shape : (x : t.Shape) (rest : List Leaf) → In rest → In (s.of_shape x rest)
   shape t.object rest h = h
   shape (t.array l c r) rest h = passed (maybe s.of_conditional conditional c _ (passed h))
   shape (t.function_shape l ps r) rest h = passed (params ps _ (passed h))
 
-  declarator : (x : t.Declarator) (rest : List Leaf) → In rest → In (s.of_declarator x rest)
+  pub declarator : (x : t.Declarator) (rest : List Leaf) → In rest → In (s.of_declarator x rest)
   declarator (t.declarator stars n f) rest h = each s.of_star star stars _ (name n _ (shape f rest h))
 
-  comma : (x : Spot) (rest : List Leaf) → In rest → In (s.of_comma x rest)
+  pub comma : (x : Spot) (rest : List Leaf) → In rest → In (s.of_comma x rest)
   comma x rest h = passed h
 
   mutual
@@ -132,57 +132,57 @@ module _ (ds : List Definer) where
     initialisers t.no_initialisers rest h = h
     initialisers (t.initialisers at i more) rest h = passed (initialiser i _ (initialisers more rest h))
 
-  start : (x : t.Start) (rest : List Leaf) → In rest → In (s.of_start x rest)
+  pub start : (x : t.Start) (rest : List Leaf) → In rest → In (s.of_start x rest)
   start (t.start at i) rest h = passed (initialiser i rest h)
 
-  init_declarator : (x : t.InitDeclarator) (rest : List Leaf) → In rest → In (s.of_init_declarator x rest)
+  pub init_declarator : (x : t.InitDeclarator) (rest : List Leaf) → In rest → In (s.of_init_declarator x rest)
   init_declarator (t.init_declarator d i) rest h = declarator d _ (maybe s.of_start start i rest h)
 
   next_init_declarator : (x : t.NextInitDeclarator) (rest : List Leaf) → In rest → In (s.of_next_init_declarator x rest)
   next_init_declarator (t.next_init_declarator at d) rest h = passed (init_declarator d rest h)
 
-  declaration : (x : t.Declaration) (rest : List Leaf) → In rest → In (s.of_declaration x rest)
+  pub declaration : (x : t.Declaration) (rest : List Leaf) → In rest → In (s.of_declaration x rest)
   declaration (t.declaration ss d more e) rest h =
       specs ss _ (init_declarator d _ (each s.of_next_init_declarator next_init_declarator more _ (passed h)))
 
-  next_declarator : (x : t.NextDeclarator) (rest : List Leaf) → In rest → In (s.of_next_declarator x rest)
+  pub next_declarator : (x : t.NextDeclarator) (rest : List Leaf) → In rest → In (s.of_next_declarator x rest)
   next_declarator (t.next_declarator at d) rest h = passed (declarator d rest h)
 
-  member : (x : t.Member) (rest : List Leaf) → In rest → In (s.of_member x rest)
+  pub member : (x : t.Member) (rest : List Leaf) → In rest → In (s.of_member x rest)
   member (t.members ss d more e) rest h =
       specs ss _ (declarator d _ (each s.of_next_declarator next_declarator more _ (passed h)))
 
-  structure : (x : t.Structure) (rest : List Leaf) → In rest → In (s.of_structure x rest)
+  pub structure : (x : t.Structure) (rest : List Leaf) → In rest → In (s.of_structure x rest)
   structure (t.structure at tag l m more r e) rest h =
       passed (name tag _ (passed (member m _ (each s.of_member member more _ (passed (passed h))))))
 
-  pragma : (x : Pragma) (rest : List Leaf) → In rest → In (s.of_pragma x rest)
+  pub pragma : (x : Pragma) (rest : List Leaf) → In rest → In (s.of_pragma x rest)
   pragma x rest h = passed h
 
-  condition : (x : t.Condition) (rest : List Leaf) → In rest → In (s.of_condition x rest)
+  pub condition : (x : t.Condition) (rest : List Leaf) → In rest → In (s.of_condition x rest)
   condition (t.condition l e r) rest h = passed (expression e _ (passed h))
 
-  first : (x : t.First) (rest : List Leaf) → In rest → In (s.of_first x rest)
+  pub first : (x : t.First) (rest : List Leaf) → In rest → In (s.of_first x rest)
   first (t.first_declared d) rest h = declaration d rest h
   first (t.first_evaluated e at) rest h = maybe s.of_expression expression e _ (passed h)
 
-  heading : (x : t.Heading) (rest : List Leaf) → In rest → In (s.of_heading x rest)
+  pub heading : (x : t.Heading) (rest : List Leaf) → In rest → In (s.of_heading x rest)
   heading (t.heading l f c at e r) rest h =
       passed (first f _ (maybe s.of_expression expression c _ (passed (maybe s.of_expression expression e _ (passed h)))))
 
   mutual
-    compound : (x : t.Compound) (rest : List Leaf) → In rest → In (s.of_compound x rest)
+    pub compound : (x : t.Compound) (rest : List Leaf) → In rest → In (s.of_compound x rest)
     compound (t.compound l ps b r) rest h = passed (each s.of_pragma pragma ps _ (items b _ (passed h)))
 
-    items : (x : t.Items) (rest : List Leaf) → In rest → In (s.of_items x rest)
+    pub items : (x : t.Items) (rest : List Leaf) → In rest → In (s.of_items x rest)
     items t.no_items rest h = h
     items (t.items i more) rest h = item i _ (items more rest h)
 
-    item : (x : t.Item) (rest : List Leaf) → In rest → In (s.of_item x rest)
+    pub item : (x : t.Item) (rest : List Leaf) → In rest → In (s.of_item x rest)
     item (t.declared d) rest h = declaration d rest h
     item (t.stated x) rest h = statement x rest h
 
-    statement : (x : t.Statement) (rest : List Leaf) → In rest → In (s.of_statement x rest)
+    pub statement : (x : t.Statement) (rest : List Leaf) → In rest → In (s.of_statement x rest)
     statement (t.block c) rest h = compound c rest h
     statement (t.simple e at) rest h = maybe s.of_expression expression e _ (passed h)
     statement (t.if_then at c b) rest h = passed (condition c _ (statement b rest h))
@@ -194,22 +194,28 @@ module _ (ds : List Definer) where
     statement (t.continue_loop at e) rest h = passed (passed h)
     statement (t.return_value at v e) rest h = passed (maybe s.of_expression expression v _ (passed h))
 
+  pub register_object : (x : t.RegisterObject) (rest : List Leaf) → In rest → In (s.of_register_object x rest)
+  register_object (t.register_object at register ss n e) rest h = passed (name register _ (specs ss _ (name n _ (passed h))))
+
+  pub function : (x : t.Function) (rest : List Leaf) → In rest → In (s.of_function x rest)
+  function (t.function ty n l ps r b) rest h = type_name ty _ (name n _ (passed (params ps _ (passed (compound b rest h)))))
+
 -- ---- declarators that define
 
 object_in : (unit : ℕ) (word : Option StorageWord) (stars : List t.Star) (at : Spot) (n : List ℕ) (f : t.Shape) (i : Option t.Start)
-    (ds : List Definer) (rest : List Leaf) → StandInOrder ds rest
+    (ds : List (Definer Defined)) (rest : List Leaf) → StandInOrder ds rest
     → StandInOrder (unless_extern word (record { unit = unit; at = at.index; name = n; kind = Object }) ds)
     (s.of_init_declarator (t.init_declarator (t.declarator stars (t.identifier at n) f) i) rest)
 object_in unit None stars at n f i ds rest h =
-    let d : Definer = record { unit = unit; at = at.index; name = n; kind = Object } in
+    let d : Definer Defined = record { unit = unit; at = at.index; name = n; kind = Object } in
     each (d ∷ ds) s.of_star (star (d ∷ ds)) stars _ (named refl refl (shape ds f _ (maybe ds s.of_start (start ds) i rest h)))
 object_in unit (Some Static) stars at n f i ds rest h =
-    let d : Definer = record { unit = unit; at = at.index; name = n; kind = Object } in
+    let d : Definer Defined = record { unit = unit; at = at.index; name = n; kind = Object } in
     each (d ∷ ds) s.of_star (star (d ∷ ds)) stars _ (named refl refl (shape ds f _ (maybe ds s.of_start (start ds) i rest h)))
 object_in unit (Some Extern) stars at n f i ds rest h =
     init_declarator ds (t.init_declarator (t.declarator stars (t.identifier at n) f) i) rest h
 
-declarator_in : (unit : ℕ) (word : Option StorageWord) (d : t.InitDeclarator) (ds : List Definer) (rest : List Leaf) → StandInOrder ds rest
+declarator_in : (unit : ℕ) (word : Option StorageWord) (d : t.InitDeclarator) (ds : List (Definer Defined)) (rest : List Leaf) → StandInOrder ds rest
     → StandInOrder (in_declarator unit word d ds) (s.of_init_declarator d rest)
 declarator_in unit word (t.init_declarator (t.declarator stars (t.identifier at n) (t.function_shape l ps r)) i) ds rest h =
     init_declarator ds (t.init_declarator (t.declarator stars (t.identifier at n) (t.function_shape l ps r)) i) rest h
@@ -218,13 +224,13 @@ declarator_in unit word (t.init_declarator (t.declarator stars (t.identifier at 
 declarator_in unit word (t.init_declarator (t.declarator stars (t.identifier at n) (t.array l c r)) i) ds rest h =
     object_in unit word stars at n (t.array l c r) i ds rest h
 
-declarators_in : (unit : ℕ) (word : Option StorageWord) (xs : List t.NextInitDeclarator) (ds : List Definer) (rest : List Leaf)
+declarators_in : (unit : ℕ) (word : Option StorageWord) (xs : List t.NextInitDeclarator) (ds : List (Definer Defined)) (rest : List Leaf)
     → StandInOrder ds rest → StandInOrder (in_declarators unit word xs ds) (s.of_list s.of_next_init_declarator xs rest)
 declarators_in unit word [] ds rest h = h
 declarators_in unit word (t.next_init_declarator at d ∷ xs) ds rest h =
     passed (declarator_in unit word d _ _ (declarators_in unit word xs ds rest h))
 
-external_in : (unit : ℕ) (x : t.External) (ds : List Definer) (rest : List Leaf) → StandInOrder ds rest
+external_in : (unit : ℕ) (x : t.External) (ds : List (Definer Defined)) (rest : List Leaf) → StandInOrder ds rest
     → StandInOrder (in_external unit x ds) (s.of_external x rest)
 external_in unit (t.pragma_item p) ds rest h = passed h
 external_in unit (t.structure_item d) ds rest h = structure ds d rest h
@@ -235,7 +241,7 @@ external_in unit (t.declaration_item (t.declaration ss d more e)) ds rest h =
 external_in unit (t.function_item (t.function ty (t.identifier at n) l ps r b)) ds rest h =
     type_name _ ty _ (named refl refl (passed (params ds ps _ (passed (compound ds b rest h)))))
 
-externals_in : (unit : ℕ) (xs : List t.External) (ds : List Definer) (rest : List Leaf) → StandInOrder ds rest
+externals_in : (unit : ℕ) (xs : List t.External) (ds : List (Definer Defined)) (rest : List Leaf) → StandInOrder ds rest
     → StandInOrder (in_externals unit xs ds) (s.of_list s.of_external xs rest)
 externals_in unit [] ds rest h = h
 externals_in unit (x ∷ xs) ds rest h = external_in unit x _ _ (externals_in unit xs ds rest h)
@@ -248,11 +254,11 @@ unit_in unit (t.tree xs e) = externals_in unit xs [] (s.leaf e tokens.end ∷ []
 index_of : Leaf → ℕ
 index_of l = l.spot.index
 
-later : (m n : ℕ) (ds : List Definer) → m ≤ n → RiseFrom n ds → RiseFrom m ds
+later : {K : Type 0} → (m n : ℕ) (ds : List (Definer K)) → m ≤ n → RiseFrom n ds → RiseFrom m ds
 later m n [] le h = tt
 later m n (d ∷ ds) le h = let at = h.0 in (omega (arith, le, at), h.1)
 
-rise : (ts : List Placed) (n : ℕ) (ls : List Leaf) (ds : List Definer) → ls ≡ leaves_from n ts → StandInOrder ds ls → RiseFrom n ds
+pub rise : {K : Type 0} → (ts : List Placed) (n : ℕ) (ls : List Leaf) (ds : List (Definer K)) → ls ≡ leaves_from n ts → StandInOrder ds ls → RiseFrom n ds
 rise ts n ls _ e ended = tt
 rise [] n _ ds e (passed {l = l} {ls = ls} h) = absurd (nothing l ls e)
   where

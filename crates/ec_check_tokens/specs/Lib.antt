@@ -3,8 +3,6 @@ pub mod States
 pub mod FirstTokens
 pub mod Parts
 pub mod NodeStates
-pub mod Linkages
-pub mod ConstantForms
-pub mod Items
 pub mod Definers
+pub mod Objects
 pub mod Laws

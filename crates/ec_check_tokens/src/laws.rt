@@ -1,14 +1,13 @@
 //! Each function proves a law, and does nothing.
 ghost use Rattle.ec_check_tokens.specs.Laws.{TokensSayStates, TokensSayModes};
 ghost use Rattle.ec_check_tokens.specs.FirstTokens.{PartsBeginAtFirstTokens};
-ghost use Rattle.ec_check_tokens.specs.Linkages.{LinkagesAreFound};
-ghost use Rattle.ec_check_tokens.specs.Items.{ItemsHaveValues};
 ghost use Rattle.ec_check_tokens.specs.Definers.{DefinersDefine, DefinersAreInOrder, FunctionsAreInOrder};
-ghost use Rattle.ec_check_tokens.specs.ConstantForms.{ConstantsAreTold};
+ghost use Rattle.ec_check_tokens.specs.Objects.{ObjectsAreInOrder, StructsAreInOrder};
 
 use ec_check::programs_are_typed;
 use ec_check_meanings::{modes_are_said, walk_gives_meanings};
-use ec_core::types_are_told;
+use ec_check_names::equal_structs_are_one;
+use ec_check_parts::structs_are_declared;
 
 /// The overflow states that are known at each expression of a unit are those that the pragmas and braces before its first
 /// token say (ISO/IEC TR 18037:2008, 4.1.3).
@@ -32,19 +31,6 @@ pub fn parts_begin_at_first_tokens()
     ensures { PartsBeginAtFirstTokens }
 {}
 
-/// The linkage of a declaration at file scope is that of ISO/IEC 9899:1999, 6.2.2.
-pub fn linkages_are_found()
-    ensures { LinkagesAreFound }
-{}
-
-/// What is looked into as a constant expression, of a size or of a static initialiser, is built as one (ISO/IEC 9899:1999,
-/// 6.6).
-pub fn constants_are_told()
-    ensures { ConstantsAreTold }
-{
-    walk_gives_meanings();
-}
-
 /// The definitions of all units by name are those of the declarators that define, in order (ISO/IEC 9899:1999, 6.9).
 pub fn definers_define()
     ensures { DefinersDefine }
@@ -62,12 +48,18 @@ pub fn functions_are_in_order()
     programs_are_typed();
 }
 
-/// What an item of a static initialiser means in its place, and the initial value that it gives: a number, the null pointer or
-/// an address (ISO/IEC 9899:1999, 6.6 and 6.7.8).
-pub fn items_have_values()
-    ensures { ItemsHaveValues }
+/// The objects of the program of units stand in the order of the declarators that they are declared by, by unit and by token;
+/// one in named registers stands at the first declaration of its name in all units.
+pub fn objects_are_in_order()
+    ensures { ObjectsAreInOrder }
+{}
+
+/// The structs of the program of units stand in the order of their definitions, by unit and by token, and one that later
+/// units define again stands once (ISO/IEC 9899:1999, 6.2.7).
+pub fn structs_are_in_order()
+    ensures { StructsAreInOrder }
 {
-    types_are_told();
-    walk_gives_meanings();
-    constants_are_told();
+    programs_are_typed();
+    equal_structs_are_one();
+    structs_are_declared();
 }

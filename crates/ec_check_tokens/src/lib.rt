@@ -5,7 +5,6 @@
 mod laws;
 
 pub use laws::{
-    constants_are_told, definers_are_in_order, definers_define, functions_are_in_order,
-    items_have_values, linkages_are_found, parts_begin_at_first_tokens, tokens_say_modes,
-    tokens_say_states,
+    definers_are_in_order, definers_define, functions_are_in_order, objects_are_in_order,
+    parts_begin_at_first_tokens, structs_are_in_order, tokens_say_modes, tokens_say_states,
 };

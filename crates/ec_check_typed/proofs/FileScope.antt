@@ -1,9 +1,11 @@
 -- Declarations and structs at file scope add what the walk adds.
-use Rattle.std.proofs.Common.{◌≡◌, ◌∙◌, ◌+◌, ℕ, Bool, true, false, not, List, [], ◌∷◌, ◌++◌, length, append_assoc, refl, sym, ap, subst, inl, inr}
+use Rattle.std.proofs.Common.{◌≡◌, ◌∙◌, ◌+◌, ℕ, Bool, true, false, not, List, [], ◌∷◌, ◌++◌, length, append_assoc, refl, sym, ap, subst}
+use Rattle.std.proofs.Common.{inl, inr}
 use Rattle.std.specs.Prelude.{if◌then◌else◌, Option, Some, None}
 use Rattle.std.proofs.lemmas.Bool.{true≢false, false≢true}
 use Rattle.std.proofs.lemmas.Bool.Decides.{Decides-ltb}
 use Rattle.std.proofs.lemmas.List.{append-nil}
+use Rattle.ec_space.specs.declared.space.SpaceId.{SpaceId}
 use Rattle.ec_grammar.specs.declared.Spot.{Spot}
 use Rattle.ec_grammar.specs.Trees as t
 use Rattle.ec_core.specs.declared.programs.LeafInit.{LeafInit}
@@ -12,6 +14,7 @@ use Rattle.ec_check_names.specs.declared.specifiers.Specified.{Specified}
 use Rattle.ec_check_names.specs.declared.specifiers.Storage.{Storage}
 use Rattle.ec_check_names.specs.declared.specifiers.StorageWord.{StorageWord}
 use Rattle.ec_check_names.specs.declared.specifiers.StorageWord.TheVariants.{Extern, Static}
+use Rattle.ec_check_names.specs.declared.linkage.Linkage.{Linkage}
 use Rattle.ec_check_names.specs.Counts.{is_function}
 use Rattle.ec_check_names.specs.Definitions.{is_defined}
 use Rattle.ec_check_names.specs.Laws.{EqualStructsAreOne}
@@ -24,17 +27,22 @@ use Rattle.ec_check_declarations.specs.Registers.{RegisterDeclared, register_dec
 use Rattle.ec_check_declarations.specs.Scopes.{has_room}
 use Rattle.ec_check_declarations.specs.Structures.{struct_defined, appended, with_struct}
 use Rattle.ec_check_file_scope.specs.FileNames.{FileName, is_registered}
-use Rattle.ec_check_file_scope.specs.FileObjects.{object_named, object_name, with_object, with_defined, word_of, named_in, link_of, object_made, initial_leaves}
+use Rattle.ec_check_file_scope.specs.FileObjects.{object_named, object_name, with_object, with_defined, word_of, named_in, link_of}
+use Rattle.ec_check_file_scope.specs.FileObjects.{object_made, initial_leaves}
 use Rattle.ec_check_file_scope.specs.FileObjects.{after_object, register_name, register_named, register_made, after_register}
 use Rattle.ec_check_file_scope.specs.FileScope.{after_declarator, after_more, after_declaration, after_structure}
 use Rattle.ec_check_file_scope.specs.States.{Setting, State, known_of, with_name, with_scope, broken}
 use Rattle.ec_check_meanings.proofs.Options.{clash, nothing_there}
 use Rattle.ec_check_parts.specs.Laws.{outside_of, FileScopeIsJudged}
+use Rattle.ec_check_parts.specs.Linkages.{LinkagesAreFound}
+use Rattle.ec_check_parts.specs.Said.{DeclaratorsAreSaid, StructsAreDeclared}
 use Rattle.ec_check_parts.specs.Units.{Outside, behind_declarator}
+use Rattle.ec_check_parts.specs.Words.{words_among, own_words}
+use Rattle.ec_check_parts.proofs.Types.{same_const, same_space}
 use Rattle.ec_check_typed.specs.Laws.{InitialisersAreSaid, IsFurther, place_of, FileScopeIsSaid}
 use Rattle.ec_check_typed.specs.Statements.{others}
 use Rattle.ec_check_typed.specs.Units as unit
-use Rattle.ec_check_typed.specs.Units.{Added, nothing, objects_alone, both, Place, past, IsExtern, static_object, IsObject, AreObjects}
+use Rattle.ec_check_typed.specs.Units.{Added, nothing, objects_alone, both, past, IsExtern, static_object, IsObject, AreObjects}
 use Rattle.ec_check_typed.specs.Units.{register_object, IsRegister, IsAmong, IsStruct, Adds}
 use Rattle.ec_check_typed.proofs.Locals.{longer}
 
@@ -134,6 +142,9 @@ object_shape r said storage stars n (t.function_shape l ps e) start s h = absurd
 
 pub record FileLaws : Type 0 where
   pub initialisers : InitialisersAreSaid
+  pub declarators : DeclaratorsAreSaid
+  pub linkages : LinkagesAreFound
+  pub structs : StructsAreDeclared
   pub judged : FileScopeIsJudged
 
 module _ (laws : FileLaws) (r : Setting) (ss : t.Specs) where
@@ -149,6 +160,10 @@ module _ (laws : FileLaws) (r : Setting) (ss : t.Specs) where
 
     abbrev named : State
     named = named_in r n (link_of r word n s) (is_defined word false) declared s
+
+    -- the object that it defines
+    abbrev static_of : PlainType → List LeafInit → PlainObject
+    static_of ty leaves = static_object r n (link_of r word n s) ty declared.konst declared.space leaves
 
     named_as : (a : Added) (behind : State) → IsFurther a named behind → IsFurther a s behind
     named_as a behind h =
@@ -167,10 +182,10 @@ module _ (laws : FileLaws) (r : Setting) (ss : t.Specs) where
 
     defined_further : (ty : PlainType) (leaves : List LeafInit) → is_defined word false ≡ true → declared.ty ≡ Some ty
         → leaves_as (Some ty) ≡ Some leaves → has_room s.scope.objects ≡ true
-        → IsFurther (objects_alone (static_object r n (link_of r word n s) declared ty leaves ∷ [])) s
+        → IsFurther (objects_alone (static_of ty leaves ∷ [])) s
         (after_object r (specified s.tags ss) storage (t.init_declarator (t.declarator stars (t.identifier at n) shape) start) s)
     defined_further ty leaves d typed there room =
-        let x = static_object r n (link_of r word n s) declared ty leaves in
+        let x = static_of ty leaves in
         subst (λ (z : State). IsFurther (objects_alone (x ∷ [])) s z)
         (sym
         (behind_object
@@ -201,8 +216,12 @@ module _ (laws : FileLaws) (r : Setting) (ss : t.Specs) where
         valued ty None e g d h = absurd (false≢true h)
         valued ty (Some leaves) e g d h =
             let room = (object_there (object_as (Some ty) (Some leaves)) named h).2 in (
-              static_object r n (link_of r word n s) declared ty leaves ∷ [],
-              unit.defined f (defined_is word d) ((Decides-ltb (length s.scope.objects) 65_536).0 room) e
+              static_of ty leaves ∷ [],
+              unit.defined f (defined_is word d) ((Decides-ltb (length s.scope.objects) 65_536).0 room)
+                  ((laws.linkages n r.unit s.declared word false (link_of r word n s)).1 refl)
+                  ((laws.declarators.objects (known_of r.ports s) ss stars (t.identifier at n) shape start ty).0 e)
+                  (laws.declarators.constness (known_of r.ports s) ss stars (t.identifier at n) shape start)
+                  (laws.declarators.spaces (known_of r.ports s) ss stars (t.identifier at n) shape start)
                   ((laws.initialisers.statics (known_of r.ports named) ty start leaves).1 g),
             )
 
@@ -240,16 +259,26 @@ module _ (laws : FileLaws) (r : Setting) (ss : t.Specs) where
       named_only : (n : t.Identifier)
           → IsFurther nothing s (after_object r (specified s.tags ss) storage (t.init_declarator (t.declarator stars n shape) start) s)
       named_only (t.identifier at n) = only_further stars n at shape start s (is_extern word e)
-  object_to _ s _ (unit.defined {stars = stars} {at = at} {n = n} {shape = shape} {start = start} {ty = ty} {leaves = leaves} f e room
-      typed h) =
-      subst
-      (λ (z : State).
-      IsFurther
-      (objects_alone (static_object r n (link_of r word n s) (declared stars n at shape start s) ty leaves ∷ [])) s z)
+  object_to _ s _ (unit.defined {stars = stars} {at = at} {n = n} {shape = shape} {start = start} {linkage = linkage} {ty = ty}
+      {konst = konst} {space = space} {leaves = leaves} f e room link says qualified spaced h) =
+      let k = known_of r.ports s in
+      let d = declared stars n at shape start s in
+      let behind = after_declarator r (specified s.tags ss) storage (t.init_declarator (t.declarator stars (t.identifier at n) shape) start) s in
+      let typed = (laws.declarators.objects k ss stars (t.identifier at n) shape start ty).1 says in
+      let one =
+      subst (λ (z : State). IsFurther (objects_alone (static_of stars n at shape start s ty leaves ∷ [])) s z)
       (sym (object_shape r (specified s.tags ss) storage stars (t.identifier at n) shape start s f))
       (defined_further stars n at shape start s ty leaves (is_defined_so word e) typed
       ((laws.initialisers.statics (known_of r.ports (named stars n at shape start s)) ty start leaves).0 h)
-      ((Decides-ltb (length s.scope.objects) 65_536).1 room))
+      ((Decides-ltb (length s.scope.objects) 65_536).1 room)) in
+      let links = (laws.linkages n r.unit s.declared word false linkage).0 link in
+      let consts = same_const d.konst konst (laws.declarators.constness k ss stars (t.identifier at n) shape start) qualified in
+      let spaces =
+      same_space (own_words (words_among ss) stars) d.space space
+      (laws.declarators.spaces k ss stars (t.identifier at n) shape start) spaced in
+      subst (λ (z : SpaceId). IsFurther (objects_alone (static_object r n linkage ty konst z leaves ∷ [])) s behind) spaces
+      (subst (λ (z : Bool). IsFurther (objects_alone (static_object r n linkage ty z d.space leaves ∷ [])) s behind) consts
+      (subst (λ (z : Linkage). IsFurther (objects_alone (static_object r n z ty d.konst d.space leaves ∷ [])) s behind) links one))
 
   to_object : (d : t.InitDeclarator) (s : State) → (after_declarator r (specified s.tags ss) storage d s).whole ≡ true
       → (os : List PlainObject) × IsObject r (outside_of s) ss d os
@@ -380,9 +409,10 @@ module _ (laws : FileLaws) (r : Setting) where
 
 -- ---- named registers
 
-module _ (r : Setting) (w : Spot) (reg : t.Identifier) (ss : t.Specs) (at : Spot) (n : List ℕ) (e : Spot) (s : State) where
+module _ (declarators : DeclaratorsAreSaid) (r : Setting) (w : Spot) (reg_at : Spot) (reg : List ℕ) (ss : t.Specs) (at : Spot) (n : List ℕ)
+    (semicolon : Spot) (s : State) where
   abbrev registered : RegisterDeclared
-  registered = register_declared (known_of r.ports s) (t.register_object w reg ss (t.identifier at n) e)
+  registered = register_declared (known_of r.ports s) (t.register_object w (t.identifier reg_at reg) ss (t.identifier at n) semicolon)
 
   abbrev register_known : State
   register_known = with_name n (register_named r n registered) (register_name r n registered) s
@@ -393,12 +423,12 @@ module _ (r : Setting) (w : Spot) (reg : t.Identifier) (ss : t.Specs) (at : Spot
   abbrev register_as : Option ℕ → Option PlainType → Option PlainObject
   register_as first ty = register_made r n registered first ty
 
-  behind_register : after_register r (t.register_object w reg ss (t.identifier at n) e) s
+  behind_register : after_register r (t.register_object w (t.identifier reg_at reg) ss (t.identifier at n) semicolon) s
       ≡ with_defined (not (is_registered n s.declared)) (register_as registered.first registered.ty) register_known
   behind_register = refl
 
   register_again : is_registered n s.declared ≡ true
-      → IsFurther nothing s (after_register r (t.register_object w reg ss (t.identifier at n) e) s)
+      → IsFurther nothing s (after_register r (t.register_object w (t.identifier reg_at reg) ss (t.identifier at n) semicolon) s)
   register_again h =
       subst (λ (z : State). IsFurther nothing s z)
       (sym (behind_register ∙ ap (λ b. with_defined (not b) (register_as registered.first registered.ty) register_known) h))
@@ -407,7 +437,7 @@ module _ (r : Setting) (w : Spot) (reg : t.Identifier) (ss : t.Specs) (at : Spot
   register_first : (first : ℕ) (ty : PlainType) → is_registered n s.declared ≡ false → registered.first ≡ Some first
       → registered.ty ≡ Some ty → has_room s.scope.objects ≡ true
       → IsFurther (objects_alone (register_object r n registered.konst first ty ∷ [])) s
-      (after_register r (t.register_object w reg ss (t.identifier at n) e) s)
+      (after_register r (t.register_object w (t.identifier reg_at reg) ss (t.identifier at n) semicolon) s)
   register_first first ty h f g room =
       subst (λ (z : State). IsFurther (objects_alone (register_object r n registered.konst first ty ∷ [])) s z)
       (sym
@@ -420,7 +450,7 @@ module _ (r : Setting) (w : Spot) (reg : t.Identifier) (ss : t.Specs) (at : Spot
       (object_further (register_object r n registered.konst first ty) register_known room))
 
   abbrev RegisterFound : Type 0
-  RegisterFound = (os : List PlainObject) × IsRegister r (outside_of s) (t.register_object w reg ss (t.identifier at n) e) os
+  RegisterFound = (os : List PlainObject) × IsRegister r (outside_of s) (t.register_object w (t.identifier reg_at reg) ss (t.identifier at n) semicolon) os
 
   register_there : (with_defined (not (is_registered n s.declared)) (register_as registered.first registered.ty) register_known).whole ≡ true
       → RegisterFound
@@ -432,7 +462,9 @@ module _ (r : Setting) (w : Spot) (reg : t.Identifier) (ss : t.Specs) (at : Spot
       typed first (Some ty) e f g h =
           let room = (object_there (register_as (Some first) (Some ty)) register_known h).2 in (
             register_object r n registered.konst first ty ∷ [],
-            unit.first_declared e ((Decides-ltb (length s.scope.objects) 65_536).0 room) f g,
+            unit.first_declared e ((Decides-ltb (length s.scope.objects) 65_536).0 room)
+                ((declarators.registers (known_of r.ports s) w reg_at reg ss (t.identifier at n) semicolon first ty).0 (f, g))
+                (declarators.constness_of_registers (known_of r.ports s) w reg_at reg ss (t.identifier at n) semicolon),
           )
 
       placed : (first : Option ℕ) → is_registered n s.declared ≡ false → registered.first ≡ first
@@ -445,13 +477,20 @@ module _ (r : Setting) (w : Spot) (reg : t.Identifier) (ss : t.Specs) (at : Spot
       by true e h = ([], unit.declared_before e)
       by false e h = placed registered.first e refl h
 
-module _ (r : Setting) where
+module _ (declarators : DeclaratorsAreSaid) (r : Setting) where
   register_to : (d : t.RegisterObject) (s : State) (os : List PlainObject) → IsRegister r (outside_of s) d os
       → IsFurther (objects_alone os) s (after_register r d s)
-  register_to _ s _ (unit.declared_before {w = w} {e = e} {reg = reg} {at = at} {name = n} {ss = ss} h) =
-      register_again r w reg ss at n e s h
-  register_to _ s _ (unit.first_declared {w = w} {e = e} {reg = reg} {at = at} {name = n} {ss = ss} {first = first} {ty = ty} h room f g) =
-      register_first r w reg ss at n e s first ty h f g ((Decides-ltb (length s.scope.objects) 65_536).1 room)
+  register_to _ s _ (unit.declared_before {w = w} {e = e} {reg = t.identifier reg_at reg} {at = at} {name = n} {ss = ss} h) =
+      register_again declarators r w reg_at reg ss at n e s h
+  register_to _ s _ (unit.first_declared {w = w} {e = e} {reg_at = reg_at} {at = at} {reg = reg} {name = n} {ss = ss} {konst = konst}
+      {first = first} {ty = ty} h room says qualified) =
+      let k = known_of r.ports s in
+      let g = (declarators.registers k w reg_at reg ss (t.identifier at n) e first ty).1 says in
+      let d = register_declared k (t.register_object w (t.identifier reg_at reg) ss (t.identifier at n) e) in
+      subst (λ (z : Bool). IsFurther (objects_alone (register_object r n z first ty ∷ [])) s
+      (after_register r (t.register_object w (t.identifier reg_at reg) ss (t.identifier at n) e) s))
+      (same_const d.konst konst (declarators.constness_of_registers k w reg_at reg ss (t.identifier at n) e) qualified)
+      (register_first declarators r w reg_at reg ss at n e s first ty h g.0 g.1 ((Decides-ltb (length s.scope.objects) 65_536).1 room))
 
   register_added : (d : t.RegisterObject) (s : State) (a : Added) → Adds r (place_of s) (t.register_item d) a
       → IsFurther a s (after_register r d s)
@@ -459,13 +498,13 @@ module _ (r : Setting) where
 
   register_said : (d : t.RegisterObject) (s : State) → (after_register r d s).whole ≡ true
       → (a : Added) × Adds r (place_of s) (t.register_item d) a
-  register_said (t.register_object w reg ss (t.identifier at n) e) s h =
-      let g = register_there r w reg ss at n e s h in (objects_alone g.0, unit.by_register g.1)
+  register_said (t.register_object w (t.identifier reg_at reg) ss (t.identifier at n) e) s h =
+      let g = register_there declarators r w reg_at reg ss at n e s h in (objects_alone g.0, unit.by_register g.1)
 
 -- ---- structs
 
 module _ (one : EqualStructsAreOne) where
-  found_is : (i j : ℕ) (s : PlainStruct) (xs : List PlainStruct) → place_from i s xs ≡ Some j → IsAmong s xs
+  pub found_is : (i j : ℕ) (s : PlainStruct) (xs : List PlainStruct) → place_from i s xs ≡ Some j → IsAmong s xs
   found_is i j s [] q = absurd (nothing_there j q)
   found_is i j s (x ∷ xs) q = by (same_struct s x) refl (λ e. found_is (i + 1) j s xs e) q
     where
@@ -474,7 +513,7 @@ module _ (one : EqualStructsAreOne) where
       by true e further q = inl ((one s x).0 e)
       by false e further q = inr (further q)
 
-  not_found : (i : ℕ) (s : PlainStruct) (xs : List PlainStruct) → place_from i s xs ≡ None → ¬ IsAmong s xs
+  pub not_found : (i : ℕ) (s : PlainStruct) (xs : List PlainStruct) → place_from i s xs ≡ None → ¬ IsAmong s xs
   not_found i s [] q = λ h. h
   not_found i s (x ∷ xs) q = by (same_struct s x) refl (λ e. not_found (i + 1) s xs e) q
     where
@@ -501,13 +540,19 @@ module _ (one : EqualStructsAreOne) where
       by None e = absurd (not_found 0 s xs e h)
       by (Some i) e = refl
 
-  module _ (r : Setting) where
+  module _ (defined : StructsAreDeclared) (r : Setting) where
     structs_to : (d : t.Structure) (s : State) (ts : List PlainStruct) → IsStruct r (outside_of s) d ts
         → with_struct (struct_defined (known_of r.ports s) d) s.structs ≡ s.structs ++ ts
-    structs_to d s _ (unit.first_defined {s = x} e n) = ap (λ z. with_struct z s.structs) e ∙ struct_added x s.structs n
+    structs_to d s _ (unit.first_defined {s = x} e n) =
+        ap (λ z. with_struct z s.structs) ((defined (known_of r.ports s) d x).1 e) ∙ struct_added x s.structs n
     structs_to d s _ (unit.defined_before {s = x} e h) =
-        ap (λ z. with_struct z s.structs) e ∙ struct_kept x s.structs h ∙ sym (append-nil s.structs)
-    structs_to d s _ (unit.not_defined e) = ap (λ z. with_struct z s.structs) e ∙ sym (append-nil s.structs)
+        ap (λ z. with_struct z s.structs) ((defined (known_of r.ports s) d x).1 e) ∙ struct_kept x s.structs h ∙ sym (append-nil s.structs)
+    structs_to d s _ (unit.not_defined n) =
+        ap (λ z. with_struct z s.structs) (by (struct_defined (known_of r.ports s) d) refl) ∙ sym (append-nil s.structs)
+      where
+        by : (x : Option PlainStruct) → struct_defined (known_of r.ports s) d ≡ x → x ≡ None
+        by None e = refl
+        by (Some x) e = absurd (n x ((defined (known_of r.ports s) d x).0 e))
 
     struct_further : (d : t.Structure) (s : State) (ts : List PlainStruct)
         → with_struct (struct_defined (known_of r.ports s) d) s.structs ≡ s.structs ++ ts
@@ -528,12 +573,12 @@ module _ (one : EqualStructsAreOne) where
       where
         among : (x : PlainStruct) → struct_defined (known_of r.ports s) d ≡ Some x → (p : Option ℕ) → struct_place x s.structs ≡ p
             → (ts : List PlainStruct) × IsStruct r (outside_of s) d ts
-        among x e None q = (x ∷ [], unit.first_defined e (not_found 0 x s.structs q))
-        among x e (Some i) q = ([], unit.defined_before e (found_is 0 i x s.structs q))
+        among x e None q = (x ∷ [], unit.first_defined ((defined (known_of r.ports s) d x).0 e) (not_found 0 x s.structs q))
+        among x e (Some i) q = ([], unit.defined_before ((defined (known_of r.ports s) d x).0 e) (found_is 0 i x s.structs q))
 
         by : (x : Option PlainStruct) → struct_defined (known_of r.ports s) d ≡ x
             → (ts : List PlainStruct) × IsStruct r (outside_of s) d ts
-        by None e = ([], unit.not_defined e)
+        by None e = ([], unit.not_defined (λ x h. nothing_there x (sym e ∙ (defined (known_of r.ports s) d x).1 h)))
         by (Some x) e = among x e (struct_place x s.structs) refl
 
     structure_said : (d : t.Structure) (s : State) → (a : Added) × Adds r (place_of s) (t.structure_item d) a
@@ -542,6 +587,7 @@ module _ (one : EqualStructsAreOne) where
 pub file_scope_is_said : FileLaws → EqualStructsAreOne → FileScopeIsSaid
 file_scope_is_said laws one = record {
   declarations = λ r d s. record { added = declaration_added laws r d s; there = declaration_there laws r d s };
-  registers = λ r d s. record { added = register_added r d s; there = register_said r d s };
-  structures = λ r d s. record { added = structure_added one r d s; there = λ h. structure_said one r d s };
+  registers = λ r d s.
+      record { added = register_added laws.declarators r d s; there = register_said laws.declarators r d s };
+  structures = λ r d s. record { added = structure_added one laws.structs r d s; there = λ h. structure_said one laws.structs r d s };
 }

@@ -20,6 +20,8 @@ use Rattle.ec_check_statements.specs.Walks.{followed}
 use Rattle.ec_check_meanings.proofs.Options.{inside, nothing_there, with_given, with_granted}
 use Rattle.ec_check_parts.specs.Laws.{inside_of}
 use Rattle.ec_check_parts.specs.Places.{Inside}
+use Rattle.ec_check_parts.specs.Said.{DeclaratorsAreSaid}
+use Rattle.ec_check_parts.proofs.Types.{same_const}
 use Rattle.ec_check_typed.specs.Laws.{InitialisersAreSaid, around, AreAdded}
 use Rattle.ec_check_typed.specs.Statements.{Enclosing, declaring, local_object, IsLocal, one_local, AreLocals, no_local, more_locals, others}
 use Rattle.ec_check_typed.specs.Statements.{followed_by}
@@ -104,7 +106,12 @@ declared_behind w n ty konst s = record {
   added = refl;
 }
 
-module _ (laws : InitialisersAreSaid) (w : Enclosing) (c : Context) (in_loop : Bool) (first : ℕ) (ss : t.Specs) where
+-- the laws that this stands on
+pub record LocalLaws : Type 0 where
+  pub initialisers : InitialisersAreSaid
+  pub declarators : DeclaratorsAreSaid
+
+module _ (laws : LocalLaws) (w : Enclosing) (c : Context) (in_loop : Bool) (first : ℕ) (ss : t.Specs) where
   abbrev said : Specified
   said = specified c.tags ss
 
@@ -183,8 +190,12 @@ module _ (laws : InitialisersAreSaid) (w : Enclosing) (c : Context) (in_loop : B
 
   pub local_to : (s : Scope) (d : t.InitDeclarator) (x : PlainStmt) (o : PlainObject) → IsLocal w c ss (inside_of s) d x o → IsMade s d x o
   local_to s _ _ _ (one_local {stars = stars} {at = at} {n = n} {shape = shape} {start = start} {ty = ty} {konst = konst} {values = values}
-      room typed const h) =
+      room says qualified h) =
       let d = t.declarator stars (t.identifier at n) shape in
+      let typed = (laws.declarators.objects (known_in c s.names) ss stars (t.identifier at n) shape start ty).1 says in
+      let const =
+      same_const (konst_of stars at n shape start s) konst
+      (laws.declarators.constness (known_in c s.names) ss stars (t.identifier at n) shape start) qualified in
       let left = (Decides-ltb (length s.objects) 65_536).1 room in
       let names = (with_declared w n ty konst s).names in
       let x = statement w.unit (first_declarator d) (declare (length s.objects) values) in
@@ -194,7 +205,7 @@ module _ (laws : InitialisersAreSaid) (w : Enclosing) (c : Context) (in_loop : B
             ∙ ap (λ (z : Bool). with_one (initial_values c (with_declared w n ty z s).names start (Some ty))
             (statement_with stars at n shape start s (length s.objects))) const
             ∙ with_granted (initial_values c names start (Some ty)) (statement_with stars at n shape start s (length s.objects)) values x
-            ((laws.locals c names ty start values).0 h) refl;
+            ((laws.initialisers.locals c names ty start values).0 h) refl;
         behind =
             subst (λ (z : Bool). Behind (local_object w n ty z ∷ []) s (with_local c r said (t.init_declarator d start) s)
             (declaring (local_object w n ty z ∷ []) (inside_of s))) const (behind_at stars at n shape start s ty typed left);
@@ -212,7 +223,9 @@ module _ (laws : InitialisersAreSaid) (w : Enclosing) (c : Context) (in_loop : B
         subst (λ (z : PlainStmt). IsLocal w c ss (inside_of s)
             (t.init_declarator (t.declarator stars (t.identifier at n) shape) start) z (local_object w n g.0 konst))
             (inside h.2)
-            (one_local ((Decides-ltb (length s.objects) 65_536).0 g.2) g.1 refl ((laws.locals c names g.0 start h.0).1 h.1)),
+            (one_local ((Decides-ltb (length s.objects) 65_536).0 g.2)
+            ((laws.declarators.objects (known_in c s.names) ss stars (t.identifier at n) shape start g.0).0 g.1)
+            (laws.declarators.constness (known_in c s.names) ss stars (t.identifier at n) shape start) ((laws.initialisers.locals c names g.0 start h.0).1 h.1)),
         record { stated = q; behind = behind_at stars at n shape start s g.0 g.1 g.2 },
       )
 

@@ -1,11 +1,12 @@
 -- Statements and declarations with what they are, by the relation alone: in an int context, where a and b are declared.
-use Rattle.std.proofs.Common.{◌≡◌, ◌<◌, ◌+◌, ℕ, true, false, [], ◌∷◌, refl, inl, arith}
-use Rattle.std.specs.Prelude.{pos, None}
+use Rattle.std.proofs.Common.{◌≡◌, ◌<◌, ◌≤◌, ◌+◌, ℕ, true, false, [], ◌∷◌, refl, inl, inr, arith}
+use Rattle.std.specs.Prelude.{◌⊎◌, pos, Option, Some, None}
+use Rattle.std.proofs.lemmas.Bool.{false≢true}
 use Rattle.ec_grammar.specs.declared.Constant.TheVariants as constants
 use Rattle.ec_grammar.specs.declared.Spot.{Spot}
 use Rattle.ec_grammar.specs.declared.token.WordKind.TheVariants as w
 use Rattle.ec_grammar.specs.Trees as t
-use Rattle.ec_core.specs.Plain.{array, number, last_expr, statement}
+use Rattle.ec_core.specs.Plain.{PlainType, void, array, number, last_expr, statement}
 use Rattle.ec_core.specs.Plain.{block, declare, for_loop, break_loop, no_stmt, a_stmt, last_stmt, next_stmt}
 use Rattle.ec_core.specs.Typing.{int}
 use Rattle.ec_check_operands.specs.Operands.{made}
@@ -14,7 +15,10 @@ use Rattle.ec_check_declarations.specs.Scopes.{Context}
 use Rattle.ec_check_meanings.specs.Conversions.{as_it_is, ordinary}
 use Rattle.ec_check_meanings.specs.Means as means
 use Rattle.ec_check_meanings.specs.Means.{not_void}
+use Rattle.ec_check_parts.specs.Declared.{alone, DeclareObject, IsConst}
 use Rattle.ec_check_parts.specs.Places.{Inside}
+use Rattle.ec_check_parts.specs.TypeWords.{Name}
+use Rattle.ec_check_parts.specs.Types as type
 use Rattle.ec_check_typed.specs.Initialisers.{element, no_leaf, a_leaf, Gives, one_value, in_braces, no_item, IsValue, passed, IsZero}
 use Rattle.ec_check_typed.specs.Initialisers as initial
 use Rattle.ec_check_typed.specs.Initialisers.{unset}
@@ -41,6 +45,26 @@ module _ (e : Enclosing) (c : Context) (i : Inside) (room : i.made < 65_000) whe
   abbrev object_b : t.InitDeclarator
   object_b = t.init_declarator (t.declarator [] (t.identifier (record { index = 5; at = 5 }) (98 ∷ [])) t.object) None
 
+  -- `int` alone declares an int that is not const
+  an_int : (k : Known) → DeclareObject k int_specs [] t.object None int
+  an_int k = record {
+    typed = alone (record { said = type.said refl type.no_star; no_void = no_void }) (inr (inl refl));
+    small = two;
+  }
+    where
+      no_void : Name k.tags int_specs void → ⊥
+      no_void q = let e : ◌≡◌ {A = Option PlainType} (Some int) (Some void) = q in cc
+
+      two : 2 ≤ 32_767
+      two = omega arith
+
+  not_const : IsConst int_specs [] false
+  not_const = (λ e. absurd (false≢true e), none)
+    where
+      none : ⊥ ⊎ ⊥ → false ≡ true
+      none (inl h) = absurd h
+      none (inr h) = absurd h
+
   -- `for (;;) break;` has no condition, and its body stands at `break`
   endless : (s : Spot) (at : Spot)
       → Says e c false i (t.for_loop s (t.heading s (t.first_evaluated None s) None s None s) (t.break_loop at s))
@@ -64,8 +88,8 @@ module _ (e : Enclosing) (c : Context) (i : Inside) (room : i.made < 65_000) whe
   two_objects s at =
       said.repeated
       (said.several_objects
-      (more_locals (one_local (omega (arith, room)) refl refl unset)
-      (more_locals (one_local (omega (arith, room)) refl refl unset) no_local)))
+      (more_locals (one_local (omega (arith, room)) (an_int _) not_const unset)
+      (more_locals (one_local (omega (arith, room)) (an_int _) not_const unset) no_local)))
       said.no_test said.no_evaluation (at_first said.broken_off)
 
 module _ (k : Known) where

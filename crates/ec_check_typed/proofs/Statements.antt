@@ -1,8 +1,7 @@
 -- Statements are what the walk makes of them.
-use Rattle.std.proofs.Common.{◌≡◌, ◌∙◌, ◌+◌, ℕ, Bool, true, false, List, [], ◌∷◌, ◌++◌, length, refl, sym, ap, subst}
-use Rattle.std.specs.Prelude.{◌↔◌, if◌then◌else◌, option_map, Option, Some, None, IfSome, ⊤}
+use Rattle.std.proofs.Common.{◌≡◌, ◌∙◌, ℕ, Bool, true, false, List, [], ◌∷◌, ◌++◌, length, refl, sym, ap, subst}
+use Rattle.std.specs.Prelude.{◌↔◌, option_map, Option, Some, None, IfSome, ⊤}
 use Rattle.std.proofs.lemmas.List.{append-nil, append_cancel_left}
-use Rattle.ec_grammar.specs.declared.Pragma.{Pragma}
 use Rattle.ec_grammar.specs.declared.Spot.{Spot}
 use Rattle.ec_grammar.specs.Trees as t
 use Rattle.ec_core.specs.Plain.{PlainType, PlainExpr, PlainStmt, statement, PlainKind, empty, evaluate, block, branch, while_loop, do_loop}
@@ -15,15 +14,15 @@ use Rattle.ec_check_names.specs.Names.{Names}
 use Rattle.ec_check_names.specs.Specifiers.{specified}
 use Rattle.ec_check_declarations.specs.Declarators.{object_declared}
 use Rattle.ec_check_declarations.specs.Scopes.{Context, Scope, known_in, inner_object}
-use Rattle.ec_check_statements.specs.Around.{Around, looping, within, under}
+use Rattle.ec_check_statements.specs.Around.{Around, under}
 use Rattle.ec_check_statements.specs.Headings.{ForHeading, declared_first, first_part, after_first, for_heading, after_heading, optional_stmt}
 use Rattle.ec_check_statements.specs.Headings.{heading_of}
-use Rattle.ec_check_statements.specs.Kinds.{one_branch, branches, while_of, do_of, left}
-use Rattle.ec_check_statements.specs.Locals.{local_declared, with_local, with_locals, local_statement, locals_before, after_declaration}
+use Rattle.ec_check_statements.specs.Kinds.{one_branch, branches, while_of, do_of}
+use Rattle.ec_check_statements.specs.Locals.{local_declared, with_local, local_statement, locals_before, after_declaration}
 use Rattle.ec_check_statements.specs.Locals.{declaration_before}
 use Rattle.ec_check_statements.specs.Objects.{AreAppended}
 use Rattle.ec_check_statements.specs.Parts.{tested, optional_test, evaluated, optional_evaluation, returned}
-use Rattle.ec_check_statements.specs.Statements.{stated, evaluation, for_of, after, after_item, after_items, kind_of, items_of, body_of}
+use Rattle.ec_check_statements.specs.Statements.{stated, evaluation, for_of, after, after_items, kind_of, items_of, body_of}
 use Rattle.ec_check_statements.specs.Statements.{after_body}
 use Rattle.ec_check_statements.specs.Walks.{followed}
 use Rattle.ec_check_statements.proofs.Growth as growth
@@ -33,15 +32,16 @@ use Rattle.ec_check_meanings.specs.Terms.{term_of_expression}
 use Rattle.ec_check_meanings.proofs.Options.{inside, nothing_there, given}
 use Rattle.ec_check_parts.specs.Laws.{inside_of}
 use Rattle.ec_check_parts.specs.Places.{Inside}
-use Rattle.ec_check_typed.specs.Laws.{InitialisersAreSaid, around, AreAdded, StatementsAreSaid}
+use Rattle.ec_check_typed.specs.Laws.{around, AreAdded, StatementsAreSaid}
 use Rattle.ec_check_typed.specs.Statements as said
-use Rattle.ec_check_typed.specs.Statements.{Enclosing, declaring, beyond, Tests, Evaluates, MayTest, MayEvaluate, IsLocal, AreLocals, others}
-use Rattle.ec_check_typed.specs.Statements.{followed_by, IsFirst, Says, IsStatement, at_first, AreItems, IsBody, more_locals}
+use Rattle.ec_check_typed.specs.Statements.{Enclosing, declaring, beyond, Tests, Evaluates, MayTest, MayEvaluate, AreLocals, others}
+use Rattle.ec_check_typed.specs.Statements.{followed_by, IsFirst, Says, IsStatement, at_first, AreItems, IsBody}
 use Rattle.ec_check_typed.proofs.Values.{ValueLaws}
 use Rattle.ec_check_typed.proofs.Expressions.{mapped, both_given, tests_to, to_tests, may_test_to, to_may_test, evaluates_to, to_evaluates}
 use Rattle.ec_check_typed.proofs.Expressions.{may_evaluate_to, to_may_evaluate, nothing_returned_to, to_nothing_returned, returned_to}
 use Rattle.ec_check_typed.proofs.Expressions.{to_returned}
-use Rattle.ec_check_typed.proofs.Locals.{longer, Behind, nothing_behind, added_then, IsMade, local_to, to_local, AreMade, locals_to, to_locals}
+use Rattle.ec_check_typed.proofs.Locals.{LocalLaws, longer, Behind, nothing_behind, added_then, local_to, to_local, AreMade, locals_to}
+use Rattle.ec_check_typed.proofs.Locals.{to_locals}
 
 -- ---- names
 
@@ -74,7 +74,7 @@ one_evaluated c names x = refl
 
 pub record StatementLaws : Type 0 where
   pub values : ValueLaws
-  pub initialisers : InitialisersAreSaid
+  pub locals : LocalLaws
   pub ends : BlocksEnd
 
 module _ (laws : StatementLaws) where
@@ -101,7 +101,7 @@ module _ (laws : StatementLaws) where
 
     block_first : (c : Context) (in_loop : Bool) (first : ℕ) (ss : t.Specs) (d : t.InitDeclarator) (next : t.NextInitDeclarator)
         (ds : List t.NextInitDeclarator) (e comma : Spot) (s : Scope) (xs : List PlainStmt) (os : List PlainObject)
-        → AreMade laws.initialisers w c in_loop first ss s (t.next_init_declarator comma d ∷ (next ∷ ds)) xs os
+        → AreMade laws.locals w c in_loop first ss s (t.next_init_declarator comma d ∷ (next ∷ ds)) xs os
         → IsStarted c in_loop first s (t.first_declared (t.declaration ss d (next ∷ ds) e))
         (a_stmt (statement w.unit (first_specs ss) (block (followed_by xs last_stmt)))) os
     unfolding first_part declared_first declaration_before after_first after_declaration
@@ -117,7 +117,7 @@ module _ (laws : StatementLaws) where
         → IsFirst w c (inside_of s) x p os → IsStarted c in_loop first s x p os
     unfolding first_part declared_first after_first after_declaration
     first_to c in_loop first s _ _ _ (said.one_object {ss = ss} {d = d} {e = e} {x = x} {o = o} h) =
-        let g = local_to laws.initialisers w c in_loop first ss s d x o h in record {
+        let g = local_to laws.locals w c in_loop first ss s d x o h in record {
           statement = Some x;
           part = ap (option_map Some) g.stated;
           same = refl;
@@ -125,7 +125,7 @@ module _ (laws : StatementLaws) where
         }
     first_to c in_loop first s _ _ _ (said.several_objects {ss = ss} {d = d} {next = next} {ds = ds} {e = e} {xs = xs} {os = os} h) =
         block_first c in_loop first ss d next ds e e s xs os
-        (locals_to laws.initialisers w c in_loop first ss (t.next_init_declarator e d ∷ (next ∷ ds)) s (inside_of s) xs os refl h)
+        (locals_to laws.locals w c in_loop first ss (t.next_init_declarator e d ∷ (next ∷ ds)) s (inside_of s) xs os refl h)
     first_to c in_loop first s _ _ _ said.nothing_first = record { statement = None; part = refl; same = refl; behind = nothing_behind s }
     first_to c in_loop first s _ _ _ (said.evaluated_first {x = x} {v = v} h) = record {
       statement = Some (statement w.unit (first_expression x) (evaluate v));
@@ -146,7 +146,7 @@ module _ (laws : StatementLaws) where
     unfolding first_part declared_first declaration_before after_first after_declaration
     to_first c in_loop first s (t.first_declared (t.declaration ss d [] e)) p q =
         let g = mapped Some (local_statement c (around w in_loop first) (specified c.tags ss) d s) p q in
-        let h = to_local laws.initialisers w c in_loop first ss s d g.0 g.1 in (
+        let h = to_local laws.locals w c in_loop first ss s d g.0 g.1 in (
           h.0 ∷ [],
           subst (λ (z : Option PlainStmt). IsFirst w c (inside_of s) (t.first_declared (t.declaration ss d [] e)) (optional_stmt z) (h.0 ∷ []))
               g.2 (said.one_object h.1),
@@ -159,7 +159,7 @@ module _ (laws : StatementLaws) where
         (locals_before c r (specified c.tags ss) (t.next_init_declarator comma d ∷ (t.next_init_declarator comma f ∷ ds)) s (Some last_stmt))) p q in
         let m = mapped (λ all. statement w.unit (first_specs ss) (block all))
         (locals_before c r (specified c.tags ss) (t.next_init_declarator comma d ∷ (t.next_init_declarator comma f ∷ ds)) s (Some last_stmt)) g.0 g.1 in
-        let h = to_locals laws.initialisers w c in_loop first ss (t.next_init_declarator comma d ∷ (t.next_init_declarator comma f ∷ ds)) s
+        let h = to_locals laws.locals w c in_loop first ss (t.next_init_declarator comma d ∷ (t.next_init_declarator comma f ∷ ds)) s
         (Some last_stmt) m.0 m.1 in
         let same : followed_by h.0 last_stmt ≡ m.0 = inside (sym (h.3.stated (Some last_stmt)) ∙ m.1) in (
           h.1,
@@ -280,7 +280,7 @@ module _ (laws : StatementLaws) where
         × Behind os s (after_declaration c (around w in_loop first) (t.declaration ss d ds e) s) (declaring os (inside_of s))
     unfolding declaration_before after_declaration
     declared_to c in_loop first s ss d ds e i ps os q h =
-        let g = locals_to laws.initialisers w c in_loop first ss (t.next_init_declarator e d ∷ ds) s i ps os q h in (g.stated, g.behind)
+        let g = locals_to laws.locals w c in_loop first ss (t.next_init_declarator e d ∷ ds) s i ps os q h in (g.stated, g.behind)
 
     mutual
       says_to : (c : Context) (in_loop : Bool) (i : Inside) (x : t.Statement) (kind : PlainKind) (os : List PlainObject)
@@ -454,7 +454,7 @@ module _ (laws : StatementLaws) where
         × (option_map (followed_by ps) rest ≡ Some qs)
     unfolding declaration_before after_declaration
     to_declared c in_loop first s ss d ds e rest qs q =
-        let h = to_locals laws.initialisers w c in_loop first ss (t.next_init_declarator e d ∷ ds) s rest qs q in
+        let h = to_locals laws.locals w c in_loop first ss (t.next_init_declarator e d ∷ ds) s rest qs q in
         (h.0, h.1, h.2, h.3.behind, sym (h.3.stated rest) ∙ q)
 
     mutual

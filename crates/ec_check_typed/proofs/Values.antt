@@ -1,20 +1,15 @@
 -- What initialisers of objects in blocks and at file scope give is what the walk gives.
-use Rattle.std.proofs.Common.{◌≡◌, ◌∙◌, Bool, true, false, ◌&&◌, List, [], refl, sym, ap, subst}
-use Rattle.std.specs.Prelude.{◌↔◌, if◌then◌else◌, ℤ, pos, option_map, Option, Some, None, Result, Ok, Err}
+use Rattle.std.proofs.Common.{◌≡◌, ◌∙◌, Bool, true, false, List, refl, sym, ap, subst}
+use Rattle.std.specs.Prelude.{◌↔◌, if◌then◌else◌, pos, option_map, Option, Some, None}
 use Rattle.std.specs.Bool.{Decides}
-use Rattle.std.proofs.lemmas.Bool.Decides.{Decides-and}
-use Rattle.ec_grammar.specs.declared.Spot.{Spot}
 use Rattle.ec_grammar.specs.Trees as t
 use Rattle.ec_core.specs.declared.programs.LeafInit.{LeafInit}
 use Rattle.ec_core.specs.declared.programs.LeafInit.TheVariants.{Number, Null, Address}
-use Rattle.ec_core.specs.declared.values.Undefined.{Undefined}
 use Rattle.ec_core.specs.Laws.{TypesAreTold}
 use Rattle.ec_core.specs.Layout.{leaves_of_type}
 use Rattle.ec_core.specs.Plain.{PlainType, PlainExpr, PlainExprs}
-use Rattle.ec_check_constants.specs.Constants.{constant}
-use Rattle.ec_check_constants.specs.Tests.{is_constant}
 use Rattle.ec_check_operands.specs.declared.operands.Modes.{Modes}
-use Rattle.ec_check_operands.specs.Operands.{Operand, made, is_null}
+use Rattle.ec_check_operands.specs.Operands.{Operand, made}
 use Rattle.ec_check_operands.specs.Options.{with_one}
 use Rattle.ec_check_operands.specs.Passing.{brought}
 use Rattle.ec_check_operands.specs.Sorts.{is_aggregate, is_pointer}
@@ -27,13 +22,11 @@ use Rattle.ec_check_expressions.specs.Expressions.{of_assignment}
 use Rattle.ec_check_expressions.specs.Known.{Known}
 use Rattle.ec_check_declarations.specs.Scopes.{Context, known_in}
 use Rattle.ec_check_file_scope.specs.FileObjects.{initial_leaves}
-use Rattle.ec_check_initialisers.specs.declared.places.StaticAddress.{StaticAddress}
-use Rattle.ec_check_initialisers.specs.Forms.{is_constant_assignment}
-use Rattle.ec_check_initialisers.specs.Items.{leaf_of_result, constant_leaf, leaf_of, becomes_null, zero_leaf}
+use Rattle.ec_check_initialisers.specs.Items.{zero_leaf}
 use Rattle.ec_check_initialisers.specs.Locals.{leaf_values, with_items}
 use Rattle.ec_check_initialisers.specs.Parts.{scalar_of, zero_node, zero_of}
-use Rattle.ec_check_initialisers.specs.Places.{StaticPlace, in_assignment, address_constant, address_form, form_of}
-use Rattle.ec_check_initialisers.specs.Statics.{item_is_null, item_value, item_leaf, static_leaves, with_static_items}
+use Rattle.ec_check_initialisers.specs.Places.{form_of}
+use Rattle.ec_check_initialisers.specs.Statics.{item_value, item_leaf, static_leaves, with_static_items}
 use Rattle.ec_check_statements.specs.Locals.{initial_values}
 use Rattle.ec_check_meanings.specs.Laws.{WalkGivesMeanings}
 use Rattle.ec_check_meanings.specs.Conversions.{IsPassed}
@@ -42,8 +35,10 @@ use Rattle.ec_check_meanings.specs.Terms.{term_of_assignment}
 use Rattle.ec_check_meanings.proofs.Conversions.{brought_is, is_brought}
 use Rattle.ec_check_meanings.proofs.Options.{clash, refuted, inside, nothing_there, with_given, with_granted}
 use Rattle.ec_check_meanings.proofs.Parts.{uses_of, used_to}
-use Rattle.ec_check_typed.specs.Initialisers.{IsValue, passed as a_value, IsZero, null_pointer, zero_number, Starts, unset, set, IsLeaf, null_leaf}
-use Rattle.ec_check_typed.specs.Initialisers.{number_leaf, address_leaf, IsZeroLeaf, null_pointer_leaf, zero_number_leaf, StartsStatic}
+use Rattle.ec_check_parts.specs.Items.{HasItemValue, IsInitialValue, a_null, a_number, an_address}
+use Rattle.ec_check_parts.specs.Said.{ItemsHaveValues}
+use Rattle.ec_check_typed.specs.Initialisers.{IsValue, passed as a_value, IsZero, null_pointer, zero_number, Starts, unset, set, IsLeaf}
+use Rattle.ec_check_typed.specs.Initialisers.{IsZeroLeaf, null_pointer_leaf, zero_number_leaf, StartsStatic}
 use Rattle.ec_check_typed.specs.Initialisers.{all_zero, initialised, Gives}
 use Rattle.ec_check_typed.specs.Laws.{InitialisersAreSaid}
 use Rattle.ec_check_typed.proofs.Initialisers.{IsWalk, zeros_to, zeros_are, given_both}
@@ -52,6 +47,7 @@ use Rattle.ec_check_typed.proofs.Initialisers.{IsWalk, zeros_to, zeros_are, give
 pub record ValueLaws : Type 0 where
   pub told : TypesAreTold
   pub meanings : WalkGivesMeanings
+  pub items : ItemsHaveValues
 
 -- ---- types without parts
 
@@ -65,19 +61,6 @@ scalar_is (Some ty) to q = by (is_aggregate ty) refl q
 
 pub is_scalar : (ty : PlainType) → ¬ IsAggregate ty → scalar_of (Some ty) ≡ Some ty
 is_scalar ty n = ap (λ (b : Bool). if b then None else Some ty) (refuted (is_aggregate ty) (λ e. n ((aggregates ty).0 e)))
-
--- an item that has the form of a constant expression: the size of a type
-spot : Spot
-spot = record { index = 0; at = 0 }
-
-abbrev a_constant : t.Assignment
-a_constant = t.value
-    (t.plain (t.operand (t.uncast (t.size spot spot (t.type_name (t.specs (t.struct_spec spot (t.identifier spot [])) []) []) spot))))
-
--- a value that may be missing, behind a test
-conditional_given : {A : Type 0} → (b : Bool) (x : Option A) (v : A) → (if b then x else None) ≡ Some v → (b ≡ true) × (x ≡ Some v)
-conditional_given true x v q = (refl, q)
-conditional_given false x v q = absurd (nothing_there v q)
 
 abbrev zero_by : Modes → PlainType → Bool → PlainExpr
 zero_by m ty b = made m ty (zero_node b)
@@ -167,97 +150,17 @@ module _ (laws : ValueLaws) (k : Known) where
   abbrev IsLeafOf : Option PlainType → t.Assignment → LeafInit → Type 0
   IsLeafOf ty a v = (to : PlainType) × (ty ≡ Some to) × (¬ IsAggregate to) × IsLeaf k to a v
 
-  null_decides : (ty : PlainType) (o : Operand) → Decides (is_null o && is_pointer ty) ((is_null o ≡ true) × IsPointer ty)
-  null_decides ty o = Decides-and (is_null o) (is_pointer ty) (λ e. e, λ e. e) (pointers ty)
-
-  -- whether an item is the null pointer
-  null_as : (ty : Option PlainType) (a : t.Assignment) (to : PlainType) (o : Operand) → scalar_of ty ≡ Some to
-      → used (of_assignment k a) ≡ Some o → item_is_null k ty a ≡ (is_null o && is_pointer to)
-  null_as ty a to o e f = ap (λ z. becomes_null z (used (of_assignment k a))) e ∙ ap (becomes_null (Some to)) f
-
-  result_is : (r : Result ℤ Undefined) (v : LeafInit) → leaf_of_result r ≡ Some v → (n : ℤ) × (r ≡ Ok n) × (Number n ≡ v)
-  result_is (Ok n) v q = (n, refl, inside q)
-  result_is (Err u) v q = absurd (nothing_there v q)
-
-  constant_leaf_is : (ty : PlainType) (a : t.Assignment) (o : Operand) (e : PlainExpr) (v : LeafInit)
-      → is_constant_assignment k a ≡ true → Uses k (term_of_assignment a) o → IsPassed k.modes ty o e
-      → constant_leaf (is_null o && is_pointer ty) e ≡ Some v → IsLeaf k ty a v
-  constant_leaf_is ty a o e v c u p q = by (is_null o && is_pointer ty) (null_decides ty o) q
-    where
-      by : (b : Bool) → Decides b ((is_null o ≡ true) × IsPointer ty) → constant_leaf b e ≡ Some v → IsLeaf k ty a v
-      by true d q =
-          let h = d.0 refl in subst (λ (z : LeafInit). IsLeaf k ty a z) (inside q) (null_leaf c u p h.0 h.1)
-      by false d q =
-          let g = conditional_given (is_constant e) (leaf_of_result (constant e)) v q in
-          let h = result_is (constant e) v g.1 in
-          subst (λ (z : LeafInit). IsLeaf k ty a z) h.2 (number_leaf c u p (λ h. clash (d.1 h) refl) g.0 h.1)
-
-  address_leaf_is : (ty : PlainType) (a : t.Assignment) (o : Operand) (e : PlainExpr) (s : StaticPlace) (v : LeafInit)
-      → is_constant_assignment k a ≡ false → address_constant (in_assignment k a) ≡ Some s
-      → Uses k (term_of_assignment a) o → IsPassed k.modes ty o e
-      → option_map (λ (to : StaticAddress). Address to.object to.offset) s.address ≡ Some v → IsLeaf k ty a v
-  address_leaf_is ty a o e s v c f u p q = by s.address refl q
-    where
-      by : (m : Option StaticAddress) → s.address ≡ m → option_map (λ (to : StaticAddress). Address to.object to.offset) m ≡ Some v
-          → IsLeaf k ty a v
-      by None g q = absurd (nothing_there v q)
-      by (Some to) g q = subst (λ (z : LeafInit). IsLeaf k ty a z) (inside q) (address_leaf c f g u p)
-
-  leaf_in : (ty : Option PlainType) (a : t.Assignment) (v : LeafInit) → item_leaf k (form_of k a) ty a ≡ Some v → IsLeafOf ty a v
-  leaf_in ty a v q = by (is_constant_assignment k a) refl (address_constant (in_assignment k a)) refl q
-    where
-      by : (b : Bool) → is_constant_assignment k a ≡ b → (s : Option StaticPlace) → address_constant (in_assignment k a) ≡ s
-          → item_leaf k (if b then form_of k a_constant else address_form s) ty a ≡ Some v → IsLeafOf ty a v
-      by true c s f q =
-          let g = with_given (item_value k ty a) (leaf_of (form_of k a_constant) (item_is_null k ty a)) v q in
-          let p = passing_is ty a g.0 g.1 in
-          let h = scalar_is ty p.0 p.2 in (
-            p.0,
-            h.0,
-            h.1,
-            constant_leaf_is p.0 a p.1 g.0 v c p.4 p.5 (ap (λ (b : Bool). constant_leaf b g.0) (sym (null_as ty a p.0 p.1 p.2 p.3)) ∙ g.2),
-          )
-      by false c None f q = absurd (nothing_there v q)
-      by false c (Some s) f q =
-          let g = with_given (item_value k ty a) (leaf_of (address_form (Some s)) (item_is_null k ty a)) v q in
-          let p = passing_is ty a g.0 g.1 in
-          let h = scalar_is ty p.0 p.2 in
-          (p.0, h.0, h.1, address_leaf_is p.0 a p.1 g.0 s v c f p.4 p.5 g.2)
-
-  -- the leaf of a form that is known
-  formed : (ty : PlainType) (a : t.Assignment) (b : Bool) (s : Option StaticPlace) → is_constant_assignment k a ≡ b
-      → address_constant (in_assignment k a) ≡ s
-      → item_leaf k (form_of k a) (Some ty) a ≡ item_leaf k (if b then form_of k a_constant else address_form s) (Some ty) a
-  formed ty a b s c f =
-      ap (λ z. item_leaf k (if z then form_of k a_constant else address_form (address_constant (in_assignment k a))) (Some ty) a) c
-      ∙ ap (λ z. item_leaf k (if b then form_of k a_constant else address_form z) (Some ty) a) f
-
-  constant_walked : (ty : PlainType) (a : t.Assignment) (o : Operand) (e : PlainExpr) (v : LeafInit) → is_constant_assignment k a ≡ true
-      → ¬ IsAggregate ty → Uses k (term_of_assignment a) o → IsPassed k.modes ty o e
-      → constant_leaf (is_null o && is_pointer ty) e ≡ Some v → item_leaf k (form_of k a) (Some ty) a ≡ Some v
-  constant_walked ty a o e v c n u p q =
-      formed ty a true (address_constant (in_assignment k a)) c refl
-      ∙ with_granted (item_value k (Some ty) a) (leaf_of (form_of k a_constant) (item_is_null k (Some ty) a)) e v (is_passing ty a o e n u p)
-      (ap (λ (b : Bool). constant_leaf b e) (null_as (Some ty) a ty o (is_scalar ty n) (used_as a o u)) ∙ q)
-
-  leaf_to : (ty : PlainType) (a : t.Assignment) (v : LeafInit) → ¬ IsAggregate ty → IsLeaf k ty a v
-      → item_leaf k (form_of k a) (Some ty) a ≡ Some v
-  leaf_to ty a _ n (null_leaf {e = e} {o = o} c u p z h) =
-      constant_walked ty a o e Null c n u p
-      (ap (λ (b : Bool). constant_leaf b e) ((null_decides ty o).1 (z, h)))
-  leaf_to ty a _ n (number_leaf {e = e} {o = o} {n = m} c u p z h q) =
-      constant_walked ty a o e (Number m) c n u p
-      (ap (λ (b : Bool). constant_leaf b e) (refuted (is_null o && is_pointer ty) (λ e. z ((null_decides ty o).0 e)))
-      ∙ ap (λ (b : Bool). if b then leaf_of_result (constant e) else None) h
-      ∙ ap leaf_of_result q)
-  leaf_to ty a _ n (address_leaf {e = e} {o = o} {s = s} {to = to} c f g u p) =
-      formed ty a false (Some s) c f
-      ∙ with_granted (item_value k (Some ty) a) (leaf_of (address_form (Some s)) (item_is_null k (Some ty) a)) e
-      (Address to.object to.offset) (is_passing ty a o e n u p)
-      (ap (option_map (λ (to : StaticAddress). Address to.object to.offset)) g)
-
   leaf_is : (ty : Option PlainType) (a : t.Assignment) (v : LeafInit) → (item_leaf k (form_of k a) ty a ≡ Some v) ↔ IsLeafOf ty a v
-  leaf_is ty a v = (leaf_in ty a v, λ h. ap (λ z. item_leaf k (form_of k a) z a) h.1 ∙ leaf_to h.0 a v h.2 h.3)
+  leaf_is ty a v =
+      (λ q. placed v ((laws.items.leaves k ty a v).0 q), λ h. (laws.items.leaves k ty a v).1 (subst (λ z. IsInitialValue k z a v) (sym h.1) h.3))
+    where
+      at : (e : PlainExpr) → HasItemValue k ty a e → (v : LeafInit) → IsInitialValue k ty a v → IsLeafOf ty a v
+      at e h v l = (h.to, h.typed, h.whole, subst (λ z. IsInitialValue k z a v) h.typed l)
+
+      placed : (v : LeafInit) → IsInitialValue k ty a v → IsLeafOf ty a v
+      placed _ (a_null {e = e} c h n) = at e h Null (a_null c h n)
+      placed _ (a_number {e = e} {n = n} c h m q s) = at e h (Number n) (a_number c h m q s)
+      placed _ (an_address {e = e} {p = p} n q r h) = at e h (Address p.object p.offset) (an_address n q r h)
 
   static_walk : IsWalk k.structs zero_leaf (λ ty a. item_leaf k (form_of k a) ty a) (λ x ty. static_leaves k x ty)
       (λ ty es i more. with_static_items k ty es i more)

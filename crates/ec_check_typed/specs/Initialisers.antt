@@ -1,25 +1,21 @@
 -- What initialisers give the leaves of an object (ISO/IEC 9899:1999, 6.6 and 6.7.8): each leaf is given by an item, which is
 -- brought to its type, or is zero.
-use Rattle.std.specs.Prelude.{ℕ, ◌+◌, ◌<◌, ◌≡◌, ℤ, pos, true, false, Option, Some, None, Ok, List, [], ◌∷◌, ◌++◌, length, drop, slice_get}
+use Rattle.std.specs.Prelude.{ℕ, ◌+◌, ◌<◌, ◌≡◌, pos, Option, Some, None, List, [], ◌∷◌, ◌++◌, length, drop, slice_get}
 use Rattle.ec_grammar.specs.declared.Spot.{Spot}
 use Rattle.ec_grammar.specs.Trees as t
 use Rattle.ec_core.specs.declared.programs.LeafInit.{LeafInit}
-use Rattle.ec_core.specs.declared.programs.LeafInit.TheVariants.{Number, Null, Address}
+use Rattle.ec_core.specs.declared.programs.LeafInit.TheVariants.{Number, Null}
 use Rattle.ec_core.specs.Layout.{PlainLeaf, leaves_of_type}
 use Rattle.ec_core.specs.Plain.{PlainType, array, struct, PlainMember, PlainStruct, PlainExpr, PlainExprs, last_expr, null, number}
-use Rattle.ec_check_constants.specs.Constants.{constant}
-use Rattle.ec_check_constants.specs.Tests.{is_constant}
 use Rattle.ec_check_operands.specs.declared.operands.Modes.{Modes}
-use Rattle.ec_check_operands.specs.Operands.{Operand, made, is_null}
+use Rattle.ec_check_operands.specs.Operands.{Operand, made}
 use Rattle.ec_check_forms.specs.Constraints.{IsPointer, IsAggregate}
 use Rattle.ec_check_expressions.specs.Callees.{exprs_of}
 use Rattle.ec_check_expressions.specs.Known.{Known}
-use Rattle.ec_check_initialisers.specs.declared.places.StaticAddress.{StaticAddress}
-use Rattle.ec_check_initialisers.specs.Forms.{is_constant_assignment}
-use Rattle.ec_check_initialisers.specs.Places.{StaticPlace, in_assignment, address_constant}
 use Rattle.ec_check_meanings.specs.Conversions.{IsPassed}
 use Rattle.ec_check_meanings.specs.Means.{Uses}
 use Rattle.ec_check_meanings.specs.Terms.{term_of_assignment}
+use Rattle.ec_check_parts.specs.Items.{IsInitialValue}
 
 -- ---- parts
 
@@ -76,17 +72,9 @@ pub data Starts (k : Known) (ty : PlainType) : Option t.Start → PlainExprs →
 
 -- ---- static objects
 
--- an item of a static object, brought to the type of its leaf: the null pointer, the number of a constant expression, or the
--- address of a static place
-pub data IsLeaf (k : Known) (ty : PlainType) (a : t.Assignment) : LeafInit → Type 0 where
-  null_leaf : {e : PlainExpr} {o : Operand} → is_constant_assignment k a ≡ true → Uses k (term_of_assignment a) o
-      → IsPassed k.modes ty o e → is_null o ≡ true → IsPointer ty → IsLeaf k ty a Null
-  number_leaf : {e : PlainExpr} {o : Operand} {n : ℤ} → is_constant_assignment k a ≡ true → Uses k (term_of_assignment a) o
-      → IsPassed k.modes ty o e → ¬ ((is_null o ≡ true) × IsPointer ty) → is_constant e ≡ true → constant e ≡ Ok n
-      → IsLeaf k ty a (Number n)
-  address_leaf : {e : PlainExpr} {o : Operand} {s : StaticPlace} {to : StaticAddress} → is_constant_assignment k a ≡ false
-      → address_constant (in_assignment k a) ≡ Some s → s.address ≡ Some to → Uses k (term_of_assignment a) o
-      → IsPassed k.modes ty o e → IsLeaf k ty a (Address to.object to.offset)
+-- an item of a static object gives a leaf of a type its initial value
+abbrev pub IsLeaf : Known → PlainType → t.Assignment → LeafInit → Type 0
+IsLeaf k ty a leaf = IsInitialValue k (Some ty) a leaf
 
 pub data IsZeroLeaf (ty : PlainType) : LeafInit → Type 0 where
   null_pointer_leaf : IsPointer ty → IsZeroLeaf ty Null

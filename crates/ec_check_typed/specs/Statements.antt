@@ -12,17 +12,16 @@ use Rattle.ec_core.specs.Plain.{branch, while_loop, do_loop, for_loop, break_loo
 use Rattle.ec_core.specs.Plain.{no_stmt, a_stmt, PlainStmts, last_stmt, next_stmt, PlainObject, local}
 use Rattle.ec_check_names.specs.Firsts.{first_specs, first_expression, first_statement}
 use Rattle.ec_check_names.specs.Names.{an_object, with_inside}
-use Rattle.ec_check_names.specs.Specifiers.{specified}
 use Rattle.ec_check_operands.specs.Operands.{Operand, value_type, as_value}
 use Rattle.ec_check_forms.specs.Constraints.{IsScalar, IsStruct}
 use Rattle.ec_check_expressions.specs.Known.{Known}
-use Rattle.ec_check_declarations.specs.Declarators.{object_declared}
 use Rattle.ec_check_declarations.specs.Scopes.{Context, known_in}
 use Rattle.ec_check_statements.specs.Around.{under}
 use Rattle.ec_check_statements.specs.Locals.{first_declarator}
 use Rattle.ec_check_meanings.specs.Conversions.{IsPassed}
 use Rattle.ec_check_meanings.specs.Means.{Means, Uses}
 use Rattle.ec_check_meanings.specs.Terms.{term_of_expression}
+use Rattle.ec_check_parts.specs.Declared.{DeclareObject, IsConst}
 use Rattle.ec_check_parts.specs.Places.{Inside}
 use Rattle.ec_check_typed.specs.Initialisers.{Starts}
 
@@ -89,8 +88,7 @@ local_object w n ty konst =
 pub data IsLocal (w : Enclosing) (c : Context) (ss : t.Specs) (i : Inside) : t.InitDeclarator → PlainStmt → PlainObject → Type 0 where
   one_local : {stars : List t.Star} {at : Spot} {n : List ℕ} {shape : t.Shape} {start : Option t.Start} {ty : PlainType}
       {konst : Bool} {values : PlainExprs} → i.made < 65_536
-      → (object_declared (known_in c i.names) (specified c.tags ss) (t.declarator stars (t.identifier at n) shape) start).ty ≡ Some ty
-      → (object_declared (known_in c i.names) (specified c.tags ss) (t.declarator stars (t.identifier at n) shape) start).konst ≡ konst
+      → DeclareObject (known_in c i.names) ss stars shape start ty → IsConst ss stars konst
       → Starts (known_in c (declaring (local_object w n ty konst ∷ []) i).names) ty start values
       → IsLocal w c ss i (t.init_declarator (t.declarator stars (t.identifier at n) shape) start)
       (statement w.unit (first_declarator (t.declarator stars (t.identifier at n) shape)) (declare i.made values))

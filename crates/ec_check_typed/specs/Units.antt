@@ -1,9 +1,10 @@
 -- What units add to the program (ISO/IEC 9899:1999, 6.7 and 6.9; named registers: ISO/IEC TR 18037:2008, 5.2.2), and the program
 -- of all units: a relation between trees and programs. Structs, objects and functions stand in the order of the tokens of what
 -- defines them, each with the number of those before it.
-use Rattle.std.specs.Prelude.{ℕ, ◌+◌, ◌<◌, ◌≡◌, ◌⊎◌, ⊤, Bool, true, false, Option, Some, None, List, [], ◌∷◌, ◌++◌, length}
+use Rattle.std.specs.Prelude.{ℕ, ◌+◌, ◌<◌, ◌≡◌, ◌⊎◌, ⊤, Bool, true, false, Option, Some, List, [], ◌∷◌, ◌++◌, length}
 use Rattle.ec_iohw.specs.declared.table.IoTable.{IoTable}
 use Rattle.ec_space.specs.declared.space.Home.TheVariants.{Data as DataHome}
+use Rattle.ec_space.specs.declared.space.SpaceId.{SpaceId}
 use Rattle.ec_space.specs.declared.space.SpaceId.TheVariants.{Generic}
 use Rattle.ec_grammar.specs.declared.Pragma.{Pragma}
 use Rattle.ec_grammar.specs.declared.Spot.{Spot}
@@ -11,21 +12,22 @@ use Rattle.ec_grammar.specs.Trees as t
 use Rattle.ec_core.specs.declared.programs.LeafInit.{LeafInit}
 use Rattle.ec_core.specs.Plain.{PlainType, PlainStruct, PlainStmt, PlainObject, static, register, param, PlainFunction, PlainProgram}
 use Rattle.ec_check_names.specs.declared.linkage.Linkage.{Linkage}
-use Rattle.ec_check_names.specs.declared.linkage.Linkage.TheVariants.{External}
 use Rattle.ec_check_names.specs.declared.specifiers.StorageWord.{StorageWord}
 use Rattle.ec_check_names.specs.declared.specifiers.StorageWord.TheVariants.{Extern}
 use Rattle.ec_check_names.specs.Counts.{is_function}
-use Rattle.ec_check_names.specs.Definitions.{Definition, definitions, number_of}
-use Rattle.ec_check_declarations.specs.Declarators.{ObjectDeclared}
-use Rattle.ec_check_declarations.specs.Params.{ParamDeclared}
-use Rattle.ec_check_declarations.specs.Structures.{struct_defined}
+use Rattle.ec_check_names.specs.Definitions.{Definition, definitions}
+use Rattle.ec_check_names.specs.Tags.{Tags}
 use Rattle.ec_check_file_scope.specs.FileNames.{is_external, is_registered}
 use Rattle.ec_check_file_scope.specs.FileObjects.{home_of}
 use Rattle.ec_check_file_scope.specs.States.{Setting}
-use Rattle.ec_check_parts.specs.FileNames.{main}
+use Rattle.ec_check_parts.specs.Declared.{DeclareObject, IsConst, IsInSpace, DeclareParam, DeclareResult, DeclareRegister}
+use Rattle.ec_check_parts.specs.Functions.{params_in}
+use Rattle.ec_check_parts.specs.Linkages.{HasLinkage}
+use Rattle.ec_check_parts.specs.Mains.{IsMain}
 use Rattle.ec_check_parts.specs.Places.{Inside}
-use Rattle.ec_check_parts.specs.Units.{Outside, context_at, known_at, word_in, link_in, object_at, behind_name, function_at}
-use Rattle.ec_check_parts.specs.Units.{behind_function, inside_at, behind_declarator, register_at, behind_external, unit_begins}
+use Rattle.ec_check_parts.specs.Structures.{DeclareStruct}
+use Rattle.ec_check_parts.specs.Units.{Outside, context_at, known_at, word_in, object_at, behind_name, function_at}
+use Rattle.ec_check_parts.specs.Units.{behind_function, inside_at, behind_declarator, behind_external, unit_begins}
 use Rattle.ec_check_parts.specs.Units.{behind_unit, nothing_known, setting_in}
 use Rattle.ec_check_typed.specs.Initialisers.{StartsStatic}
 use Rattle.ec_check_typed.specs.Statements.{declaring, local_object, others, IsBody}
@@ -72,16 +74,16 @@ IsExtern (Some Extern) = ⊤
 IsExtern word = ⊥
 
 -- an object with static storage, as its declarator says, with these initial values
-abbrev pub static_object : Setting → List ℕ → Linkage → ObjectDeclared → PlainType → List LeafInit → PlainObject
-static_object r n linkage x ty leaves =
+abbrev pub static_object : Setting → List ℕ → Linkage → PlainType → (konst : Bool) → SpaceId → List LeafInit → PlainObject
+static_object r n linkage ty konst space leaves =
     record {
       name = n;
       unit = r.unit;
       external = is_external linkage;
       ty = ty;
-      space = x.space;
-      home = home_of x.space;
-      const = x.konst;
+      space = space;
+      home = home_of space;
+      const = konst;
       storage = static leaves;
     }
 
@@ -92,13 +94,14 @@ pub data IsObject (r : Setting) (o : Outside) (ss : t.Specs) : t.InitDeclarator 
       → IsObject r o ss (t.init_declarator (t.declarator stars n (t.function_shape l ps e)) start) []
   declared_only : {stars : List t.Star} {n : t.Identifier} {shape : t.Shape} {start : Option t.Start} → is_function shape ≡ false
       → IsExtern (word_in ss) → IsObject r o ss (t.init_declarator (t.declarator stars n shape) start) []
-  defined : {stars : List t.Star} {at : Spot} {n : List ℕ} {shape : t.Shape} {start : Option t.Start} {ty : PlainType}
-      {leaves : List LeafInit} → is_function shape ≡ false → ¬ IsExtern (word_in ss) → o.made < 65_536
-      → (object_at r ss (t.declarator stars (t.identifier at n) shape) start o).ty ≡ Some ty
+  defined : {stars : List t.Star} {at : Spot} {n : List ℕ} {shape : t.Shape} {start : Option t.Start} {linkage : Linkage}
+      {ty : PlainType} {konst : Bool} {space : SpaceId} {leaves : List LeafInit} → is_function shape ≡ false → ¬ IsExtern (word_in ss)
+      → o.made < 65_536 → HasLinkage n r.unit o.declared (word_in ss) false linkage
+      → DeclareObject (known_at r o) ss stars shape start ty → IsConst ss stars konst → IsInSpace ss stars space
       → StartsStatic (known_at r (behind_name r ss n (object_at r ss (t.declarator stars (t.identifier at n) shape) start o) o)) ty start
       leaves
       → IsObject r o ss (t.init_declarator (t.declarator stars (t.identifier at n) shape) start)
-      (static_object r n (link_in r ss false n o) (object_at r ss (t.declarator stars (t.identifier at n) shape) start o) ty leaves ∷ [])
+      (static_object r n linkage ty konst space leaves ∷ [])
 
 -- some declarators, each behind those before it
 pub data AreObjects (r : Setting) : Outside → t.Specs → List t.InitDeclarator → List PlainObject → Type 0 where
@@ -125,12 +128,10 @@ register_object r n konst first ty =
 pub data IsRegister (r : Setting) (o : Outside) : t.RegisterObject → List PlainObject → Type 0 where
   declared_before : {w e : Spot} {reg : t.Identifier} {at : Spot} {name : List ℕ} {ss : t.Specs} → is_registered name o.declared ≡ true
       → IsRegister r o (t.register_object w reg ss (t.identifier at name) e) []
-  first_declared : {w e : Spot} {reg : t.Identifier} {at : Spot} {name : List ℕ} {ss : t.Specs} {first : ℕ} {ty : PlainType}
-      → is_registered name o.declared ≡ false → o.made < 65_536
-      → (register_at r (t.register_object w reg ss (t.identifier at name) e) o).first ≡ Some first
-      → (register_at r (t.register_object w reg ss (t.identifier at name) e) o).ty ≡ Some ty
-      → IsRegister r o (t.register_object w reg ss (t.identifier at name) e)
-      (register_object r name (register_at r (t.register_object w reg ss (t.identifier at name) e) o).konst first ty ∷ [])
+  first_declared : {w e reg_at at : Spot} {reg name : List ℕ} {ss : t.Specs} {konst : Bool} {first : ℕ} {ty : PlainType}
+      → is_registered name o.declared ≡ false → o.made < 65_536 → DeclareRegister (known_at r o) reg ss first ty → IsConst ss [] konst
+      → IsRegister r o (t.register_object w (t.identifier reg_at reg) ss (t.identifier at name) e)
+      (register_object r name konst first ty ∷ [])
 
 -- ---- structs
 
@@ -141,9 +142,9 @@ IsAmong s (x ∷ xs) = (s ≡ x) ⊎ IsAmong s xs
 -- The struct of a definition, which stands at the first of all definitions with its tag and its members (6.2.7). A definition
 -- that breaks a constraint adds none.
 pub data IsStruct (r : Setting) (o : Outside) (d : t.Structure) : List PlainStruct → Type 0 where
-  first_defined : {s : PlainStruct} → struct_defined (known_at r o) d ≡ Some s → ¬ IsAmong s o.structs → IsStruct r o d (s ∷ [])
-  defined_before : {s : PlainStruct} → struct_defined (known_at r o) d ≡ Some s → IsAmong s o.structs → IsStruct r o d []
-  not_defined : struct_defined (known_at r o) d ≡ None → IsStruct r o d []
+  first_defined : {s : PlainStruct} → DeclareStruct (known_at r o) d s → ¬ IsAmong s o.structs → IsStruct r o d (s ∷ [])
+  defined_before : {s : PlainStruct} → DeclareStruct (known_at r o) d s → IsAmong s o.structs → IsStruct r o d []
+  not_defined : ((s : PlainStruct) → ¬ DeclareStruct (known_at r o) d s) → IsStruct r o d []
 
 -- ---- functions
 
@@ -153,21 +154,23 @@ param_object unit function n ty konst =
     record (local_object (record { unit = unit; function = function; result = ty }) n ty konst) { storage = param function }
 
 -- the objects of parameters and their numbers, in order, each behind those before it
-pub data AreParams (unit function : ℕ) : Inside → List ParamDeclared → List ℕ → List PlainObject → Type 0 where
-  no_param : {i : Inside} → AreParams unit function i [] [] []
-  more_params : {i : Inside} {p : ParamDeclared} {ps : List ParamDeclared} {n : List ℕ} {ty : PlainType} {ns : List ℕ}
-      {os : List PlainObject} → p.name ≡ Some n → p.ty ≡ Some ty → i.made < 65_536
-      → AreParams unit function (declaring (param_object unit function n ty p.konst ∷ []) i) ps ns os
-      → AreParams unit function i (p ∷ ps) (i.made ∷ ns) (param_object unit function n ty p.konst ∷ os)
+pub data AreParams (tags : Tags) (structs unit function : ℕ) : Inside → List t.Param → List ℕ → List PlainObject → Type 0 where
+  no_param : {i : Inside} → AreParams tags structs unit function i [] [] []
+  more_params : {i : Inside} {ss : t.Specs} {stars : List t.Star} {at : Spot} {n : List ℕ} {ps : List t.Param} {ty : PlainType}
+      {konst : Bool} {ns : List ℕ} {os : List PlainObject} → DeclareParam tags structs ss stars ty → IsConst ss stars konst
+      → i.made < 65_536
+      → AreParams tags structs unit function (declaring (param_object unit function n ty konst ∷ []) i) ps ns os
+      → AreParams tags structs unit function i (t.param (t.type_name ss stars) (Some (t.identifier at n)) ∷ ps) (i.made ∷ ns)
+      (param_object unit function n ty konst ∷ os)
 
 -- A definition of a function, whose number is that of the functions before it: its name is known in its body, and its parameters
 -- there alone (6.9.1).
 pub data IsFunction (r : Setting) (p : Place) : t.Function → PlainFunction → List PlainObject → Type 0 where
   a_function : {ss : t.Specs} {stars : List t.Star} {at l e : Spot} {n : List ℕ} {ps : t.Params} {b : t.Compound} {returns : PlainType}
       {ns : List ℕ} {os us : List PlainObject} {body : PlainStmt} → p.functions < 65_536
-      → (function_at ss stars ps p.known).returns ≡ Some returns
-      → AreParams r.unit p.functions (inside_at (behind_function r ss n true (function_at ss stars ps p.known) p.known))
-      (function_at ss stars ps p.known).params ns os
+      → DeclareResult p.known.tags (length p.known.structs) ss stars returns
+      → AreParams p.known.tags (length p.known.structs) r.unit p.functions
+      (inside_at (behind_function r ss n true (function_at ss stars ps p.known) p.known)) (params_in ps) ns os
       → IsBody (record { unit = r.unit; function = p.functions; result = returns })
       (context_at r (behind_function r ss n true (function_at ss stars ps p.known) p.known))
       (declaring os (inside_at (behind_function r ss n true (function_at ss stars ps p.known) p.known))) b body us
@@ -213,5 +216,5 @@ first_place = record { known = nothing_known; functions = 0 }
 -- The program is that of the units: it has what they add, and begins with the function of the name `main` that a unit defines.
 pub data Typed (us : List t.Tree) (io : IoTable) : PlainProgram → Type 0 where
   typed : {a : Added} {start : ℕ} → UnitsAdd (definitions us) io 0 first_place us a
-      → number_of main 0 External true (definitions us) ≡ Some start
+      → IsMain (definitions us) start
       → Typed us io (record { structs = a.structs; objects = a.objects; functions = a.functions; main = start })

@@ -3,7 +3,10 @@ ghost use Rattle.ec_check_typed.specs.Laws.{InitialisersAreSaid, StatementsAreSa
 
 use ec_check_meanings::walk_gives_meanings;
 use ec_check_names::{blocks_end, equal_structs_are_one};
-use ec_check_parts::file_scope_is_judged;
+use ec_check_parts::{
+    declarators_are_said, file_scope_is_judged, items_have_values, linkages_are_found,
+    structs_are_declared,
+};
 use ec_core::types_are_told;
 
 /// An initialiser gives an object's leaves their values, by the relation, exactly where the walk over initialisers gives
@@ -13,6 +16,7 @@ pub fn initialisers_are_said()
 {
     types_are_told();
     walk_gives_meanings();
+    items_have_values();
 }
 
 /// A statement, and the body of a function, are statements of the program and declare objects, by the relation, exactly where
@@ -23,6 +27,8 @@ pub fn statements_are_said()
     types_are_told();
     walk_gives_meanings();
     blocks_end();
+    items_have_values();
+    declarators_are_said();
     initialisers_are_said();
 }
 
@@ -32,6 +38,9 @@ pub fn file_scope_is_said()
     ensures { FileScopeIsSaid }
 {
     initialisers_are_said();
+    declarators_are_said();
+    linkages_are_found();
+    structs_are_declared();
     file_scope_is_judged();
     equal_structs_are_one();
 }

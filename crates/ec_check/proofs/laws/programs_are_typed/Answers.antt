@@ -12,4 +12,6 @@ returns c =
       scopes = c.scopes_end.ensures;
       blocks = c.blocks_end.ensures;
     })
-    c.file_scope_is_said.ensures c.statements_are_said.ensures c.the_least_is_found.ensures c.programs_exist.ensures
+    c.file_scope_is_said.ensures
+    (record { statements = c.statements_are_said.ensures; declarators = c.declarators_are_said.ensures })
+    c.the_least_is_found.ensures c.programs_exist.ensures

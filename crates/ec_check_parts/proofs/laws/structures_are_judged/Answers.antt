@@ -10,3 +10,4 @@ returns c =
       constraints = c.constraints_are_told.ensures;
       types = c.types_are_told.ensures;
     })
+    c.the_least_is_told.ensures

@@ -5,7 +5,7 @@ pub returns : goal.returns
 returns c =
     statements_are_said
     (record {
-      values = record { told = c.types_are_told.ensures; meanings = c.walk_gives_meanings.ensures };
-      initialisers = c.initialisers_are_said.ensures;
+      values = record { told = c.types_are_told.ensures; meanings = c.walk_gives_meanings.ensures; items = c.items_have_values.ensures };
+      locals = record { initialisers = c.initialisers_are_said.ensures; declarators = c.declarators_are_said.ensures };
       ends = c.blocks_end.ensures;
     })

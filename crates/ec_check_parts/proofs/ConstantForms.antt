@@ -1,10 +1,9 @@
 -- The form of a constant expression is told exactly where an expression is one.
-use Rattle.std.proofs.Common.{◌≡◌, ℕ, Bool, true, false, not, ◌&&◌, refl, sym, subst}
+use Rattle.std.proofs.Common.{◌≡◌, ℕ, Bool, true, false, not, ◌&&◌, refl, subst}
 use Rattle.std.specs.Prelude.{Option, Some, None}
 use Rattle.std.specs.Bool.{Decides}
 use Rattle.std.proofs.lemmas.Bool.{false≢true}
 use Rattle.std.proofs.lemmas.Bool.Decides.{Decides-and, Decides-like, Decides-not}
-use Rattle.ec_grammar.specs.declared.Spot.{Spot}
 use Rattle.ec_grammar.specs.declared.token.PunctKind.{PunctKind}
 use Rattle.ec_grammar.specs.declared.token.PunctKind.TheVariants as p
 use Rattle.ec_grammar.specs.Trees as t
@@ -21,7 +20,8 @@ use Rattle.ec_check_initialisers.specs.Forms.{is_value_operator, is_pointer_oper
 use Rattle.ec_check_meanings.specs.Laws.{WalkGivesMeanings}
 use Rattle.ec_check_meanings.specs.Terms as term
 use Rattle.ec_check_meanings.specs.Terms.{Term, joined_term, stored_term}
-use Rattle.ec_check_tokens.specs.ConstantForms.{IsValueOperator, MeansPointer, IsConstantTerm, ConstantsAreTold}
+use Rattle.ec_check_parts.specs.ConstantForms.{IsValueOperator, MeansPointer, IsConstantTerm}
+use Rattle.ec_check_parts.specs.Said.{ConstantsAreTold}
 
 yes : {P : Type 0} → P → Decides true P
 yes p = (λ e. p, λ h. refl)

@@ -1,5 +1,5 @@
--- Initial values of static objects (ISO/IEC 9899:1999, 6.6 and 6.7.8).
-use Rattle.std.specs.Prelude.{◌≡◌, ◌↔◌, true, ℤ, Option, Some, Ok}
+-- Items of initialisers, and initial values of static objects, in words (ISO/IEC 9899:1999, 6.6 and 6.7.8).
+use Rattle.std.specs.Prelude.{◌≡◌, true, ℤ, Option, Some, Ok}
 use Rattle.ec_grammar.specs.Trees as t
 use Rattle.ec_core.specs.declared.programs.LeafInit.{LeafInit}
 use Rattle.ec_core.specs.declared.programs.LeafInit.TheVariants.{Number, Null, Address}
@@ -10,12 +10,12 @@ use Rattle.ec_check_operands.specs.Operands.{Operand, is_null}
 use Rattle.ec_check_forms.specs.Constraints.{IsPointer, IsAggregate}
 use Rattle.ec_check_expressions.specs.Known.{Known}
 use Rattle.ec_check_initialisers.specs.declared.places.StaticAddress.{StaticAddress}
-use Rattle.ec_check_initialisers.specs.Places.{StaticPlace, in_assignment, address_constant, form_of}
-use Rattle.ec_check_initialisers.specs.Statics.{item_value, item_leaf}
+use Rattle.ec_check_initialisers.specs.Places.{StaticPlace}
 use Rattle.ec_check_meanings.specs.Conversions.{IsPassed}
 use Rattle.ec_check_meanings.specs.Means.{Uses}
 use Rattle.ec_check_meanings.specs.Terms.{term_of_assignment}
-use Rattle.ec_check_tokens.specs.ConstantForms.{IsConstantTerm}
+use Rattle.ec_check_parts.specs.Addresses.{IsAddressConstant}
+use Rattle.ec_check_parts.specs.ConstantForms.{IsConstantTerm}
 
 -- what an item means in its place, that of an object or a part of a type: its value, which is converted to the type as if by
 -- assignment (6.7.8, 11)
@@ -38,12 +38,5 @@ pub data IsInitialValue (k : Known) (ty : Option PlainType) (a : t.Assignment) :
   a_number : {e : PlainExpr} {n : ℤ} → IsConstantTerm k (term_of_assignment a) → (h : HasItemValue k ty a e)
       → ¬ BecomesNull h.operand h.to → is_constant e ≡ true → constant e ≡ Ok n → IsInitialValue k ty a (Number n)
   an_address : {e : PlainExpr} {s : StaticPlace} {p : StaticAddress} → ¬ IsConstantTerm k (term_of_assignment a)
-      → address_constant (in_assignment k a) ≡ Some s → s.address ≡ Some p → HasItemValue k ty a e
+      → IsAddressConstant k (term_of_assignment a) s → s.address ≡ Some p → HasItemValue k ty a e
       → IsInitialValue k ty a (Address p.object p.offset)
-
--- the values of items are these, and so are the initial values that the walk gives
-pub record ItemsHaveValues : Type 0 where
-  pub values : (k : Known) (ty : Option PlainType) (a : t.Assignment) (e : PlainExpr)
-      → item_value k ty a ≡ Some e ↔ HasItemValue k ty a e
-  pub leaves : (k : Known) (ty : Option PlainType) (a : t.Assignment) (leaf : LeafInit)
-      → item_leaf k (form_of k a) ty a ≡ Some leaf ↔ IsInitialValue k ty a leaf

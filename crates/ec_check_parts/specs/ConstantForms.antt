@@ -1,16 +1,13 @@
--- Constant expressions (ISO/IEC 9899:1999, 6.6): constants, `sizeof`, casts, unary `+ - ~ !`, binary operators, `&&`, `||` and `?:`,
--- in parentheses or not; and none of their casts gives a pointer.
-use Rattle.std.specs.Prelude.{◌≡◌, ◌↔◌, ⊤, true}
-use Rattle.ec_grammar.specs.Trees as t
+-- Constant expressions, in words (ISO/IEC 9899:1999, 6.6): constants, `sizeof`, casts, unary `+ - ~ !`, binary operators, `&&`, `||` and
+-- `?:`, in parentheses or not; and none of their casts gives a pointer.
+use Rattle.std.specs.Prelude.{⊤}
 use Rattle.ec_check_operands.specs.Operands.{Operand, value_type}
 use Rattle.ec_check_forms.specs.declared.prefixes.PrefixOp.{PrefixOp}
 use Rattle.ec_check_forms.specs.declared.prefixes.PrefixOp.TheVariants.{Plus, Minus, Invert, Not}
 use Rattle.ec_check_forms.specs.Constraints.{IsPointer}
 use Rattle.ec_check_expressions.specs.Known.{Known}
-use Rattle.ec_check_initialisers.specs.Forms.{is_constant_expression, is_constant_assignment, is_constant_conditional}
 use Rattle.ec_check_meanings.specs.Means.{Means}
 use Rattle.ec_check_meanings.specs.Terms.{Term, constant, size, parenthesised, prefixed, cast, binary, logical, choice}
-use Rattle.ec_check_meanings.specs.Terms.{term_of_expression, term_of_assignment, term_of_conditional}
 
 -- the operators on values, which `&` and `*` are not
 abbrev pub IsValueOperator : PrefixOp → Type 0
@@ -33,12 +30,3 @@ IsConstantTerm k (binary x at op y) = IsConstantTerm k x × IsConstantTerm k y
 IsConstantTerm k (logical x at both y) = IsConstantTerm k x × IsConstantTerm k y
 IsConstantTerm k (choice c at x y) = IsConstantTerm k c × IsConstantTerm k x × IsConstantTerm k y
 IsConstantTerm k other = ⊥
-
--- what is looked into as a constant expression, of a size or of a static initialiser, is one
-pub record ConstantsAreFound (k : Known) : Type 0 where
-  pub expressions : (x : t.Expression) → is_constant_expression k x ≡ true ↔ IsConstantTerm k (term_of_expression x)
-  pub assignments : (x : t.Assignment) → is_constant_assignment k x ≡ true ↔ IsConstantTerm k (term_of_assignment x)
-  pub conditionals : (x : t.Conditional) → is_constant_conditional k x ≡ true ↔ IsConstantTerm k (term_of_conditional x)
-
-abbrev pub ConstantsAreTold : Type 0
-ConstantsAreTold = (k : Known) → ConstantsAreFound k

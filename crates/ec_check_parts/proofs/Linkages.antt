@@ -1,20 +1,20 @@
 -- The linkage of the walk is that of the declaration.
-use Rattle.std.proofs.Common.{◌≡◌, ◌∙◌, ℕ, Bool, true, false, ◌&&◌, List, [], ◌∷◌, refl, sym, ap, subst, inl, inr}
-use Rattle.std.specs.Prelude.{◌⊎◌, ◌↔◌, ◌==◌, if◌then◌else◌, unwrap_or, Option, Some, None}
+use Rattle.std.proofs.Common.{◌≡◌, ℕ, Bool, true, false, ◌&&◌, List, [], ◌∷◌, refl, subst}
+use Rattle.std.specs.Prelude.{◌==◌, if◌then◌else◌, unwrap_or, Option, Some, None}
 use Rattle.std.specs.Bool.{Decides}
 use Rattle.std.specs.Str.{bytes_eq}
 use Rattle.std.proofs.lemmas.Bool.{false≢true}
 use Rattle.std.proofs.lemmas.Bool.Decides.{Decides-and, Decides-eqb}
 use Rattle.std.proofs.lemmas.Slice.Eq.{bytes_eq-Decides}
 use Rattle.ec_check_names.specs.declared.linkage.Linkage.{Linkage}
-use Rattle.ec_check_names.specs.declared.linkage.Linkage.TheVariants.{Internal, External}
+use Rattle.ec_check_names.specs.declared.linkage.Linkage.TheVariants.{External}
 use Rattle.ec_check_names.specs.declared.specifiers.StorageWord.{StorageWord}
 use Rattle.ec_check_names.specs.declared.specifiers.StorageWord.TheVariants.{Extern, Static}
 use Rattle.ec_check_names.specs.Linkage.{linkage_of}
 use Rattle.ec_check_file_scope.specs.FileNames.{FileName, link_from, earlier_link}
-use Rattle.ec_check_tokens.specs.Linkages.{Declares, NoneDeclares, IsPrior, last, later, HasLinkage, static, as_before, first}
-use Rattle.ec_check_tokens.specs.Linkages.{as_extern, object}
-use Rattle.ec_check_tokens.specs.Linkages.{LinkagesAreFound}
+use Rattle.ec_check_parts.specs.Linkages.{Declares, NoneDeclares, IsPrior, last, later, HasLinkage, static, as_before, first}
+use Rattle.ec_check_parts.specs.Linkages.{as_extern, object}
+use Rattle.ec_check_parts.specs.Linkages.{LinkagesAreFound}
 
 module _ (n : List ℕ) (unit : ℕ) where
   declared_told : (d : FileName) → Decides (bytes_eq d.name n && d.unit == unit) (Declares n unit d)

@@ -1,5 +1,0 @@
-use Rattle.ec_check_tokens.proofs.Linkages.{linkages_are_found}
-use Rattle.ec_check_tokens.proofs.laws.linkages_are_found.Goals as goal
-
-pub returns : goal.returns
-returns c = linkages_are_found
