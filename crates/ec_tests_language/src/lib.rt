@@ -10,6 +10,8 @@ mod commands;
 #[cfg(test)]
 mod expressions;
 #[cfg(test)]
+mod far;
+#[cfg(test)]
 mod generated;
 #[cfg(test)]
 mod lex;

@@ -1,11 +1,11 @@
 //! What no clause says: that calls succeed where memory suffices, and which token is told.
 use ec_fx::FxKind;
 use ec_grammar::{GroupOp, IoOp, PragmaKind, PragmaState, PunctKind, Token, TokenKind, WordKind};
-use ec_parse::{ParseStop, discard_tree, parse};
+use ec_parse::{ParseStop, Tree, discard_tree, parse};
 use ec_space::{NoMemory, Seq};
 use std::alloc::Global;
 
-static WORDS: [(&str, WordKind); 24] = [
+static WORDS: [(&str, WordKind); 26] = [
     ("break", WordKind::Break),
     ("char", WordKind::Char),
     ("const", WordKind::Const),
@@ -29,6 +29,8 @@ static WORDS: [(&str, WordKind); 24] = [
     ("_Fract", WordKind::Fract),
     ("_Sat", WordKind::Sat),
     ("__flash", WordKind::Flash),
+    ("__farflash", WordKind::FarFlash),
+    ("__data", WordKind::Data),
     ("uint8_t", WordKind::Uint8),
 ];
 
@@ -98,14 +100,25 @@ fn punct_of(text: &str) -> Option<PunctKind> {
     None
 }
 
-/// The name or the constant that is written so.
-fn other_kind(alloc: Global, text: &str) -> Result<TokenKind, NoMemory> {
-    match text {
-        "1" => Ok(TokenKind::Whole {
-            value: 1,
+/// The constant of type int or the name that is written so.
+fn number_or_name(alloc: Global, text: &str) -> Result<TokenKind, NoMemory> {
+    match text.parse::<u16>() {
+        Ok(value) => Ok(TokenKind::Whole {
+            value: value as u32,
             signed: true,
             bytes: 2,
         }),
+        Err(_) => {
+            let mut name = Seq::new(alloc);
+            name.extend_from_slice(text.as_bytes())?;
+            Ok(TokenKind::Name(name))
+        }
+    }
+}
+
+/// The name or the constant that is written so.
+fn other_kind(alloc: Global, text: &str) -> Result<TokenKind, NoMemory> {
+    match text {
         "0.5r" => Ok(TokenKind::FixedConst {
             kind: FxKind::Fract,
             n: 16384,
@@ -117,11 +130,7 @@ fn other_kind(alloc: Global, text: &str) -> Result<TokenKind, NoMemory> {
             state: PragmaState::Sat,
         }),
         "goto" => Ok(TokenKind::Reserved),
-        _ => {
-            let mut name = Seq::new(alloc);
-            name.extend_from_slice(text.as_bytes())?;
-            Ok(TokenKind::Name(name))
-        }
+        _ => number_or_name(alloc, text),
     }
 }
 
@@ -149,20 +158,21 @@ fn add(alloc: Global, tokens: &mut Seq<Token>, text: &str, times: u32) -> Result
     Ok(())
 }
 
-/// Whether the tokens and the end have a tree, or why not. A list of 100,000 tokens or more is no test.
-fn parsed(alloc: Global, tokens: &mut Seq<Token>) -> Result<Result<(), ParseStop>, NoMemory> {
+/// The tree of the tokens and the end, or why there is none. A list of 100,000 tokens or more is no test.
+fn parsed(alloc: Global, tokens: &mut Seq<Token>) -> Result<Result<Tree, ParseStop>, NoMemory> {
     let kind = TokenKind::End;
     tokens.push(Token { at: 7, kind })?;
     if tokens.len() >= 100_000 {
         return Err(NoMemory);
     }
-    match parse(alloc, tokens) {
-        Ok(tree) => {
-            discard_tree(tree);
-            Ok(Ok(()))
-        }
-        Err(stop) => Ok(Err(stop)),
-    }
+    Ok(parse(alloc, tokens))
+}
+
+/// The tree of a text in which blanks stand between the tokens.
+pub fn tree_of(alloc: Global, text: &str) -> Result<Result<Tree, ParseStop>, NoMemory> {
+    let mut tokens = Seq::new(alloc);
+    add(alloc, &mut tokens, text, 1)?;
+    parsed(alloc, &mut tokens)
 }
 
 /// A text, and how often it stands.
@@ -174,7 +184,13 @@ fn read(alloc: Global, pieces: &[Piece]) -> Result<Result<(), ParseStop>, NoMemo
     for &(text, times) in pieces {
         add(alloc, &mut tokens, text, times)?;
     }
-    parsed(alloc, &mut tokens)
+    match parsed(alloc, &mut tokens)? {
+        Ok(tree) => {
+            discard_tree(tree);
+            Ok(Ok(()))
+        }
+        Err(stop) => Ok(Err(stop)),
+    }
 }
 
 /// Whether that is told of the pieces.
@@ -186,10 +202,11 @@ fn is(alloc: Global, pieces: &[Piece], want: Result<(), ParseStop>) -> bool {
 }
 
 /// Units with each production.
-static READ: [&str; 23] = [
+static READ: [&str; 24] = [
     "#pragma",
     "int a ;",
     "extern static const __flash _Sat short _Fract a , * const b , * * c ;",
+    "const __farflash int a , * __farflash const b ; int f ( const __farflash int * a ) ;",
     "struct s a = 1 , b = { 1 , { a } , 1 } , c [ 1 ] = { 1 , } , d [ ] = { 1 } ;",
     "int f ( void ) , g ( int , struct s * a , void * ) ;",
     "struct s { int a ; char * b , c [ 1 ] ; struct t d ; } ;",

@@ -3,12 +3,14 @@ ghost use Rattle.std.specs.Prelude.{◌<◌, ◌^◌, All, IfOk, length};
 ghost use Rattle.ec_interp.specs.Views.{HasLayouts};
 ghost use Rattle.ec_iohw.specs.Valid.{ValidIo};
 
+use crate::parse::tree_of;
 use crate::units::sources_of;
 use crate::{expressions, runs};
 use ec_check::{CheckStop, check, discard};
 use ec_core::Program;
 use ec_iohw::IoTable;
 use ec_map::{Map, MapStop, read_map};
+use ec_parse::append;
 use ec_parse_sources::{Tree, units_of};
 use ec_space::Seq;
 use std::alloc::{AllocError, Global};
@@ -97,7 +99,7 @@ fn of_program(alloc: Global, what: Shown, program: &Program, io: &IoTable) -> To
 fn of_stop(alloc: Global, what: Shown, stop: &CheckStop) -> Told {
     match what {
         Shown::Statement => expressions::of_stop(alloc, stop),
-        Shown::Run | Shown::Ports(..) => Err(AllocError),
+        Shown::Run | Shown::Ports(..) => runs::of_stop(alloc, stop),
     }
 }
 
@@ -114,6 +116,31 @@ fn of_units(alloc: Global, what: Shown, units: &Seq<Tree>, io: &IoTable) -> Told
             told
         }
         Err(stop) => of_stop(alloc, what, &stop),
+    }
+}
+
+/// What is told of a tree.
+fn of_tree(alloc: Global, what: Shown, tree: Tree, io: &IoTable) -> Told
+    requires { ValidIo io.now }
+{
+    let mut units = Seq::new(alloc);
+    match append(&mut units, tree) {
+        Ok(()) => {
+            let told = of_units(alloc, what, &units, io);
+            ec_parse_sources::discard(units);
+            told
+        }
+        Err(_) => Err(AllocError),
+    }
+}
+
+/// Whether this is told of a text in which blanks stand between the tokens.
+pub fn is_told_of_tokens(alloc: Global, what: Shown, text: &str, io: &IoTable, want: &str) -> bool
+    requires { ValidIo io.now }
+{
+    match tree_of(alloc, text) {
+        Ok(Ok(tree)) => is(of_tree(alloc, what, tree, io), want),
+        Ok(Err(_)) | Err(_) => false,
     }
 }
 

@@ -6,6 +6,7 @@ ghost use Rattle.ec_interp.specs.Views.{HasLayouts};
 ghost use Rattle.ec_iohw.specs.Valid.{ValidIo};
 
 use crate::rows::{Inputs, Row, Shown, Told as Words, compare, is_told, map};
+use ec_check::CheckStop;
 use ec_core::Program;
 use ec_interp::{Behaviour, Event, PortInput, Run, Told, interpret};
 use ec_iohw::IoTable;
@@ -523,6 +524,14 @@ fn run(
             Err(_) => Err(AllocError),
         },
         Err(_) => Err(AllocError),
+    }
+}
+
+/// The constraint that a program breaks, and the token at which it is told.
+pub fn of_stop(alloc: Global, stop: &CheckStop) -> Words {
+    match stop {
+        CheckStop::Constraint { token, rule, .. } => format!(in alloc; "{rule} at {token}"),
+        _ => Err(AllocError),
     }
 }
 
