@@ -70,7 +70,7 @@ module _ (m n : Map) (same : SameMaps m n) where
   layout_same p frames =
       let rows = rows_of_program p in
       λ j. record {
-        places = places_from (same.regions_same j).tables.first (same.regions_same j).vars.first
+        places = places_from (same.regions_same j).tables.first (same.regions_same j).far.first (same.regions_same j).vars.first
             (λ f i. (same.regions_same j).vars.first + data_sizes (entries_same p j)
             + object_at rows (map owned_of (entries_same p j)) f i)
             0 (entries_same p j);

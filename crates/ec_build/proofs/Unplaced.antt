@@ -19,7 +19,7 @@ use Rattle.ec_locate.specs.declared.placing.Located.{Located}
 use Rattle.ec_locate.specs.declared.needs.Needs.{Needs}
 use Rattle.ec_locate.specs.declared.needs.Shortage.{Shortage}
 use Rattle.ec_locate.specs.declared.stop.RegionName.{RegionName}
-use Rattle.ec_locate.specs.declared.stop.RegionName.TheVariants.{Code, Tables, Data, Stack}
+use Rattle.ec_locate.specs.declared.stop.RegionName.TheVariants.{Code, Tables, Far, Data, Stack}
 use Rattle.ec_locate.specs.declared.stop.PlaceStop.{PlaceStop}
 use Rattle.ec_locate.specs.declared.stop.PlaceStop.TheVariants.{TooSmall, NoSuchObject, Clash, NoMemory}
 use Rattle.ec_build.specs.Code.{AreReaches}
@@ -32,14 +32,15 @@ no_shortage : (name : RegionName) (region : Region) (need : ℕ) → need ≤ re
 no_shortage name region need h =
     rw (le-ltb region.size need h)
 
-all_fit : (m : Map) (n : Needs) → n.tables ≤ m.tables.size → n.vars ≤ m.vars.size → n.stack ≤ m.stack.size → n.code ≤ m.code.size
-    → first_shortage m n ≡ None
-all_fit m n a b c d =
+all_fit : (m : Map) (n : Needs) → n.tables ≤ m.tables.size → n.far ≤ m.far.size → n.vars ≤ m.vars.size → n.stack ≤ m.stack.size
+    → n.code ≤ m.code.size → first_shortage m n ≡ None
+all_fit m n a e b c d =
     let tables = no_shortage Tables m.tables n.tables a in
+    let far = no_shortage Far m.far n.far e in
     let vars = no_shortage Data m.vars n.vars b in
     let stack = no_shortage Stack m.stack n.stack c in
     let code = no_shortage Code m.code n.code d in
-    rw (tables, vars, stack, code)
+    rw (tables, far, vars, stack, code)
 
 pub fits_whole : (p : PlainProgram) (m : Map) (asm : AsmProgram) → Fits p m → asm.frames.items ≡ scratch_needs p
     → code_words asm.items.items ≤ weight p (plain_table m.io) → shortage p m asm ≡ None
@@ -47,7 +48,7 @@ fits_whole p m asm fits frames small =
     let vars : data_need 64 (rows_of_program p) (entries_by m p) asm.frames.items ≤ m.vars.size =
     subst (λ f. data_need 64 (rows_of_program p) (entries_by m p) f ≤ m.vars.size) (sym frames) fits.vars in
     let code : 2 * code_words asm.items.items ≤ m.code.size = omega (arith, small, fits.code) in
-    all_fit m (needs p (entries_by m p) asm.frames.items asm.items.items) fits.tables vars fits.stack code
+    all_fit m (needs p (entries_by m p) asm.frames.items asm.items.items) fits.tables fits.far vars fits.stack code
 
 nothing_there : {A : Type 0} (o : Option A) (P : A → Type 0) → o ≡ None → IsSomeAnd o P → ⊥
 nothing_there None P e h = h
@@ -84,13 +85,16 @@ outline_fits p m asm outline frames none room =
     let tables = shortage_of Tables m.tables n.tables in
     let vars = shortage_of Data m.vars n.vars in
     let stack = shortage_of Stack m.stack n.stack in
-    let a = both_none tables (or_else vars (or_else stack (shortage_of Code m.code n.code))) room in
-    let b = both_none vars (or_else stack (shortage_of Code m.code n.code)) a.1 in
+    let far = shortage_of Far m.far n.far in
+    let a = both_none tables (or_else far (or_else vars (or_else stack (shortage_of Code m.code n.code)))) room in
+    let d = both_none far (or_else vars (or_else stack (shortage_of Code m.code n.code))) a.1 in
+    let b = both_none vars (or_else stack (shortage_of Code m.code n.code)) d.1 in
     let c = both_none stack (shortage_of Code m.code n.code) b.1 in
     let code : shortage_of Code m.code (2 * code_words outline.items.items) ≡ None =
     no_shortage Code m.code (2 * code_words outline.items.items) (omega (arith, none)) in
-    rw (a.0, subst (λ f. shortage_of Data m.vars (data_need 64 (rows_of_program p) (entries_by m p) f) ≡ None) (sym frames) b.0, c.0, code)
-    refl
+    let same_vars : shortage_of Data m.vars (data_need 64 (rows_of_program p) (entries_by m p) outline.frames.items) ≡ None =
+    subst (λ f. shortage_of Data m.vars (data_need 64 (rows_of_program p) (entries_by m p) f) ≡ None) (sym frames) b.0 in
+    rw (a.0, d.0, same_vars, c.0, code) refl
 
 -- so it is refused for nothing but memory
 pub outline_placed : (p : PlainProgram) (m : Map) (asm outline : AsmProgram) (l : Located) (stop : PlaceStop)

@@ -104,7 +104,7 @@ module _ (laws : PlacedLaws) (p : PlainProgram) (m : Map) (asm : AsmProgram) (l 
       let first =
       initial_there p.structs m.places.items p.objects m.tables.first
       (m.tables.first + flash_sizes (entries m.places.items p)) j d is in
-      let there = place_there p.structs m.places.items p.objects m.tables.first m.vars.first
+      let there = place_there p.structs m.places.items p.objects m.tables.first m.far.first m.vars.first
       (local_at m (rows_of_program p) (entries_by m p)) 0 j d is in
       let placed_there : slice_get l.places.items j ≡ Some there.0 =
       subst (λ ps. slice_get ps j ≡ Some there.0) (sym h.located.places) there.1 in

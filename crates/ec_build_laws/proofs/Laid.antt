@@ -273,7 +273,8 @@ module _ (laws : PlacedLaws) (p : PlainProgram) (m : Map) (asm : AsmProgram) (l 
 
   place_is : (o : ℕ) (d : PlainObject) → slice_get p.objects o ≡ Some d → (z : Place) × (slice_get l.places.items o ≡ Some z)
   place_is o d is =
-      let there = place_there p.structs m.places.items p.objects m.tables.first m.vars.first (local_at m rows (entries_by m p)) 0 o d is in
+      let there = place_there p.structs m.places.items p.objects m.tables.first m.far.first m.vars.first
+      (local_at m rows (entries_by m p)) 0 o d is in
       (there.0, subst (λ ps. slice_get ps o ≡ Some there.0) (sym h.located.places) there.1)
 
   offset_is : (o : ℕ) (z : Place) → slice_get l.places.items o ≡ Some z → place_of l o ≡ z.offset
@@ -626,7 +627,8 @@ module _ (laws : PlacedLaws) (p : PlainProgram) (m : Map) (asm : AsmProgram) (l 
         there = z.0;
         is_there = z.1;
         bank =
-            place_bank p.structs m.places.items p.objects m.tables.first m.vars.first (local_at m rows (entries_by m p)) 0 o d z.0 is
+            place_bank p.structs m.places.items p.objects m.tables.first m.far.first m.vars.first
+            (local_at m rows (entries_by m p)) 0 o d z.0 is
             (subst (λ ps. slice_get ps o ≡ Some z.0) h.located.places z.1) static_there;
         at = offset_is o z.0 z.1;
         room = omega (arith, low);

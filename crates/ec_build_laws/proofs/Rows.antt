@@ -15,7 +15,7 @@ use Rattle.ec_core.specs.Valid.{EachFrom, IsStatic, IsInitialValue, AreInitialVa
 use Rattle.ec_core.specs.declared.programs.LeafInit.{LeafInit}
 use Rattle.ec_map.specs.declared.map.Fixed1.{Fixed1}
 use Rattle.ec_locate.specs.declared.entries.Kept.TheVariants.{Packed}
-use Rattle.ec_locate.specs.Entries.{fixed_place, fixed_or_packed, kept_by, entry_of, flash_size, data_size}
+use Rattle.ec_locate.specs.Entries.{fixed_place, fixed_or_packed, kept_by, entry_of, flash_size, far_size, data_size}
 use Rattle.ec_locate.specs.Entries.{initial_size}
 use Rattle.ec_locate.specs.Layout.{in_region, place_by, places_from, initials_from, frames_from}
 use Rattle.ec_select.specs.Program.{has_initial_bytes}
@@ -39,45 +39,46 @@ there_is [] i less = absurd (omega arith)
 there_is (x ∷ xs) zero less = (x, refl)
 there_is (x ∷ xs) (suc i) less = there_is xs i (omega arith)
 
-pub place_there : (structs : List PlainStruct) (fixed : List Fixed1) (os : List PlainObject) (flash at : ℕ)
+pub place_there : (structs : List PlainStruct) (fixed : List Fixed1) (os : List PlainObject) (flash far at : ℕ)
     (frame : ℕ → ℕ → ℕ) (k i : ℕ) (o : PlainObject) → slice_get os i ≡ Some o
-    → (q : Place) × (slice_get (places_from flash at frame k (map (entry_of structs fixed) os)) i ≡ Some q)
-place_there structs fixed [] flash at frame k i o h = absurd cc
-place_there structs fixed (x ∷ os) flash at frame k zero o h = (_, refl)
-place_there structs fixed (x ∷ os) flash at frame k (suc i) o h =
-    place_there structs fixed os (flash + flash_size (entry_of structs fixed x)) (at + data_size (entry_of structs fixed x))
-    frame (k + 1) i o h
+    → (q : Place) × (slice_get (places_from flash far at frame k (map (entry_of structs fixed) os)) i ≡ Some q)
+place_there structs fixed [] flash far at frame k i o h = absurd cc
+place_there structs fixed (x ∷ os) flash far at frame k zero o h = (_, refl)
+place_there structs fixed (x ∷ os) flash far at frame k (suc i) o h =
+    place_there structs fixed os (flash + flash_size (entry_of structs fixed x)) (far + far_size (entry_of structs fixed x))
+    (at + data_size (entry_of structs fixed x)) frame (k + 1) i o h
 
 -- an object that is no named register is placed in its bank
-region_bank : (home : Home) (flash at : ℕ) → (in_region home flash at).bank ≡ bank_of home
-region_bank FlashHome flash at = refl
-region_bank FarHome flash at = refl
-region_bank DataHome flash at = refl
+region_bank : (home : Home) (flash far at : ℕ) → (in_region home flash far at).bank ≡ bank_of home
+region_bank FlashHome flash far at = refl
+region_bank FarHome flash far at = refl
+region_bank DataHome flash far at = refl
 
-kept_bank : (fixed : List Fixed1) (external : Bool) (name : List ℕ) (s : PlainStorage) (home : Home) (flash at : ℕ)
-    (frame : ℕ → ℕ) → IsStatic s → (place_by (kept_by fixed external name s) home flash at frame).bank ≡ bank_of home
-kept_bank fixed external name (static inits) home flash at frame h = by_place external (fixed_place fixed name) where
-  by_place : (b : Bool) (z : Option ℕ) → (place_by (if b then fixed_or_packed z else Packed) home flash at frame).bank ≡ bank_of home
-  by_place true None = region_bank home flash at
+kept_bank : (fixed : List Fixed1) (external : Bool) (name : List ℕ) (s : PlainStorage) (home : Home) (flash far at : ℕ)
+    (frame : ℕ → ℕ) → IsStatic s → (place_by (kept_by fixed external name s) home flash far at frame).bank ≡ bank_of home
+kept_bank fixed external name (static inits) home flash far at frame h = by_place external (fixed_place fixed name) where
+  by_place : (b : Bool) (z : Option ℕ) → (place_by (if b then fixed_or_packed z else Packed) home flash far at frame).bank ≡ bank_of home
+  by_place true None = region_bank home flash far at
   by_place true (Some there) = refl
-  by_place false z = region_bank home flash at
-kept_bank fixed external name (local f) home flash at frame h = absurd h
-kept_bank fixed external name (param f) home flash at frame h = absurd h
-kept_bank fixed external name (register r) home flash at frame h = absurd h
+  by_place false z = region_bank home flash far at
+kept_bank fixed external name (local f) home flash far at frame h = absurd h
+kept_bank fixed external name (param f) home flash far at frame h = absurd h
+kept_bank fixed external name (register r) home flash far at frame h = absurd h
 
-pub place_bank : (structs : List PlainStruct) (fixed : List Fixed1) (os : List PlainObject) (flash at : ℕ)
+pub place_bank : (structs : List PlainStruct) (fixed : List Fixed1) (os : List PlainObject) (flash far at : ℕ)
     (frame : ℕ → ℕ → ℕ) (k i : ℕ) (o : PlainObject) (q : Place) → slice_get os i ≡ Some o
-    → slice_get (places_from flash at frame k (map (entry_of structs fixed) os)) i ≡ Some q → IsStatic o.storage → q.bank ≡ bank_of o.home
-place_bank structs fixed [] flash at frame k i o q h there is = absurd cc
-place_bank structs fixed (x ∷ os) flash at frame k zero o q h there is =
+    → slice_get (places_from flash far at frame k (map (entry_of structs fixed) os)) i ≡ Some q → IsStatic o.storage
+    → q.bank ≡ bank_of o.home
+place_bank structs fixed [] flash far at frame k i o q h there is = absurd cc
+place_bank structs fixed (x ∷ os) flash far at frame k zero o q h there is =
     let same : x ≡ o = cc in
-    let placed : place_by (kept_by fixed x.external x.name x.storage) x.home flash at (λ f. frame f k) ≡ q = cc in
+    let placed : place_by (kept_by fixed x.external x.name x.storage) x.home flash far at (λ f. frame f k) ≡ q = cc in
     ap (λ z. z.bank) (sym placed)
-    ∙ kept_bank fixed x.external x.name x.storage x.home flash at (λ f. frame f k) (subst (λ z. IsStatic z.storage) (sym same) is)
+    ∙ kept_bank fixed x.external x.name x.storage x.home flash far at (λ f. frame f k) (subst (λ z. IsStatic z.storage) (sym same) is)
     ∙ ap (λ z. bank_of z.home) same
-place_bank structs fixed (x ∷ os) flash at frame k (suc i) o q h there is =
-    place_bank structs fixed os (flash + flash_size (entry_of structs fixed x)) (at + data_size (entry_of structs fixed x))
-    frame (k + 1) i o q h there is
+place_bank structs fixed (x ∷ os) flash far at frame k (suc i) o q h there is =
+    place_bank structs fixed os (flash + flash_size (entry_of structs fixed x)) (far + far_size (entry_of structs fixed x))
+    (at + data_size (entry_of structs fixed x)) frame (k + 1) i o q h there is
 
 pub initial_there : (structs : List PlainStruct) (fixed : List Fixed1) (os : List PlainObject) (first at i : ℕ) (o : PlainObject)
     → slice_get os i ≡ Some o

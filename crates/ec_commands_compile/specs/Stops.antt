@@ -114,6 +114,7 @@ check_line words first (checking.Recursion name) = codes "recursion " ++ name.it
 abbrev pub region_text : RegionName → List ℕ
 region_text regions.Code = codes "code"
 region_text regions.Tables = codes "tables"
+region_text regions.Far = codes "far"
 region_text regions.Data = codes "data"
 region_text regions.Stack = codes "stack"
 

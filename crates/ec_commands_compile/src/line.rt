@@ -150,6 +150,7 @@ fn region_text(region: RegionName) -> &'static [u8]
     match region {
         RegionName::Code => b"code",
         RegionName::Tables => b"tables",
+        RegionName::Far => b"far",
         RegionName::Data => b"data",
         RegionName::Stack => b"stack",
     }

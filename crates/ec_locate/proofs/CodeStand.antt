@@ -21,13 +21,13 @@ use Rattle.ec_locate.specs.Stands.{own_word, environment, CodeStands}
 use Rattle.ec_locate.specs.declared.needs.Needs.{Needs}
 use Rattle.ec_locate.specs.declared.needs.Shortage.{Shortage}
 use Rattle.ec_locate.specs.declared.stop.RegionName.{RegionName}
-use Rattle.ec_locate.specs.declared.stop.RegionName.TheVariants.{Code, Tables, Data, Stack}
+use Rattle.ec_locate.specs.declared.stop.RegionName.TheVariants.{Code, Tables, Far, Data, Stack}
 use Rattle.ec_locate.proofs.Stand.{known_items, label_below, labels_stand, length_image, length_overwritten, overwritten_holds}
 use Rattle.ec_locate.proofs.Words.{valid_words}
 
 -- ---- the region of the code has room
 
-pub neither_short : (a b : Option Shortage) → or_else a b ≡ None → (a ≡ None) × (b ≡ None)
+neither_short : (a b : Option Shortage) → or_else a b ≡ None → (a ≡ None) × (b ≡ None)
 neither_short None b h = (refl, h)
 neither_short (Some s) b h = cc
 
@@ -35,18 +35,34 @@ fits_where : (b : Bool) (s : Shortage) → (let o : Option Shortage = if b then 
 fits_where true s h = cc
 fits_where false s h = refl
 
-pub fits : (name : RegionName) (r : Region) (need : ℕ) → shortage_of name r need ≡ None → need ≤ r.size
+fits : (name : RegionName) (r : Region) (need : ℕ) → shortage_of name r need ≡ None → need ≤ r.size
 fits name r need h =
     ltb-false r.size need (fits_where (nat_lt r.size need) (record { region = name; needed = told need; available = r.size }) h)
 
-pub code_fits : (m : Map) (n : Needs) → first_shortage m n ≡ None → n.code ≤ m.code.size
-code_fits m n h =
+-- no region is too small
+pub record AllFit (m : Map) (n : Needs) : Type 0 where
+  pub tables : n.tables ≤ m.tables.size
+  pub far : n.far ≤ m.far.size
+  pub vars : n.vars ≤ m.vars.size
+  pub stack : n.stack ≤ m.stack.size
+  pub code : n.code ≤ m.code.size
+
+pub all_fit : (m : Map) (n : Needs) → first_shortage m n ≡ None → AllFit m n
+all_fit m n h =
     let stack = or_else (shortage_of Stack m.stack n.stack) (shortage_of Code m.code n.code) in
     let vars = or_else (shortage_of Data m.vars n.vars) stack in
-    let a = (neither_short (shortage_of Tables m.tables n.tables) vars h).1 in
-    let b = (neither_short (shortage_of Data m.vars n.vars) stack a).1 in
-    let c = (neither_short (shortage_of Stack m.stack n.stack) (shortage_of Code m.code n.code) b).1 in
-    fits Code m.code n.code c
+    let far = or_else (shortage_of Far m.far n.far) vars in
+    let a = neither_short (shortage_of Tables m.tables n.tables) far h in
+    let b = neither_short (shortage_of Far m.far n.far) vars a.1 in
+    let c = neither_short (shortage_of Data m.vars n.vars) stack b.1 in
+    let d = neither_short (shortage_of Stack m.stack n.stack) (shortage_of Code m.code n.code) c.1 in
+    record {
+      tables = fits Tables m.tables n.tables a.0;
+      far = fits Far m.far n.far b.0;
+      vars = fits Data m.vars n.vars c.0;
+      stack = fits Stack m.stack n.stack d.0;
+      code = fits Code m.code n.code d.1;
+    }
 
 -- ---- code depends on the addresses and on the labels that it uses
 
@@ -119,7 +135,7 @@ code-stands p m asm l kind table valid asm_valid located =
     let y = layout_by p m asm in
     let last = last_of m in
     let e = environment p m asm l kind table in
-    let room = code_fits m (needs p (entries_by m p) asm.frames.items items) located.fits in
+    let room = (all_fit m (needs p (entries_by m p) asm.frames.items items) located.fits).code in
     let ends = valid.regions_valid.code.ends in
     let small : code_words items ≤ 16384 = omega (arith, room, ends) in
     let sizes = sizes_of (object_sizes p) asm.frames.items 64 in

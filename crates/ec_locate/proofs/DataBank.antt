@@ -1,9 +1,8 @@
 -- What a placed program keeps in the data bank stands apart.
 use Rattle.std.proofs.Common.{◌≡◌, ◌≢◌, inl, inr, ⊎_elim, ◌+◌, ◌<◌, ◌≤◌, ℕ, Bool, List, [], length, map, take}
 use Rattle.std.proofs.Common.{get_or}
-use Rattle.std.proofs.Common.{Option, Some, sym, ap, ◌∙◌, subst, arith}
-use Rattle.std.specs.Prelude.{slice_get, nat_le, option_map}
-use Rattle.std.proofs.lemmas.Bool.{and_parts, leb-true}
+use Rattle.std.proofs.Common.{Option, Some, None, sym, ap, ◌∙◌, subst, arith}
+use Rattle.std.specs.Prelude.{slice_get, option_map}
 use Rattle.std.proofs.lemmas.List.{length-map}
 use Rattle.std.proofs.lemmas.Option.{slice_get-map, slice_get_within, get_or_from_slice_get}
 use Rattle.ec_space.specs.declared.space.Bank.TheVariants.{Data}
@@ -23,11 +22,11 @@ use Rattle.ec_locate.specs.declared.stop.RegionName.TheVariants as regions
 use Rattle.ec_locate.specs.Apart.{AreFree}
 use Rattle.ec_locate.specs.DataBank.{IsOwnedBy, IsLocalOf, CanBeLive}
 use Rattle.ec_locate.specs.Entries.{kept_by, data_size, data_sizes, frame_of, frame_size, owned_of, scratch_size, data_need}
-use Rattle.ec_locate.specs.Fixed.{blocks}
+use Rattle.ec_locate.specs.Fixed.{blocks, name_where_met, region_of_bank}
 use Rattle.ec_locate.specs.Layout.{local_area, scratch_area, work_area, local_at}
 use Rattle.ec_locate.proofs.Objects.{is_object_at}
-use Rattle.ec_locate.proofs.Stood.{Clear, turned, by_order, es, size, entry, entry_there, block, Stood, both_stood}
-use Rattle.ec_locate.proofs.Where.{sum_until, sum_within, free_at, apart_where, clear_of}
+use Rattle.ec_locate.proofs.Stood.{Clear, turned, by_order, es, size, entry, entry_there, block, Stood, in_data_bank, both_stood}
+use Rattle.ec_locate.proofs.Where.{sum_until, sum_within, free_at, neither_met, clear_of}
 
 -- a pointer's offset, where there is a place
 pub same_place : (z : Option Place) (q w : Place) → z ≡ Some q → z ≡ Some w → q.offset ≡ w.offset
@@ -236,15 +235,17 @@ module _ (p : PlainProgram) (m : Map) (asm : AsmProgram) where
 
     pub outside : (o : PlainObject) (at : ℕ) → Stood p m Data o at → Outside at (size p m o)
     outside o at s =
-        let b = block p m Data o at in
-        let (inside, unmet) = free_at m (blocks (es p m) p.objects m.places.items) s.found.number b free s.is_block in
-        let (low, high) = and_parts (nat_le 256 at) (nat_le (at + size p m o) 2304) inside in
-        let (vars, stack) = clear_of b m.vars regions.Data m.stack regions.Stack unmet in
+        let b = block p m o at in
+        let (inside, met) = free_at m (blocks (es p m) p.objects m.places.items) s.found.number b free s.is_block in
+        let (low, high) = in_data_bank o.home at (at + size p m o) s.in_bank inside in
+        let unmet : region_of_bank m b Data ≡ None = subst (λ bank. region_of_bank m b bank ≡ None) s.in_bank met in
+        let (vars, stack) = neither_met (name_where_met b m.vars regions.Data) (name_where_met b m.stack regions.Stack) unmet in
         record {
-          from_there = leb-true 256 at low;
-          ends = leb-true (at + size p m o) 2304 high;
-          vars = turned m.vars.first m.vars.size at (size p m o) (apart_where at (size p m o) m.vars.first m.vars.size vars);
-          stack = turned m.stack.first m.stack.size at (size p m o) (apart_where at (size p m o) m.stack.first m.stack.size stack);
+          from_there = low;
+          ends = high;
+          vars = turned m.vars.first m.vars.size at (size p m o) (clear_of b m.vars regions.Data map_valid.regions_valid.vars.some vars);
+          stack = turned m.stack.first m.stack.size at (size p m o)
+              (clear_of b m.stack regions.Stack map_valid.regions_valid.stack.some stack);
         }
 
     -- a named register

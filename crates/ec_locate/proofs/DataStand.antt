@@ -29,13 +29,14 @@ use Rattle.ec_locate.specs.declared.placing.Located.{Located}
 use Rattle.ec_locate.specs.Apart.{AreFree}
 use Rattle.ec_locate.specs.Code.{address_of, start_of}
 use Rattle.ec_locate.specs.DataBank.{IsOwnedBy, Names, an_object, scratch, work, IsInMemory, StandsIn, DataStands, DataStandsApart}
-use Rattle.ec_locate.specs.Entries.{fixed_place, is_static, data_sizes, flash_sizes, frame_size, frame_of, owned_of, scratch_size}
-use Rattle.ec_locate.specs.Entries.{data_need}
+use Rattle.ec_locate.specs.Entries.{fixed_place, is_static, data_sizes, flash_sizes, far_sizes, frame_size, frame_of, owned_of}
+use Rattle.ec_locate.specs.Entries.{scratch_size, data_need}
 use Rattle.ec_locate.specs.Fixed.{blocks}
 use Rattle.ec_locate.specs.Layout.{LayoutView, place_by, local_at}
 use Rattle.ec_locate.specs.Placing.{IsLocated, layout_by, last_of, needs, scratch_needs}
 use Rattle.ec_locate.proofs.Addresses.{object_start, address_from}
-use Rattle.ec_locate.proofs.InOrders.{vars_fit, places_free}
+use Rattle.ec_locate.proofs.CodeStand.{all_fit}
+use Rattle.ec_locate.proofs.InOrders.{places_free}
 use Rattle.ec_locate.proofs.Kept.{kept_known}
 use Rattle.ec_locate.proofs.Objects.{is_object_at, few_objects}
 use Rattle.ec_locate.proofs.Stood.{es, size, entry, entry_there, Stood, stood}
@@ -69,7 +70,7 @@ module _ (laws : OverlayLaws) (p : PlainProgram) (m : Map) (asm : AsmProgram) (l
   locals = laws.objects rows (map owned_of (es p m)) never (λ i f o is own. kept_known p m valid i f o is own)
 
   room : data_need 64 rows (es p m) asm.frames.items ≤ m.vars.size
-  room = vars_fit m (needs p (es p m) asm.frames.items asm.items.items) located.fits
+  room = (all_fit m (needs p (es p m) asm.frames.items asm.items.items) located.fits).vars
 
   free : AreFree m (blocks (es p m) p.objects m.places.items)
   free = places_free m 0 (blocks (es p m) p.objects m.places.items) located.free
@@ -78,13 +79,15 @@ module _ (laws : OverlayLaws) (p : PlainProgram) (m : Map) (asm : AsmProgram) (l
 
   abbrev there : Kept → PlainObject → ℕ → Place
   there k o i =
-      place_by k o.home (m.tables.first + flash_sizes (take i (es p m))) (m.vars.first + data_sizes (take i (es p m)))
+      place_by k o.home (m.tables.first + flash_sizes (take i (es p m))) (m.far.first + far_sizes (take i (es p m)))
+      (m.vars.first + data_sizes (take i (es p m)))
       (λ f. local_at m rows (es p m) f i)
 
   offset_is : (i : ℕ) (o : PlainObject) (q : Place) → slice_get p.objects i ≡ Some o → slice_get l.places.items i ≡ Some q
       → q.offset ≡ (there (entry p m o).kept o i).offset
   offset_is i o q is at =
-      let here = place_at (es p m) m.tables.first m.vars.first (local_at m rows (es p m)) i (entry p m o) (entry_there p m i o is) in
+      let here = place_at (es p m) m.tables.first m.far.first m.vars.first (local_at m rows (es p m)) i (entry p m o)
+      (entry_there p m i o is) in
       same_place (slice_get y.places i) q (there (entry p m o).kept o i) (subst (λ ps. slice_get ps i ≡ Some q) located.places at) here
 
   object_standing : (i : ℕ) (o : PlainObject) (q : Place) → slice_get p.objects i ≡ Some o → bank_of o.home ≡ Data

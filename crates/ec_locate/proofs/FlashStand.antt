@@ -14,21 +14,28 @@ use Rattle.ec_map.specs.declared.map.Map.{Map}
 use Rattle.ec_locate.specs.declared.placing.Located.{Located}
 use Rattle.ec_locate.specs.Apart.{AreFree}
 use Rattle.ec_locate.specs.Code.{address_of}
-use Rattle.ec_locate.specs.Entries.{flash_sizes, initial_sizes}
+use Rattle.ec_locate.specs.Entries.{flash_sizes, far_sizes, initial_sizes}
 use Rattle.ec_locate.specs.Fixed.{blocks}
 use Rattle.ec_locate.specs.FlashBank.{IsInFlash, FlashStands, FlashStandsApart}
 use Rattle.ec_locate.specs.Initial.{IsInitialised, values_of}
 use Rattle.ec_locate.specs.Placing.{IsLocated, layout_by, last_of, needs}
 use Rattle.ec_locate.proofs.Addresses.{object_start, address_from}
-use Rattle.ec_locate.proofs.InOrders.{tables_fit, places_free}
+use Rattle.ec_locate.proofs.CodeStand.{AllFit, all_fit}
+use Rattle.ec_locate.proofs.InOrders.{places_free}
 use Rattle.ec_locate.proofs.Objects.{is_object_at}
 use Rattle.ec_locate.proofs.Stood.{Clear, by_order, es, size}
-use Rattle.ec_locate.proofs.Spots.{values_in_flash, Spot, spot, spots_apart, Room, room_of}
+use Rattle.ec_locate.proofs.Spots.{values_in_flash, Spot, none_in_far, spot, spots_apart, Room, room_of}
 
 module _ (p : PlainProgram) (m : Map) (asm : AsmProgram) (l : Located) (valid : Valid p m.io) (map_valid : ValidMap m)
     (located : IsLocated p m asm l) where
+  fit : AllFit m (needs p (es p m) asm.frames.items asm.items.items)
+  fit = all_fit m (needs p (es p m) asm.frames.items asm.items.items) located.fits
+
   room : flash_sizes (es p m) + initial_sizes (es p m) ≤ m.tables.size
-  room = tables_fit m (needs p (es p m) asm.frames.items asm.items.items) located.fits
+  room = fit.tables
+
+  far_room : far_sizes (es p m) ≤ m.far.size
+  far_room = fit.far
 
   free : AreFree m (blocks (es p m) p.objects m.places.items)
   free = places_free m 0 (blocks (es p m) p.objects m.places.items) located.free
@@ -51,18 +58,21 @@ module _ (p : PlainProgram) (m : Map) (asm : AsmProgram) (l : Located) (valid : 
       values_in_flash (layout_by p m asm) i o.home h.home ∙ ap (λ z. unwrap_or (option_map (λ r. r.offset) z) 0) placed
 
   spot_is : (i : ℕ) (o : PlainObject) (q : Place) → IsInFlash p l i o q → Spot p m i o q.offset
-  spot_is i o q h = let s = is_static i o q h in subst (Spot p m i o) (place_is i o q h) (spot p m asm i o s.0 s.1)
+  spot_is i o q h = let s = is_static i o q h in subst (Spot p m i o) (place_is i o q h)
+      (spot p m asm i o s.0 (none_in_far p m valid map_valid far_room i o h.is_object) s.1)
 
-  room_is : (i : ℕ) (o : PlainObject) (q : Place) → IsInFlash p l i o q → Room p m valid room free q.offset (size p m o)
+  room_is : (i : ℕ) (o : PlainObject) (q : Place) → IsInFlash p l i o q → Room p m valid map_valid room free q.offset (size p m o)
   room_is i o q h =
-      room_of p m valid room free map_valid i o q.offset h.is_object (is_object_at p m.io valid i o h.is_object).some (spot_is i o q h)
+      room_of p m valid map_valid room free i o q.offset h.is_object (is_object_at p m.io valid i o h.is_object).some (spot_is i o q h)
 
   apart : (i k : ℕ) (o x : PlainObject) (q r : Place) → i ≢ k → IsInFlash p l i o q → IsInFlash p l k x r
       → Clear q.offset (size p m o) r.offset (size p m x)
   apart i k o x q r differ a b =
       by_order i k q.offset (size p m o) r.offset (size p m x) differ
-      (λ less. spots_apart p m valid room free i k o x q.offset r.offset less a.is_object b.is_object (spot_is i o q a) (spot_is k x r b))
-      (λ less. spots_apart p m valid room free k i x o r.offset q.offset less b.is_object a.is_object (spot_is k x r b) (spot_is i o q a))
+      (λ less. spots_apart p m valid map_valid room free i k o x q.offset r.offset less a.is_object b.is_object
+      (spot_is i o q a) (spot_is k x r b))
+      (λ less. spots_apart p m valid map_valid room free k i x o r.offset q.offset less b.is_object a.is_object
+      (spot_is k x r b) (spot_is i o q a))
 
   address : (i : ℕ) (o : PlainObject) (q : Place) (k : ℕ) → IsInFlash p l i o q → k ≤ size p m o
       → address_of (layout_by p m asm) (last_of m) i k ≡ q.offset + k

@@ -13,7 +13,7 @@ use Rattle.ec_space.specs.Spaces.{bank_of}
 use Rattle.ec_overlay.specs.Objects.{Owned, bytes_in, frame_bytes, bytes_before}
 use Rattle.ec_overlay.proofs.Objects.{before_more, before_all}
 use Rattle.ec_locate.specs.Areas.{IsKeptBelow}
-use Rattle.ec_locate.specs.Entries.{flash_size, data_size, frame_of, frame_size, owned_of, local_size, scratch_size}
+use Rattle.ec_locate.specs.Entries.{flash_size, far_size, data_size, frame_of, frame_size, owned_of, local_size, scratch_size}
 use Rattle.ec_locate.specs.Layout.{place_by, places_from, frames_from}
 use Rattle.ec_locate.specs.declared.entries.Entry.{Entry}
 use Rattle.ec_locate.specs.declared.entries.Kept.{Kept}
@@ -58,33 +58,33 @@ scratch_is (frame ∷ frames) (suc f) = scratch_is frames f
 
 -- ---- places
 
-pub place_same : (n : ℕ) (k : Kept) (home : Home) (flash at : ℕ) (a b : ℕ → ℕ) → IsKeptBelow n k → ((f : ℕ) → f < n
+pub place_same : (n : ℕ) (k : Kept) (home : Home) (flash far at : ℕ) (a b : ℕ → ℕ) → IsKeptBelow n k → ((f : ℕ) → f < n
     → a f ≡ b f)
-    → place_by k home flash at a ≡ place_by k home flash at b
-place_same n (Register first) home flash at a b known same = refl
-place_same n (Fixed there) home flash at a b known same = refl
-place_same n Packed home flash at a b known same = refl
-place_same n (InFrame f) home flash at a b known same = λ j. record { bank = bank_of home; offset = same f known j }
+    → place_by k home flash far at a ≡ place_by k home flash far at b
+place_same n (Register first) home flash far at a b known same = refl
+place_same n (Fixed there) home flash far at a b known same = refl
+place_same n Packed home flash far at a b known same = refl
+place_same n (InFrame f) home flash far at a b known same = λ j. record { bank = bank_of home; offset = same f known j }
 
 -- one place more, where the frames so far agree with where objects stand
-pub placed_step : (n : ℕ) (es : List Entry) (i flash at more_flash more_at : ℕ) (frame : ℕ → ℕ → ℕ) (so_far : ℕ → ℕ)
+pub placed_step : (n : ℕ) (es : List Entry) (i flash far at more_flash more_far more_at : ℕ) (frame : ℕ → ℕ → ℕ) (so_far : ℕ → ℕ)
     (made new whole : List Place) (x : Place) (d : Entry) → i < length es → All (λ e. IsKeptBelow n e.kept) es
-    → ((f : ℕ) → f < n → so_far f ≡ frame f i) → made ++ places_from flash at frame i (drop i es) ≡ whole
-    → x ≡ place_by (get_or es i d).kept (get_or es i d).home flash at so_far → more_flash ≡ flash_size (get_or es i d)
-    → more_at ≡ data_size (get_or es i d) → new ≡ made ++ x ∷ []
-    → new ++ places_from (flash + more_flash) (at + more_at) frame (i + 1) (drop (i + 1) es) ≡ whole
-placed_step n es i flash at more_flash more_at frame so_far made new whole x d l known same before placed f_is a_is pushed =
+    → ((f : ℕ) → f < n → so_far f ≡ frame f i) → made ++ places_from flash far at frame i (drop i es) ≡ whole
+    → x ≡ place_by (get_or es i d).kept (get_or es i d).home flash far at so_far → more_flash ≡ flash_size (get_or es i d)
+    → more_far ≡ far_size (get_or es i d) → more_at ≡ data_size (get_or es i d) → new ≡ made ++ x ∷ []
+    → new ++ places_from (flash + more_flash) (far + more_far) (at + more_at) frame (i + 1) (drop (i + 1) es) ≡ whole
+placed_step n es i flash far at more_flash more_far more_at frame so_far made new whole x d l known same before placed f r a pushed =
     let e = get_or es i d in
-    let split : made ++ places_from flash at frame i (e ∷ drop (i + 1) es) ≡ whole =
-    subst (λ xs. made ++ places_from flash at frame i xs ≡ whole) (drop_more es i d l) before in
-    let here : x ≡ place_by e.kept e.home flash at (λ f. frame f i) =
-    placed ∙ place_same n e.kept e.home flash at so_far (λ f. frame f i) (known i d l) same in
-    let next : places_from (flash + more_flash) (at + more_at) frame (i + 1) (drop (i + 1) es)
-    ≡ places_from (flash + flash_size e) (at + data_size e) frame (i + 1) (drop (i + 1) es) =
-    λ j. places_from (flash + f_is j) (at + a_is j) frame (i + 1) (drop (i + 1) es) in
-    let one : made ++ x ∷ places_from (flash + more_flash) (at + more_at) frame (i + 1) (drop (i + 1) es) ≡ whole =
+    let split : made ++ places_from flash far at frame i (e ∷ drop (i + 1) es) ≡ whole =
+    subst (λ xs. made ++ places_from flash far at frame i xs ≡ whole) (drop_more es i d l) before in
+    let here : x ≡ place_by e.kept e.home flash far at (λ f. frame f i) =
+    placed ∙ place_same n e.kept e.home flash far at so_far (λ f. frame f i) (known i d l) same in
+    let next : places_from (flash + more_flash) (far + more_far) (at + more_at) frame (i + 1) (drop (i + 1) es)
+    ≡ places_from (flash + flash_size e) (far + far_size e) (at + data_size e) frame (i + 1) (drop (i + 1) es) =
+    λ j. places_from (flash + f j) (far + r j) (at + a j) frame (i + 1) (drop (i + 1) es) in
+    let one : made ++ x ∷ places_from (flash + more_flash) (far + more_far) (at + more_at) frame (i + 1) (drop (i + 1) es) ≡ whole =
     (λ j. made ++ here j ∷ next j) ∙ split in
-    made_step made new (places_from (flash + more_flash) (at + more_at) frame (i + 1) (drop (i + 1) es)) whole x one pushed
+    made_step made new (places_from (flash + more_flash) (far + more_far) (at + more_at) frame (i + 1) (drop (i + 1) es)) whole x one pushed
 
 pub left_step : (g : Entry → ℕ) (es : List Entry) (i next more whole : ℕ) (d : Entry) → i < length es
     → next + sum_by g (drop i es) ≡ whole → more ≡ g (get_or es i d) → next + more + sum_by g (drop (i + 1) es) ≡ whole
@@ -93,12 +93,12 @@ left_step g es i next more whole d l before is =
     omega (arith, q, before, is)
 
 -- frames that agree for the functions that there are
-pub places_same : (n : ℕ) (es : List Entry) (flash at : ℕ) (a b : ℕ → ℕ → ℕ) (k : ℕ) → All (λ e. IsKeptBelow n e.kept) es
-    → ((f i : ℕ) → f < n → a f i ≡ b f i) → places_from flash at a k es ≡ places_from flash at b k es
-places_same n [] flash at a b k known same = refl
-places_same n (e ∷ es) flash at a b k known same =
-    let here = place_same n e.kept e.home flash at (λ f. a f k) (λ f. b f k) (known 0 e (omega arith)) (λ f l. same f k l) in
-    let rest = places_same n es _ _ a b (k + 1) (λ i d l. known (suc i) d (omega (arith, l))) same in
+pub places_same : (n : ℕ) (es : List Entry) (flash far at : ℕ) (a b : ℕ → ℕ → ℕ) (k : ℕ) → All (λ e. IsKeptBelow n e.kept) es
+    → ((f i : ℕ) → f < n → a f i ≡ b f i) → places_from flash far at a k es ≡ places_from flash far at b k es
+places_same n [] flash far at a b k known same = refl
+places_same n (e ∷ es) flash far at a b k known same =
+    let here = place_same n e.kept e.home flash far at (λ f. a f k) (λ f. b f k) (known 0 e (omega arith)) (λ f l. same f k l) in
+    let rest = places_same n es _ _ _ a b (k + 1) (λ i d l. known (suc i) d (omega (arith, l))) same in
     λ j. here j ∷ rest j
 
 pub frames_same : (area : ℕ) (begin : ℕ → ℕ) (k : ℕ) (begins frames : List ℕ) → length begins ≡ length frames

@@ -3,9 +3,8 @@ use Rattle.std.proofs.Common.{◌≡◌, ◌+◌, ◌≤◌, ℕ, Bool, true, fa
 use Rattle.std.proofs.Common.{refl, subst, arith}
 use Rattle.std.specs.Prelude.{sum_by, if◌then◌else◌, position}
 use Rattle.std.proofs.lemmas.List.Sums.{sum_by-cons}
-use Rattle.ec_space.specs.declared.space.Bank.TheVariants.{Flash, Data}
 use Rattle.ec_space.specs.declared.space.Home.{Home}
-use Rattle.ec_space.specs.declared.space.Home.TheVariants.{Flash as FlashHome, Far as FarHome, Data as DataHome}
+use Rattle.ec_space.specs.declared.space.Home.TheVariants.{Flash, Far, Data}
 use Rattle.ec_map.specs.declared.map.Map.{Map}
 use Rattle.ec_locate.specs.declared.entries.Entry.{Entry}
 use Rattle.ec_locate.specs.declared.entries.Kept.{Kept}
@@ -13,16 +12,12 @@ use Rattle.ec_locate.specs.declared.entries.Kept.TheVariants.{Register, Fixed, P
 use Rattle.ec_locate.specs.declared.fixed.Block.{Block}
 use Rattle.ec_locate.specs.declared.fixed.Neighbour.{Neighbour}
 use Rattle.ec_locate.specs.declared.fixed.Neighbour.TheVariants.{BankEnd}
-use Rattle.ec_locate.specs.declared.needs.Needs.{Needs}
 use Rattle.ec_locate.specs.declared.stop.RegionName.{RegionName}
-use Rattle.ec_locate.specs.declared.stop.RegionName.TheVariants as regions
-use Rattle.ec_locate.specs.Entries.{packed_flash, packed_data, initial_bytes, flash_size, data_size, initial_size, flash_sizes, data_sizes}
-use Rattle.ec_locate.specs.Entries.{initial_sizes}
+use Rattle.ec_locate.specs.Entries.{packed_flash, packed_far, packed_data, initial_bytes, flash_size, far_size, data_size, initial_size}
+use Rattle.ec_locate.specs.Entries.{flash_sizes, far_sizes, data_sizes, initial_sizes}
 use Rattle.ec_locate.specs.Fixed.{is_in_bank, region_met, region_or_later, overlaps, clash_of, or_next, first_clash}
 use Rattle.ec_locate.specs.Layout.{place_by, places_from, initial_at, initials_from}
-use Rattle.ec_locate.specs.Needs.{shortage_of, or_else, first_shortage}
 use Rattle.ec_locate.specs.Apart.{Span, InOrder, add_where, is_packed_in, objects_in, has_initial, initial_spans, AreFree}
-use Rattle.ec_locate.proofs.CodeStand.{neither_short, fits}
 
 at_zero : (at : ℕ) (ss : List Span) (to : ℕ) → InOrder (at + 0) ss to → InOrder at ss to
 at_zero at ss to h = subst (λ n. InOrder n ss to) (add-zero at) h
@@ -38,67 +33,99 @@ behind f x xs at ss to h =
 
 -- ---- data objects
 
-data_step : (k : Kept) (home : Home) (size flash at : ℕ) (frame : ℕ → ℕ) (ss : List Span) (to : ℕ)
+data_step : (k : Kept) (home : Home) (size flash far at : ℕ) (frame : ℕ → ℕ) (ss : List Span) (to : ℕ)
     → InOrder (at + packed_data k home size) ss to
-    → InOrder at (add_where (is_packed_in Data k home) (record { from = (place_by k home flash at frame).offset; size = size }) ss) to
-data_step Packed DataHome size flash at frame ss to h = (omega arith, h)
-data_step Packed FlashHome size flash at frame ss to h = at_zero at ss to h
-data_step Packed FarHome size flash at frame ss to h = at_zero at ss to h
-data_step (Register r) DataHome size flash at frame ss to h = at_zero at ss to h
-data_step (Register r) FlashHome size flash at frame ss to h = at_zero at ss to h
-data_step (Register r) FarHome size flash at frame ss to h = at_zero at ss to h
-data_step (Fixed there) DataHome size flash at frame ss to h = at_zero at ss to h
-data_step (Fixed there) FlashHome size flash at frame ss to h = at_zero at ss to h
-data_step (Fixed there) FarHome size flash at frame ss to h = at_zero at ss to h
-data_step (InFrame f) DataHome size flash at frame ss to h = at_zero at ss to h
-data_step (InFrame f) FlashHome size flash at frame ss to h = at_zero at ss to h
-data_step (InFrame f) FarHome size flash at frame ss to h = at_zero at ss to h
+    → InOrder at (add_where (is_packed_in Data k home)
+    (record { from = (place_by k home flash far at frame).offset; size = size }) ss) to
+data_step Packed Data size flash far at frame ss to h = (omega arith, h)
+data_step Packed Flash size flash far at frame ss to h = at_zero at ss to h
+data_step Packed Far size flash far at frame ss to h = at_zero at ss to h
+data_step (Register r) Data size flash far at frame ss to h = at_zero at ss to h
+data_step (Register r) Flash size flash far at frame ss to h = at_zero at ss to h
+data_step (Register r) Far size flash far at frame ss to h = at_zero at ss to h
+data_step (Fixed there) Data size flash far at frame ss to h = at_zero at ss to h
+data_step (Fixed there) Flash size flash far at frame ss to h = at_zero at ss to h
+data_step (Fixed there) Far size flash far at frame ss to h = at_zero at ss to h
+data_step (InFrame f) Data size flash far at frame ss to h = at_zero at ss to h
+data_step (InFrame f) Flash size flash far at frame ss to h = at_zero at ss to h
+data_step (InFrame f) Far size flash far at frame ss to h = at_zero at ss to h
 
-pub data_in_order : (es : List Entry) (flash at : ℕ) (frame : ℕ → ℕ → ℕ) (i : ℕ) (ss : List Span) (to : ℕ)
+pub data_in_order : (es : List Entry) (flash far at : ℕ) (frame : ℕ → ℕ → ℕ) (i : ℕ) (ss : List Span) (to : ℕ)
     → InOrder (at + data_sizes es) ss to
-    → InOrder at (objects_in Data (places_from flash at frame i es) es ss) to
-data_in_order [] flash at frame i ss to h = at_zero at ss to h
-data_in_order (e ∷ es) flash at frame i ss to h =
-    data_step e.kept e.home e.size flash at (λ f. frame f i) _ to
-    (data_in_order es (flash + flash_size e) (at + data_size e) frame (i + 1) ss to (behind data_size e es at ss to h))
+    → InOrder at (objects_in Data (places_from flash far at frame i es) es ss) to
+data_in_order [] flash far at frame i ss to h = at_zero at ss to h
+data_in_order (e ∷ es) flash far at frame i ss to h =
+    data_step e.kept e.home e.size flash far at (λ f. frame f i) _ to
+    (data_in_order es (flash + flash_size e) (far + far_size e) (at + data_size e) frame (i + 1) ss to
+    (behind data_size e es at ss to h))
 
--- ---- flash objects
+-- ---- objects of home flash
 
-flash_step : (k : Kept) (home : Home) (size flash at : ℕ) (frame : ℕ → ℕ) (ss : List Span) (to : ℕ)
+flash_step : (k : Kept) (home : Home) (size flash far at : ℕ) (frame : ℕ → ℕ) (ss : List Span) (to : ℕ)
     → InOrder (flash + packed_flash k home size) ss to
-    → InOrder flash (add_where (is_packed_in Flash k home) (record { from = (place_by k home flash at frame).offset; size = size }) ss) to
-flash_step Packed FlashHome size flash at frame ss to h = (omega arith, h)
-flash_step Packed FarHome size flash at frame ss to h = (omega arith, h)
-flash_step Packed DataHome size flash at frame ss to h = at_zero flash ss to h
-flash_step (Register r) DataHome size flash at frame ss to h = at_zero flash ss to h
-flash_step (Register r) FlashHome size flash at frame ss to h = at_zero flash ss to h
-flash_step (Register r) FarHome size flash at frame ss to h = at_zero flash ss to h
-flash_step (Fixed there) DataHome size flash at frame ss to h = at_zero flash ss to h
-flash_step (Fixed there) FlashHome size flash at frame ss to h = at_zero flash ss to h
-flash_step (Fixed there) FarHome size flash at frame ss to h = at_zero flash ss to h
-flash_step (InFrame f) DataHome size flash at frame ss to h = at_zero flash ss to h
-flash_step (InFrame f) FlashHome size flash at frame ss to h = at_zero flash ss to h
-flash_step (InFrame f) FarHome size flash at frame ss to h = at_zero flash ss to h
+    → InOrder flash (add_where (is_packed_in Flash k home)
+    (record { from = (place_by k home flash far at frame).offset; size = size }) ss) to
+flash_step Packed Data size flash far at frame ss to h = at_zero flash ss to h
+flash_step Packed Flash size flash far at frame ss to h = (omega arith, h)
+flash_step Packed Far size flash far at frame ss to h = at_zero flash ss to h
+flash_step (Register r) Data size flash far at frame ss to h = at_zero flash ss to h
+flash_step (Register r) Flash size flash far at frame ss to h = at_zero flash ss to h
+flash_step (Register r) Far size flash far at frame ss to h = at_zero flash ss to h
+flash_step (Fixed there) Data size flash far at frame ss to h = at_zero flash ss to h
+flash_step (Fixed there) Flash size flash far at frame ss to h = at_zero flash ss to h
+flash_step (Fixed there) Far size flash far at frame ss to h = at_zero flash ss to h
+flash_step (InFrame f) Data size flash far at frame ss to h = at_zero flash ss to h
+flash_step (InFrame f) Flash size flash far at frame ss to h = at_zero flash ss to h
+flash_step (InFrame f) Far size flash far at frame ss to h = at_zero flash ss to h
 
-pub flash_in_order : (es : List Entry) (flash at : ℕ) (frame : ℕ → ℕ → ℕ) (i : ℕ) (ss : List Span) (to : ℕ)
+pub flash_in_order : (es : List Entry) (flash far at : ℕ) (frame : ℕ → ℕ → ℕ) (i : ℕ) (ss : List Span) (to : ℕ)
     → InOrder (flash + flash_sizes es) ss to
-    → InOrder flash (objects_in Flash (places_from flash at frame i es) es ss) to
-flash_in_order [] flash at frame i ss to h = at_zero flash ss to h
-flash_in_order (e ∷ es) flash at frame i ss to h =
-    flash_step e.kept e.home e.size flash at (λ f. frame f i) _ to
-    (flash_in_order es (flash + flash_size e) (at + data_size e) frame (i + 1) ss to (behind flash_size e es flash ss to h))
+    → InOrder flash (objects_in Flash (places_from flash far at frame i es) es ss) to
+flash_in_order [] flash far at frame i ss to h = at_zero flash ss to h
+flash_in_order (e ∷ es) flash far at frame i ss to h =
+    flash_step e.kept e.home e.size flash far at (λ f. frame f i) _ to
+    (flash_in_order es (flash + flash_size e) (far + far_size e) (at + data_size e) frame (i + 1) ss to
+    (behind flash_size e es flash ss to h))
+
+-- ---- objects of home far
+
+far_step : (k : Kept) (home : Home) (size flash far at : ℕ) (frame : ℕ → ℕ) (ss : List Span) (to : ℕ)
+    → InOrder (far + packed_far k home size) ss to
+    → InOrder far (add_where (is_packed_in Far k home)
+    (record { from = (place_by k home flash far at frame).offset; size = size }) ss) to
+far_step Packed Data size flash far at frame ss to h = at_zero far ss to h
+far_step Packed Flash size flash far at frame ss to h = at_zero far ss to h
+far_step Packed Far size flash far at frame ss to h = (omega arith, h)
+far_step (Register r) Data size flash far at frame ss to h = at_zero far ss to h
+far_step (Register r) Flash size flash far at frame ss to h = at_zero far ss to h
+far_step (Register r) Far size flash far at frame ss to h = at_zero far ss to h
+far_step (Fixed there) Data size flash far at frame ss to h = at_zero far ss to h
+far_step (Fixed there) Flash size flash far at frame ss to h = at_zero far ss to h
+far_step (Fixed there) Far size flash far at frame ss to h = at_zero far ss to h
+far_step (InFrame f) Data size flash far at frame ss to h = at_zero far ss to h
+far_step (InFrame f) Flash size flash far at frame ss to h = at_zero far ss to h
+far_step (InFrame f) Far size flash far at frame ss to h = at_zero far ss to h
+
+pub far_in_order : (es : List Entry) (flash far at : ℕ) (frame : ℕ → ℕ → ℕ) (i : ℕ) (ss : List Span) (to : ℕ)
+    → InOrder (far + far_sizes es) ss to
+    → InOrder far (objects_in Far (places_from flash far at frame i es) es ss) to
+far_in_order [] flash far at frame i ss to h = at_zero far ss to h
+far_in_order (e ∷ es) flash far at frame i ss to h =
+    far_step e.kept e.home e.size flash far at (λ f. frame f i) _ to
+    (far_in_order es (flash + flash_size e) (far + far_size e) (at + data_size e) frame (i + 1) ss to
+    (behind far_size e es far ss to h))
 
 -- ---- initial bytes
 
 initial_step : (static : Bool) (home : Home) (size first at : ℕ) (ss : List Span) (to : ℕ)
     → InOrder (at + initial_bytes static home size) ss to
     → InOrder at (add_where (has_initial static home) (record { from = initial_at static home first at; size = size }) ss) to
-initial_step true DataHome size first at ss to h = (omega arith, h)
-initial_step true FlashHome size first at ss to h = at_zero at ss to h
-initial_step true FarHome size first at ss to h = at_zero at ss to h
-initial_step false DataHome size first at ss to h = at_zero at ss to h
-initial_step false FlashHome size first at ss to h = at_zero at ss to h
-initial_step false FarHome size first at ss to h = at_zero at ss to h
+initial_step true Data size first at ss to h = (omega arith, h)
+initial_step true Flash size first at ss to h = at_zero at ss to h
+initial_step true Far size first at ss to h = at_zero at ss to h
+initial_step false Data size first at ss to h = at_zero at ss to h
+initial_step false Flash size first at ss to h = at_zero at ss to h
+initial_step false Far size first at ss to h = at_zero at ss to h
 
 pub initial_in_order : (es : List Entry) (first at : ℕ) (ss : List Span) (to : ℕ) → InOrder (at + initial_sizes es) ss to
     → InOrder at (initial_spans (initials_from first at es) es ss) to
@@ -106,30 +133,6 @@ initial_in_order [] first at ss to h = at_zero at ss to h
 initial_in_order (e ∷ es) first at ss to h =
     initial_step e.is_static e.home e.size first at _ to
     (initial_in_order es first (at + initial_size e) ss to (behind initial_size e es at ss to h))
-
--- ---- room
-
-pub tables_fit : (m : Map) (n : Needs) → first_shortage m n ≡ None → n.tables ≤ m.tables.size
-tables_fit m n h =
-    let stack = or_else (shortage_of regions.Stack m.stack n.stack) (shortage_of regions.Code m.code n.code) in
-    let vars = or_else (shortage_of regions.Data m.vars n.vars) stack in
-    fits regions.Tables m.tables n.tables (neither_short (shortage_of regions.Tables m.tables n.tables) vars h).0
-
-pub vars_fit : (m : Map) (n : Needs) → first_shortage m n ≡ None → n.vars ≤ m.vars.size
-vars_fit m n h =
-    let stack = or_else (shortage_of regions.Stack m.stack n.stack) (shortage_of regions.Code m.code n.code) in
-    let vars = or_else (shortage_of regions.Data m.vars n.vars) stack in
-    let a = (neither_short (shortage_of regions.Tables m.tables n.tables) vars h).1 in
-    fits regions.Data m.vars n.vars (neither_short (shortage_of regions.Data m.vars n.vars) stack a).0
-
-pub stack_fits : (m : Map) (n : Needs) → first_shortage m n ≡ None → n.stack ≤ m.stack.size
-stack_fits m n h =
-    let stack = or_else (shortage_of regions.Stack m.stack n.stack) (shortage_of regions.Code m.code n.code) in
-    let vars = or_else (shortage_of regions.Data m.vars n.vars) stack in
-    let a = (neither_short (shortage_of regions.Tables m.tables n.tables) vars h).1 in
-    let b = (neither_short (shortage_of regions.Data m.vars n.vars) stack a).1 in
-    fits regions.Stack m.stack n.stack
-    (neither_short (shortage_of regions.Stack m.stack n.stack) (shortage_of regions.Code m.code n.code) b).0
 
 -- ---- fixed places
 

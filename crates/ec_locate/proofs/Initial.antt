@@ -20,17 +20,17 @@ use Rattle.ec_map.specs.declared.map.Map.{Map}
 use Rattle.ec_locate.specs.declared.placing.Located.{Located}
 use Rattle.ec_locate.specs.Apart.{AreFree}
 use Rattle.ec_locate.specs.Code.{resolved}
-use Rattle.ec_locate.specs.Entries.{flash_sizes, initial_sizes}
+use Rattle.ec_locate.specs.Entries.{flash_sizes, far_sizes, initial_sizes}
 use Rattle.ec_locate.specs.Fixed.{blocks}
 use Rattle.ec_locate.specs.Image.{FlashView, flash_of, value_number, object_bytes, with_bytes, with_objects, blank}
 use Rattle.ec_locate.specs.Initial.{IsInitialised, values_of, ValuesStand, IsPut, of_code, of_values, InitialValues, InitialValuesStand}
 use Rattle.ec_locate.specs.Layout.{LayoutView}
 use Rattle.ec_locate.specs.Placing.{IsLocated, entries_by, layout_by, last_of, needs}
-use Rattle.ec_locate.proofs.CodeStand.{code_fits}
-use Rattle.ec_locate.proofs.InOrders.{tables_fit, places_free}
+use Rattle.ec_locate.proofs.CodeStand.{AllFit, all_fit}
+use Rattle.ec_locate.proofs.InOrders.{places_free}
 use Rattle.ec_locate.proofs.Objects.{is_object_at}
 use Rattle.ec_locate.proofs.Stood.{Clear}
-use Rattle.ec_locate.proofs.Spots.{spot, spots_apart, room_of}
+use Rattle.ec_locate.proofs.Spots.{Spot, none_in_far, spot, spots_apart, room_of}
 use Rattle.ec_locate.proofs.Stand.{length_image}
 use Rattle.ec_locate.proofs.Written.{at_index, leaf_length, leaf_stands, Misses, Avoids, IsByte, bytes_of, bytes_outside, bytes_inside}
 use Rattle.ec_locate.proofs.Written.{objects_length, objects_outside, objects_inside}
@@ -84,19 +84,28 @@ module _ (p : PlainProgram) (m : Map) (asm : AsmProgram) (l : Located) (laws : L
 
   -- ---- the spots
 
+  fit : AllFit m (needs p (entries_by m p) asm.frames.items asm.items.items)
+  fit = all_fit m (needs p (entries_by m p) asm.frames.items asm.items.items) located.fits
+
   room : flash_sizes (entries_by m p) + initial_sizes (entries_by m p) ≤ m.tables.size
-  room = tables_fit m (needs p (entries_by m p) asm.frames.items asm.items.items) located.fits
+  room = fit.tables
+
+  far_room : far_sizes (entries_by m p) ≤ m.far.size
+  far_room = fit.far
 
   free : AreFree m (blocks (entries_by m p) p.objects m.places.items)
   free = places_free m 0 (blocks (entries_by m p) p.objects m.places.items) located.free
 
   code_room : items ≤ m.code.size
-  code_room = code_fits m (needs p (entries_by m p) asm.frames.items asm.items.items) located.fits
+  code_room = fit.code
+
+  spot_of : (i : ℕ) (o : PlainObject) (inits : List LeafInit) → IsInitialised p i o inits → Spot p m i o (at_of i o)
+  spot_of i o inits h = spot p m asm i o inits (none_in_far p m valid map_valid far_room i o h.is_object) h
 
   in_flash : (i : ℕ) (o : PlainObject) (inits : List LeafInit) → IsInitialised p i o inits
       → (items ≤ at_of i o) × (at_of i o + size o ≤ 32768)
   in_flash i o inits h =
-      let r = room_of p m valid room free map_valid i o (at_of i o) h.is_object (is_object i o inits h).some (spot p m asm i o inits h) in
+      let r = room_of p m valid map_valid room free i o (at_of i o) h.is_object (is_object i o inits h).some (spot_of i o inits h) in
       let behind = r.behind in
       (omega (arith, behind, code_room), r.within)
 
@@ -105,8 +114,8 @@ module _ (p : PlainProgram) (m : Map) (asm : AsmProgram) (l : Located) (laws : L
       → (t : ℕ) → t < size o → Misses (at_of i o + t) (at_of k x) (length (bytes x b))
   apart i k o x a b less h g t within =
       let n = sized k x b g in
-      let c : Clear (at_of i o) (size o) (at_of k x) (size x) = spots_apart p m valid room free i k o x (at_of i o)
-      (at_of k x) less h.is_object g.is_object (spot p m asm i o a h) (spot p m asm k x b g) in
+      let c : Clear (at_of i o) (size o) (at_of k x) (size x) = spots_apart p m valid map_valid room free i k o x (at_of i o)
+      (at_of k x) less h.is_object g.is_object (spot_of i o a h) (spot_of k x b g) in
       ⊎_elim (λ u. inl (omega (arith, u, within))) (λ u. inr (omega (arith, u, n))) c
 
   -- ---- what the image holds

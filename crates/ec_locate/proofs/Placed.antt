@@ -13,7 +13,7 @@ use Rattle.ec_map.specs.Maps.{ValidMap}
 use Rattle.ec_map.specs.declared.map.Map.{Map}
 use Rattle.ec_locate.specs.Areas.{IsKeptBelow}
 use Rattle.ec_locate.specs.Calls.{chains, call_depth}
-use Rattle.ec_locate.specs.Entries.{entry_of, flash_sizes, initial_sizes}
+use Rattle.ec_locate.specs.Entries.{entry_of, flash_sizes, far_sizes, initial_sizes}
 use Rattle.ec_locate.specs.Layout.{work_area}
 use Rattle.ec_locate.specs.Needs.{first_shortage}
 use Rattle.ec_locate.specs.Placing.{entries_by, needs, shortage, without_object, clash, IsShort, IsWithoutObject, IsClash, IsStop}
@@ -22,8 +22,7 @@ use Rattle.ec_locate.specs.declared.needs.Needs.{Needs}
 use Rattle.ec_locate.specs.declared.needs.Shortage.{Shortage}
 use Rattle.ec_locate.specs.declared.stop.PlaceStop.{PlaceStop}
 use Rattle.ec_locate.specs.declared.stop.PlaceStop.TheVariants.{TooSmall, NoSuchObject, Clash, NoMemory}
-use Rattle.ec_locate.proofs.CodeStand.{code_fits}
-use Rattle.ec_locate.proofs.InOrders.{tables_fit, vars_fit}
+use Rattle.ec_locate.proofs.CodeStand.{AllFit, all_fit}
 use Rattle.ec_locate.proofs.Kept.{all_below}
 
 pub few_entries : (p : PlainProgram) (m : Map) → Valid p m.io → (es : List Entry) → es ≡ entries_by m p → length es < 4096
@@ -39,17 +38,29 @@ as_many p rows same = sym (length-map rows (λ row. row.items)) ∙ ap length sa
 pub known_entries : (p : PlainProgram) (m : Map) → Valid p m.io → All (λ e. IsKeptBelow (length p.functions) e.kept) (entries_by m p)
 known_entries p m valid = all_below p m.places.items p.objects valid.objects
 
+fit : (p : PlainProgram) (m : Map) (asm : AsmProgram) → shortage p m asm ≡ None
+    → AllFit m (needs p (entries_by m p) asm.frames.items asm.items.items)
+fit p m asm fits = all_fit m (needs p (entries_by m p) asm.frames.items asm.items.items) fits
+
 pub flash_room : (p : PlainProgram) (m : Map) (asm : AsmProgram) → ValidMap m → shortage p m asm ≡ None
     → m.tables.first + flash_sizes (entries_by m p) + initial_sizes (entries_by m p) < 4294967296
 flash_room p m asm valid fits =
-    let need = tables_fit m (needs p (entries_by m p) asm.frames.items asm.items.items) fits in
+    let need = (fit p m asm fits).tables in
     let ends = valid.regions_valid.tables.ends in
     omega (arith, need, ends)
+
+-- the region `far` has no bytes, so nothing stands there
+pub far_room : (p : PlainProgram) (m : Map) (asm : AsmProgram) → ValidMap m → shortage p m asm ≡ None
+    → m.far.first < 4294967296 → m.far.first + far_sizes (entries_by m p) < 4294967296
+far_room p m asm valid fits low =
+    let need = (fit p m asm fits).far in
+    let none = valid.regions_valid.no_far in
+    omega (arith, need, none, low)
 
 pub ram_room : (p : PlainProgram) (m : Map) (asm : AsmProgram) → ValidMap m → shortage p m asm ≡ None
     → work_area m (rows_of_program p) (entries_by m p) asm.frames.items < 4294967296
 ram_room p m asm valid fits =
-    let need = vars_fit m (needs p (entries_by m p) asm.frames.items asm.items.items) fits in
+    let need = (fit p m asm fits).vars in
     let ends = valid.regions_valid.vars.ends in
     omega (arith, need, ends)
 
@@ -61,7 +72,7 @@ shortage_is p m asm es n same is =
 pub code_room : (p : PlainProgram) (m : Map) (asm : AsmProgram) → ValidMap m → shortage p m asm ≡ None
     → code_words asm.items.items < 65536
 code_room p m asm valid fits =
-    let need = code_fits m (needs p (entries_by m p) asm.frames.items asm.items.items) fits in
+    let need = (fit p m asm fits).code in
     let ends = valid.regions_valid.code.ends in
     omega (arith, need, ends)
 

@@ -1,9 +1,9 @@
 -- The initial values of static objects stand apart in the flash, behind the code.
-use Rattle.std.proofs.Common.{◌≡◌, inl, inr, ⊎_elim, ◌+◌, ◌<◌, ◌≤◌, ℕ, Bool, true, false, List, take, Option, Some}
+use Rattle.std.proofs.Common.{◌≡◌, ◌≢◌, inl, inr, ⊎_elim, ◌+◌, ◌<◌, ◌≤◌, ℕ, Bool, true, false, List, take, Option, Some}
 use Rattle.std.proofs.Common.{None, refl, sym, ap}
 use Rattle.std.proofs.Common.{◌∙◌, subst, arith}
 use Rattle.std.specs.Prelude.{slice_get, option_map, unwrap_or}
-use Rattle.std.proofs.lemmas.Bool.{leb-true}
+use Rattle.std.specs.Option.{option_or}
 use Rattle.ec_space.specs.declared.space.Bank.{Bank}
 use Rattle.ec_space.specs.declared.space.Bank.TheVariants.{Flash, Data}
 use Rattle.ec_space.specs.declared.space.Home.{Home}
@@ -19,17 +19,18 @@ use Rattle.ec_map.specs.Regions.{end_of}
 use Rattle.ec_map.specs.declared.map.Map.{Map}
 use Rattle.ec_locate.specs.declared.entries.Kept.{Kept}
 use Rattle.ec_locate.specs.declared.entries.Kept.TheVariants.{Packed, Fixed}
-use Rattle.ec_locate.specs.declared.fixed.Block.{Block}
 use Rattle.ec_locate.specs.declared.stop.RegionName.TheVariants as regions
 use Rattle.ec_locate.specs.Apart.{AreFree}
-use Rattle.ec_locate.specs.Entries.{fixed_place, is_static, packed_flash, flash_size, initial_size, flash_sizes, data_sizes, initial_sizes}
-use Rattle.ec_locate.specs.Fixed.{blocks}
+use Rattle.ec_locate.specs.Entries.{fixed_place, is_static, flash_size, far_size, initial_size, flash_sizes, far_sizes, data_sizes}
+use Rattle.ec_locate.specs.Entries.{initial_sizes}
+use Rattle.ec_locate.specs.Fixed.{blocks, name_where_met, region_of_bank}
 use Rattle.ec_locate.specs.Image.{values_at}
 use Rattle.ec_locate.specs.Initial.{IsInitialised, values_of}
-use Rattle.ec_locate.specs.Layout.{LayoutView, in_region, place_by, local_at}
+use Rattle.ec_locate.specs.Layout.{LayoutView, place_by, local_at}
 use Rattle.ec_locate.specs.Placing.{layout_by}
-use Rattle.ec_locate.proofs.Stood.{Clear, turned, es, size, entry, entry_there, Stood, stood, both_stood}
-use Rattle.ec_locate.proofs.Where.{sum_until, sum_within, place_at, initial_there, free_at, apart_where, clear_of}
+use Rattle.ec_locate.proofs.Objects.{is_object_at}
+use Rattle.ec_locate.proofs.Stood.{Clear, turned, es, size, entry, entry_there, block, Stood, in_flash_bank, stood, both_stood}
+use Rattle.ec_locate.proofs.Where.{sum_until, sum_within, place_at, initial_there, free_at, neither_met, clear_of}
 
 -- ---- objects of the flash bank, by their homes
 
@@ -39,21 +40,10 @@ values_in_flash y i FlashHome h = refl
 values_in_flash y i FarHome h = refl
 values_in_flash y i DataHome h = cc
 
-packed_in_flash : (home : Home) (size : ℕ) → bank_of home ≡ Flash → packed_flash Packed home size ≡ size
-packed_in_flash FlashHome size h = refl
-packed_in_flash FarHome size h = refl
-packed_in_flash DataHome size h = cc
-
-region_in_flash : (home : Home) (flash at : ℕ) → bank_of home ≡ Flash
-    → in_region home flash at ≡ record { bank = Flash; offset = flash }
-region_in_flash FlashHome flash at h = refl
-region_in_flash FarHome flash at h = refl
-region_in_flash DataHome flash at h = cc
-
 -- ---- where the initial values of an object stand
 
 module _ (p : PlainProgram) (m : Map) where
-  -- among the initial bytes of region `tables`, among its flash objects, or where the map puts the object
+  -- among the initial bytes of region `tables`, among its objects of home flash, or where the map puts the object
   pub data Spot (i : ℕ) (o : PlainObject) : ℕ → Type 0 where
     initial : (at : ℕ) → initial_size (entry p m o) ≡ size p m o
         → at ≡ m.tables.first + flash_sizes (es p m) + initial_sizes (take i (es p m)) → Spot i o at
@@ -62,9 +52,18 @@ module _ (p : PlainProgram) (m : Map) where
     fixed : (at : ℕ) → bank_of o.home ≡ Flash → o.external ≡ true → is_static o.storage ≡ true
         → fixed_place m.places.items o.name ≡ Some at → Spot i o at
 
-  pub spot : (asm : AsmProgram) (i : ℕ) (o : PlainObject) (inits : List LeafInit) → IsInitialised p i o inits
-      → Spot i o (values_of p m asm i o)
-  spot asm i o inits h = by_home o.home refl
+  -- nothing stands in region `far`, which has no bytes
+  pub none_in_far : Valid p m.io → ValidMap m → far_sizes (es p m) ≤ m.far.size → (i : ℕ) (o : PlainObject)
+      → slice_get p.objects i ≡ Some o → far_size (entry p m o) ≢ size p m o
+  none_in_far valid map_valid room i o q s =
+      let within = sum_within far_size (es p m) i (entry p m o) (entry_there p m i o q) in
+      let none = map_valid.regions_valid.no_far in
+      let some = (is_object_at p m.io valid i o q).some in
+      omega (arith, within, none, some, s, room)
+
+  pub spot : (asm : AsmProgram) (i : ℕ) (o : PlainObject) (inits : List LeafInit) → far_size (entry p m o) ≢ size p m o
+      → IsInitialised p i o inits → Spot i o (values_of p m asm i o)
+  spot asm i o inits none h = by_home o.home refl
     where
       is_there : slice_get (es p m) i ≡ Some (entry p m o)
       is_there = entry_there p m i o h.is_object
@@ -72,23 +71,26 @@ module _ (p : PlainProgram) (m : Map) where
       static_there : is_static o.storage ≡ true
       static_there = rw h.is_static refl
 
-      at_flash : (Kept) → ℕ
-      at_flash k =
-          (place_by k o.home (m.tables.first + flash_sizes (take i (es p m))) (m.vars.first + data_sizes (take i (es p m)))
-          (λ f. local_at m (rows_of_program p) (es p m) f i)).offset
+      placed : Kept → ℕ
+      placed k =
+          (place_by k o.home (m.tables.first + flash_sizes (take i (es p m))) (m.far.first + far_sizes (take i (es p m)))
+          (m.vars.first + data_sizes (take i (es p m))) (λ f. local_at m (rows_of_program p) (es p m) f i)).offset
 
-      in_flash : bank_of o.home ≡ Flash → values_of p m asm i o ≡ at_flash (entry p m o).kept
+      in_flash : bank_of o.home ≡ Flash → values_of p m asm i o ≡ placed (entry p m o).kept
       in_flash f =
           values_in_flash (layout_by p m asm) i o.home f
           ∙ ap (λ z. unwrap_or (option_map (λ q. q.offset) z) 0)
-          (place_at (es p m) m.tables.first m.vars.first (local_at m (rows_of_program p) (es p m)) i (entry p m o) is_there)
+          (place_at (es p m) m.tables.first m.far.first m.vars.first (local_at m (rows_of_program p) (es p m)) i (entry p m o) is_there)
+
+      is_packed : (home : Home) → o.home ≡ home → bank_of home ≡ Flash → (entry p m o).kept ≡ Packed → Spot i o (values_of p m asm i o)
+      is_packed FlashHome f h k =
+          packed (values_of p m asm i o) (rw (k, f) refl) (in_flash (ap bank_of f) ∙ rw (k, f) refl)
+      is_packed FarHome f h k = absurd (none (rw (k, f) refl))
+      is_packed DataHome f h k = cc
 
       by_place : bank_of o.home ≡ Flash → (z : Option ℕ) → fixed_place m.places.items o.name ≡ z → o.external ≡ true
           → Spot i o (values_of p m asm i o)
-      by_place f None z x =
-          let k : (entry p m o).kept ≡ Packed = rw (h.is_static, x, z) refl in
-          packed (values_of p m asm i o) (rw k (packed_in_flash o.home (size p m o) f))
-          (in_flash f ∙ rw k (ap (λ q. q.offset) (region_in_flash o.home _ _ f)))
+      by_place f None z x = is_packed o.home refl f (rw (h.is_static, x, z) refl)
       by_place f (Some at) z x =
           let k : (entry p m o).kept ≡ Fixed at = rw (h.is_static, x, z) refl in
           let here : values_of p m asm i o ≡ at = in_flash f ∙ rw k refl in
@@ -96,10 +98,7 @@ module _ (p : PlainProgram) (m : Map) where
 
       by_external : bank_of o.home ≡ Flash → (b : Bool) → o.external ≡ b → Spot i o (values_of p m asm i o)
       by_external f true x = by_place f (fixed_place m.places.items o.name) refl x
-      by_external f false x =
-          let k : (entry p m o).kept ≡ Packed = rw (h.is_static, x) refl in
-          packed (values_of p m asm i o) (rw k (packed_in_flash o.home (size p m o) f))
-          (in_flash f ∙ rw k (ap (λ q. q.offset) (region_in_flash o.home _ _ f)))
+      by_external f false x = is_packed o.home refl f (rw (h.is_static, x) refl)
 
       by_home : (b : Home) → o.home ≡ b → Spot i o (values_of p m asm i o)
       by_home FlashHome f = by_external (ap bank_of f) o.external refl
@@ -123,7 +122,7 @@ module _ (p : PlainProgram) (m : Map) where
     code : Clear at size m.code.first m.code.size
     tables : Clear at size m.tables.first m.tables.size
 
-  module _ (valid : Valid p m.io) (room : flash_sizes (es p m) + initial_sizes (es p m) ≤ m.tables.size)
+  module _ (valid : Valid p m.io) (map_valid : ValidMap m) (room : flash_sizes (es p m) + initial_sizes (es p m) ≤ m.tables.size)
       (free : AreFree m (blocks (es p m) p.objects m.places.items)) where
     initial_in : (i : ℕ) (o : PlainObject) (at : ℕ) → slice_get p.objects i ≡ Some o → initial_size (entry p m o) ≡ size p m o
         → at ≡ m.tables.first + flash_sizes (es p m) + initial_sizes (take i (es p m)) → InTables at (size p m o)
@@ -139,13 +138,18 @@ module _ (p : PlainProgram) (m : Map) where
 
     outside : (o : PlainObject) (at : ℕ) → Stood p m Flash o at → Outside at (size p m o)
     outside o at s =
-        let b : Block = record { bank = Flash; at = at; size = size p m o } in
-        let (inside, unmet) = free_at m (blocks (es p m) p.objects m.places.items) s.found.number b free s.is_block in
-        let (code, tables) = clear_of b m.code regions.Code m.tables regions.Tables unmet in
+        let b = block p m o at in
+        let (inside, met) = free_at m (blocks (es p m) p.objects m.places.items) s.found.number b free s.is_block in
+        let unmet : region_of_bank m b Flash ≡ None = subst (λ bank. region_of_bank m b bank ≡ None) s.in_bank met in
+        let in_tables = name_where_met b m.tables regions.Tables in
+        let in_far = name_where_met b m.far regions.Far in
+        let (code, rest) = neither_met (name_where_met b m.code regions.Code) (option_or in_tables in_far) unmet in
+        let (tables, far) = neither_met in_tables in_far rest in
         record {
-          within = leb-true (at + size p m o) 32768 inside;
-          code = turned m.code.first m.code.size at (size p m o) (apart_where at (size p m o) m.code.first m.code.size code);
-          tables = turned m.tables.first m.tables.size at (size p m o) (apart_where at (size p m o) m.tables.first m.tables.size tables);
+          within = in_flash_bank o.home at (at + size p m o) s.in_bank inside;
+          code = turned m.code.first m.code.size at (size p m o) (clear_of b m.code regions.Code map_valid.regions_valid.code.some code);
+          tables = turned m.tables.first m.tables.size at (size p m o)
+              (clear_of b m.tables regions.Tables map_valid.regions_valid.tables.some tables);
         }
 
     beside : (at size to many : ℕ) → Outside at size → InTables to many → Clear at size to many
@@ -188,9 +192,9 @@ module _ (p : PlainProgram) (m : Map) where
       pub behind : m.code.size ≤ at
       pub within : at + size ≤ 32768
 
-    pub room_of : (map_valid : ValidMap m) (i : ℕ) (o : PlainObject) (at : ℕ) → slice_get p.objects i ≡ Some o → 1 ≤ size p m o
+    pub room_of : (i : ℕ) (o : PlainObject) (at : ℕ) → slice_get p.objects i ≡ Some o → 1 ≤ size p m o
         → Spot i o at → Room at (size p m o)
-    room_of map_valid i o at q some s = by_spot s
+    room_of i o at q some s = by_spot s
       where
         in_tables : InTables at (size p m o) → Room at (size p m o)
         in_tables t =

@@ -1,10 +1,13 @@
 -- What the map places, in either bank: its block, and that no two meet.
-use Rattle.std.proofs.Common.{◌≡◌, ◌≢◌, ◌⊎◌, inl, inr, ⊎_elim, ◌+◌, ◌<◌, ◌≤◌, ℕ, true, get_or, List, Some, refl, sym, ap, ◌∙◌, subst, arith}
-use Rattle.std.specs.Prelude.{slice_get, option_map}
-use Rattle.std.proofs.lemmas.Bool.{cases_lt}
+use Rattle.std.proofs.Common.{◌≡◌, ◌≢◌, ◌⊎◌, inl, inr, ⊎_elim, ◌+◌, ◌<◌, ◌≤◌, ℕ, ◌&&◌, true, false, get_or, List, Some}
+use Rattle.std.proofs.Common.{refl, sym, ap, ◌∙◌, subst, arith}
+use Rattle.std.specs.Prelude.{nat_le, slice_get, option_map}
+use Rattle.std.proofs.lemmas.Bool.{and_parts, leb-true, cases_lt}
 use Rattle.std.proofs.lemmas.Option.{slice_get-map, slice_get_within, get_or_from_slice_get}
 use Rattle.ec_space.specs.declared.space.Bank.{Bank}
 use Rattle.ec_space.specs.declared.space.Bank.TheVariants.{Flash, Data}
+use Rattle.ec_space.specs.declared.space.Home.{Home}
+use Rattle.ec_space.specs.declared.space.Home.TheVariants.{Flash as FlashHome, Far as FarHome, Data as DataHome}
 use Rattle.ec_space.specs.Spaces.{bank_of}
 use Rattle.ec_core.specs.Layout.{size_of_type}
 use Rattle.ec_core.specs.Plain.{PlainObject, PlainProgram}
@@ -14,7 +17,7 @@ use Rattle.ec_locate.specs.declared.entries.Entry.{Entry}
 use Rattle.ec_locate.specs.declared.fixed.Block.{Block}
 use Rattle.ec_locate.specs.Apart.{AreFree}
 use Rattle.ec_locate.specs.Entries.{fixed_place, is_static, entry_of}
-use Rattle.ec_locate.specs.Fixed.{blocks, same_bank}
+use Rattle.ec_locate.specs.Fixed.{blocks, shares, same_bank, lies_in_bank}
 use Rattle.ec_locate.specs.Placing.{entries_by}
 use Rattle.ec_locate.proofs.Where.{FoundPlace, found_place, named_is, block_there, free_pair, apart_where}
 
@@ -30,6 +33,21 @@ pub by_order : (n k at size to many : ℕ) → n ≢ k → (n < k → Clear at s
 by_order n k at size to many differ a b =
     ⊎_elim a (λ most. ⊎_elim (λ less. turned to many at size (b less))
     (λ least. let same : n ≡ k = omega (arith, most, least) in absurd (differ same)) (cases_lt k n)) (cases_lt n k)
+
+-- ---- in a bank
+
+pub in_flash_bank : (home : Home) (first end : ℕ) → bank_of home ≡ Flash → lies_in_bank home first end ≡ true → end ≤ 32768
+in_flash_bank FlashHome first end f h = leb-true end 32768 (and_parts (nat_le end 32768) (nat_le end 65535) h).0
+in_flash_bank FarHome first end f h = leb-true end 32768 (and_parts (nat_le end 32768) (nat_le end 131071) h).0
+in_flash_bank DataHome first end f h = cc
+
+pub in_data_bank : (home : Home) (first end : ℕ) → bank_of home ≡ Data → lies_in_bank home first end ≡ true
+    → (256 ≤ first) × (end ≤ 2304)
+in_data_bank FlashHome first end f h = cc
+in_data_bank FarHome first end f h = cc
+in_data_bank DataHome first end f h =
+    let (low, high) = and_parts (nat_le 256 first) (nat_le end 2304) h in
+    (leb-true 256 first low, leb-true end 2304 high)
 
 -- a bank is itself
 same_self : (b : Bank) → same_bank b b ≡ true
@@ -49,14 +67,15 @@ module _ (p : PlainProgram) (m : Map) where
   pub entry_there : (i : ℕ) (o : PlainObject) → slice_get p.objects i ≡ Some o → slice_get es i ≡ Some (entry o)
   entry_there i o q = slice_get-map (entry_of p.structs m.places.items) p.objects i ∙ ap (option_map (entry_of p.structs m.places.items)) q
 
-  abbrev pub block : Bank → PlainObject → (at : ℕ) → Block
-  block bank o at = record { bank = bank; at = at; size = size o }
+  abbrev pub block : PlainObject → (at : ℕ) → Block
+  block o at = record { home = o.home; at = at; size = size o }
 
-  -- an object that the map places, and its block
+  -- an object of a bank that the map places, and its block
   pub record Stood (bank : Bank) (o : PlainObject) (at : ℕ) : Type 0 where
     pub external : o.external ≡ true
+    pub in_bank : bank_of o.home ≡ bank
     pub found : FoundPlace m.places.items o.name at
-    pub is_block : slice_get (blocks es p.objects m.places.items) found.number ≡ Some (block bank o at)
+    pub is_block : slice_get (blocks es p.objects m.places.items) found.number ≡ Some (block o at)
 
   module _ (valid : Valid p m.io) (free : AreFree m (blocks es p.objects m.places.items)) where
     pub stood : (bank : Bank) (i : ℕ) (o : PlainObject) (at : ℕ) → slice_get p.objects i ≡ Some o → bank_of o.home ≡ bank → o.external ≡ true
@@ -65,15 +84,16 @@ module _ (p : PlainProgram) (m : Map) where
         let found = found_place m.places.items o.name at z in
         let named = named_is p.objects i o o.name valid.externals q x s refl in
         let there = block_there es p.objects m.places.items i (entry o) o.name at found (entry_there i o q) named in
-        record { external = x; found = found; is_block = there ∙ ap (λ b. Some (block b o at)) f }
+        record { external = x; in_bank = f; found = found; is_block = there }
 
     -- of two blocks the later is clear of the earlier
-    in_order : (bank : Bank) (j n : ℕ) (c d : PlainObject) (from there : ℕ) → j < n
-        → slice_get (blocks es p.objects m.places.items) j ≡ Some (block bank c from)
-        → slice_get (blocks es p.objects m.places.items) n ≡ Some (block bank d there) → Clear from (size c) there (size d)
-    in_order bank j n c d from there less u v =
-        let h = free_pair m (blocks es p.objects m.places.items) j n (block bank c from) (block bank d there) free less u v in
-        let no = rw (same_self bank) at h in
+    in_order : (bank : Bank) (j n : ℕ) (c d : PlainObject) (from there : ℕ) → j < n → bank_of c.home ≡ bank → bank_of d.home ≡ bank
+        → slice_get (blocks es p.objects m.places.items) j ≡ Some (block c from)
+        → slice_get (blocks es p.objects m.places.items) n ≡ Some (block d there) → Clear from (size c) there (size d)
+    in_order bank j n c d from there less cb db u v =
+        let h : (same_bank (bank_of c.home) (bank_of d.home) && shares from (size c) there (size d)) ≡ false =
+        free_pair m (blocks es p.objects m.places.items) j n (block c from) (block d there) free less u v in
+        let no : shares from (size c) there (size d) ≡ false = rw (cb, db, same_self bank) at h in
         turned there (size d) from (size c) (apart_where from (size c) there (size d) no)
 
     names_differ : (i k : ℕ) (o x : PlainObject) → i < k → slice_get p.objects i ≡ Some o → slice_get p.objects k ≡ Some x
@@ -98,9 +118,10 @@ module _ (p : PlainProgram) (m : Map) where
     pub both_stood : (bank : Bank) (i k : ℕ) (o x : PlainObject) (at to : ℕ) → i < k → slice_get p.objects i ≡ Some o
         → slice_get p.objects k ≡ Some x → Stood bank o at → Stood bank x to → Clear at (size o) to (size x)
     both_stood bank i k o x at to l q r a b =
-        ⊎_elim (λ less. in_order bank a.found.number b.found.number o x at to less a.is_block b.is_block)
+        ⊎_elim (λ less. in_order bank a.found.number b.found.number o x at to less a.in_bank b.in_bank a.is_block b.is_block)
         (λ most.
-        ⊎_elim (λ less. turned to (size x) at (size o) (in_order bank b.found.number a.found.number x o to at less b.is_block a.is_block))
+        ⊎_elim (λ less. turned to (size x) at (size o)
+        (in_order bank b.found.number a.found.number x o to at less b.in_bank a.in_bank b.is_block a.is_block))
         (λ least.
         let same : a.found.number ≡ b.found.number = omega (arith, most, least) in
         absurd (names_differ i k o x l q r a.external b.external (same_name bank o x at to a b same)))

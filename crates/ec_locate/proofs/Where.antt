@@ -2,15 +2,15 @@
 use Rattle.std.proofs.Common.{◌≡◌, ◌⊎◌, inl, inr, ⊎_elim, ◌+◌, ◌<◌, ◌≤◌, ℕ, zero, suc, Bool, true, false}
 use Rattle.std.proofs.Common.{◌&&◌, List, [], ◌∷◌, take, get_or}
 use Rattle.std.proofs.Common.{add-zero, zero-add, Option, Some, None, refl, sym, ap, ◌∙◌, subst, arith}
-use Rattle.std.specs.Prelude.{sum_by, slice_get, slice_index, option_map, option_and_then, if◌then◌else◌, AllPairs}
+use Rattle.std.specs.Prelude.{nat_lt, sum_by, slice_get, slice_index, option_map, option_and_then, if◌then◌else◌, AllPairs}
 use Rattle.std.specs.List.{position_from}
+use Rattle.std.specs.Option.{option_or}
 use Rattle.std.specs.Str.{bytes_eq}
 use Rattle.std.proofs.lemmas.Bool.{and_parts, lt-ltb, cases_Bool, cases_lt}
 use Rattle.std.proofs.lemmas.Iterator.Adapters.{position_from-zero}
 use Rattle.std.proofs.lemmas.List.Sums.{sum_by-cons}
 use Rattle.std.proofs.lemmas.Option.{slice_get-map, slice_get_within, get_or_from_slice_get}
 use Rattle.std.proofs.lemmas.Slice.Eq.{bytes_eq-Decides}
-use Rattle.ec_space.specs.Spaces.{bank_of}
 use Rattle.ec_core.specs.Plain.{PlainObject}
 use Rattle.ec_core.specs.Valid.{HaveOwnNames}
 use Rattle.ec_map.specs.declared.map.Fixed1.{Fixed1}
@@ -20,9 +20,10 @@ use Rattle.ec_locate.specs.declared.entries.Entry.{Entry}
 use Rattle.ec_locate.specs.declared.fixed.Block.{Block}
 use Rattle.ec_locate.specs.declared.stop.RegionName.{RegionName}
 use Rattle.ec_locate.specs.Apart.{AreFree}
-use Rattle.ec_locate.specs.Entries.{fixed_place, is_static, flash_size, data_size, initial_size, flash_sizes, data_sizes, initial_sizes}
+use Rattle.ec_locate.specs.Entries.{fixed_place, is_static, flash_size, far_size, data_size, initial_size, flash_sizes, far_sizes}
+use Rattle.ec_locate.specs.Entries.{data_sizes, initial_sizes}
 use Rattle.ec_locate.specs.Fixed.{can_place, object_named, block_at, block_of, blocks, shares, meets, overlaps, is_in_bank, region_met}
-use Rattle.ec_locate.specs.Fixed.{first_of}
+use Rattle.ec_locate.specs.Fixed.{name_where_met}
 use Rattle.ec_locate.specs.Layout.{place_by, places_from, initial_at, initials_from, frames_from}
 
 -- ---- sums up to an item
@@ -59,29 +60,30 @@ sum_within f (y ∷ xs) (suc i) x q =
 behind : {X : Type 0} (f : X → ℕ) (x : X) (xs : List X) (at : ℕ) → at + f x + sum_by f xs ≡ at + sum_by f (x ∷ xs)
 behind f x xs at = omega (arith, sum_by-cons f x xs)
 
-place_from : (es : List Entry) (flash at : ℕ) (frame : ℕ → ℕ → ℕ) (k i : ℕ) (e : Entry) → slice_get es i ≡ Some e
-    → slice_get (places_from flash at frame k es) i
-    ≡ Some (place_by e.kept e.home (flash + flash_sizes (take i es)) (at + data_sizes (take i es)) (λ f. frame f (k + i)))
-place_from [] flash at frame k i e q = cc
-place_from (x ∷ es) flash at frame k zero e q =
+place_from : (es : List Entry) (flash far at : ℕ) (frame : ℕ → ℕ → ℕ) (k i : ℕ) (e : Entry) → slice_get es i ≡ Some e
+    → slice_get (places_from flash far at frame k es) i
+    ≡ Some (place_by e.kept e.home (flash + flash_sizes (take i es)) (far + far_sizes (take i es)) (at + data_sizes (take i es))
+    (λ f. frame f (k + i)))
+place_from [] flash far at frame k i e q = cc
+place_from (x ∷ es) flash far at frame k zero e q =
     let same : x ≡ e = cc in
-    rw (same, add-zero flash, add-zero at, add-zero k) refl
-place_from (x ∷ es) flash at frame k (suc i) e q =
-    let h = place_from es (flash + flash_size x) (at + data_size x) frame (k + 1) i e q in
+    rw (same, add-zero flash, add-zero far, add-zero at, add-zero k) refl
+place_from (x ∷ es) flash far at frame k (suc i) e q =
+    let h = place_from es (flash + flash_size x) (far + far_size x) (at + data_size x) frame (k + 1) i e q in
     let a = behind flash_size x (take i es) flash in
-    let b = behind data_size x (take i es) at in
+    let b = behind far_size x (take i es) far in
+    let d = behind data_size x (take i es) at in
     let c : k + 1 + i ≡ k + suc i = omega arith in
-    h ∙ ap (λ n. Some (place_by e.kept e.home n (at + data_size x + data_sizes (take i es)) (λ f. frame f (k + 1 + i)))) a
-    ∙ ap (λ n. Some (place_by e.kept e.home (flash + flash_sizes (x ∷ take i es)) n (λ f. frame f (k + 1 + i)))) b
-    ∙ ap
-    (λ n. Some (place_by e.kept e.home (flash + flash_sizes (x ∷ take i es)) (at + data_sizes (x ∷ take i es)) (λ f. frame f n))) c
+    h ∙ (λ j. Some (place_by e.kept e.home (a j) (b j) (d j) (λ f. frame f (c j))))
 
-pub place_at : (es : List Entry) (flash at : ℕ) (frame : ℕ → ℕ → ℕ) (i : ℕ) (e : Entry) → slice_get es i ≡ Some e
-    → slice_get (places_from flash at frame 0 es) i
-    ≡ Some (place_by e.kept e.home (flash + flash_sizes (take i es)) (at + data_sizes (take i es)) (λ f. frame f i))
-place_at es flash at frame i e q =
-    place_from es flash at frame 0 i e q
-    ∙ ap (λ n. Some (place_by e.kept e.home (flash + flash_sizes (take i es)) (at + data_sizes (take i es)) (λ f. frame f n))) (zero-add i)
+pub place_at : (es : List Entry) (flash far at : ℕ) (frame : ℕ → ℕ → ℕ) (i : ℕ) (e : Entry) → slice_get es i ≡ Some e
+    → slice_get (places_from flash far at frame 0 es) i
+    ≡ Some (place_by e.kept e.home (flash + flash_sizes (take i es)) (far + far_sizes (take i es)) (at + data_sizes (take i es))
+    (λ f. frame f i))
+place_at es flash far at frame i e q =
+    place_from es flash far at frame 0 i e q
+    ∙ ap (λ n. Some (place_by e.kept e.home (flash + flash_sizes (take i es)) (far + far_sizes (take i es))
+    (at + data_sizes (take i es)) (λ f. frame f n))) (zero-add i)
 
 -- the scratch memory of each function, where its frame begins
 frame_from : (area : ℕ) (begin : ℕ → ℕ) (k : ℕ) (fs : List ℕ) (i frame : ℕ) → slice_get fs i ≡ Some frame
@@ -180,13 +182,13 @@ named_is objects i o name own q x s n =
 
 pub block_there : (es : List Entry) (objects : List PlainObject) (places : List Fixed1) (i : ℕ) (e : Entry) (name : List ℕ) (at : ℕ)
     (f : FoundPlace places name at) → slice_get es i ≡ Some e → object_named objects name ≡ Some i
-    → slice_get (blocks es objects places) f.number ≡ Some (record { bank = bank_of e.home; at = at; size = e.size })
+    → slice_get (blocks es objects places) f.number ≡ Some (record { home = e.home; at = at; size = e.size })
 block_there es objects places i e name at f is named =
     let found : object_named objects f.place.name.items ≡ Some i = ap (λ n. object_named objects n) f.is_name ∙ named in
-    let block : block_of es objects f.place ≡ record { bank = bank_of e.home; at = at; size = e.size } =
+    let block : block_of es objects f.place ≡ record { home = e.home; at = at; size = e.size } =
     ap (λ o. block_at f.place.at (option_and_then (slice_get es) o)) found
     ∙ ap (λ o. block_at f.place.at o) is
-    ∙ ap (λ n. let b : Block = record { bank = bank_of e.home; at = n; size = e.size } in b) f.is_there in
+    ∙ ap (λ n. let b : Block = record { home = e.home; at = n; size = e.size } in b) f.is_there in
     slice_get-map (block_of es objects) places f.number
     ∙ ap (option_map (block_of es objects)) f.is_place
     ∙ ap Some block
@@ -218,12 +220,22 @@ apart_where at size first many h =
     (λ b. inr b) (cases_lt first (at + size)))
     (λ a. inl a) (cases_lt at (first + many))
 
-unmet : (b c : Bool) (x y : RegionName) → (let o : Option RegionName = if b then Some x else (if c then Some y else None) in o) ≡ None
-    → (b ≡ false) × (c ≡ false)
-unmet true c x y h = cc
-unmet false true x y h = cc
-unmet false false x y h = (refl, refl)
+-- a block that meets no region is clear of each
+pub neither_met : (a b : Option RegionName) → option_or a b ≡ None → (a ≡ None) × (b ≡ None)
+neither_met None b h = (refl, h)
+neither_met (Some x) b h = cc
 
-pub clear_of : (b : Block) (here : Region) (this : RegionName) (there : Region) (that : RegionName)
-    → first_of b here this there that ≡ None → (meets b here ≡ false) × (meets b there ≡ false)
-clear_of b here this there that h = unmet (meets b here) (meets b there) this that h
+unmet : (b : Bool) (name : RegionName) → (let o : Option RegionName = if b then Some name else None in o) ≡ None → b ≡ false
+unmet true name h = cc
+unmet false name h = refl
+
+no_bytes_shared : (b c : Bool) → b ≡ true → (b && c) ≡ false → c ≡ false
+no_bytes_shared true c h q = q
+no_bytes_shared false c h q = cc
+
+pub clear_of : (b : Block) (r : Region) (name : RegionName) → 1 ≤ r.size → name_where_met b r name ≡ None
+    → (r.first + r.size ≤ b.at) ⊎ (b.at + b.size ≤ r.first)
+clear_of b r name some h =
+    apart_where b.at b.size r.first r.size
+    (no_bytes_shared (nat_lt 0 r.size) (shares b.at b.size r.first r.size) (lt-ltb 0 r.size (omega (arith, some)))
+    (unmet (meets b r) name h))

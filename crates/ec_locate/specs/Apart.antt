@@ -1,10 +1,8 @@
 -- What a placed program keeps stands apart.
 use Rattle.std.specs.Prelude.{ℕ, ◌≡◌, ◌+◌, ◌*◌, ◌≤◌, ⊤, Bool, true, false, List, [], ◌∷◌, None}
 use Rattle.std.specs.Prelude.{length, position}
-use Rattle.ec_space.specs.declared.space.Bank.{Bank}
-use Rattle.ec_space.specs.declared.space.Bank.TheVariants.{Flash, Data}
 use Rattle.ec_space.specs.declared.space.Home.{Home}
-use Rattle.ec_space.specs.declared.space.Home.TheVariants.{Flash as FlashHome, Far as FarHome, Data as DataHome}
+use Rattle.ec_space.specs.declared.space.Home.TheVariants.{Flash, Far, Data}
 use Rattle.ec_space.specs.declared.space.Place.{Place}
 use Rattle.ec_asm.specs.Items.{code_words}
 use Rattle.ec_asm.specs.declared.items.AsmProgram.{AsmProgram}
@@ -43,22 +41,22 @@ add_where false s ss = ss
 
 -- ---- what stands in the regions
 
--- an object of a bank that stands in its region
-abbrev pub is_packed_in : Bank → Kept → Home → Bool
-is_packed_in Flash Packed FlashHome = true
-is_packed_in Flash Packed FarHome = true
-is_packed_in Data Packed DataHome = true
+-- an object that stands in the region of a home
+abbrev pub is_packed_in : (region : Home) → Kept → Home → Bool
+is_packed_in Flash Packed Flash = true
+is_packed_in Far Packed Far = true
+is_packed_in Data Packed Data = true
 is_packed_in _ _ _ = false
 
--- the objects of a bank that stand in its region, before other spans
-abbrev pub objects_in : Bank → List Place → List Entry → List Span → List Span
-objects_in bank [] es rest = rest
-objects_in bank (p ∷ ps) [] rest = rest
-objects_in bank (p ∷ ps) (e ∷ es) rest =
-    add_where (is_packed_in bank e.kept e.home) (record { from = p.offset; size = e.size }) (objects_in bank ps es rest)
+-- the objects that stand in the region of a home, before other spans
+abbrev pub objects_in : (region : Home) → List Place → List Entry → List Span → List Span
+objects_in region [] es rest = rest
+objects_in region (p ∷ ps) [] rest = rest
+objects_in region (p ∷ ps) (e ∷ es) rest =
+    add_where (is_packed_in region e.kept e.home) (record { from = p.offset; size = e.size }) (objects_in region ps es rest)
 
 abbrev pub has_initial : (is_static : Bool) → Home → Bool
-has_initial true DataHome = true
+has_initial true Data = true
 has_initial _ _ = false
 
 -- the initial bytes of static data objects
@@ -87,8 +85,8 @@ AreFree m (b ∷ bs) =
 -- ---- the whole
 
 -- In region `data` stand the free static data objects, the area of parameters and locals, that of scratch memory and the
--- work bytes, in region `tables` the free flash objects and the initial bytes, and in region `code` the code, each behind the
--- one before.
+-- work bytes, in region `tables` the free objects of home flash and the initial bytes, in region `far` the free objects of
+-- home far, and in region `code` the code, each behind the one before.
 -- Region `stack` has 16 bytes, and two for each function of a chain of calls from main, where the program is valid
 pub record StandsApart (p : PlainProgram) (m : Map) (asm : AsmProgram) (l : Located) : Type 0 where
   pub ram : InOrder m.vars.first
@@ -97,6 +95,7 @@ pub record StandsApart (p : PlainProgram) (m : Map) (asm : AsmProgram) (l : Loca
   pub flash : InOrder m.tables.first
       (objects_in Flash l.places.items (entries_by m p)
       (initial_spans (layout_by p m asm).initials (entries_by m p) [])) (end_of m.tables)
+  pub far : InOrder m.far.first (objects_in Far l.places.items (entries_by m p) []) (end_of m.far)
   pub code : 2 * code_words asm.items.items ≤ end_of m.code
   pub stack : Valid p m.io → (fs : List ℕ) → IsChain (rows_of_program p) (p.main ∷ fs)
       → 16 + 2 * length (p.main ∷ fs) ≤ m.stack.size

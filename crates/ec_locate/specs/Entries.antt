@@ -53,8 +53,11 @@ entries places p = map (entry_of p.structs places) p.objects
 
 abbrev pub packed_flash : Kept → Home → ℕ → ℕ
 packed_flash Packed Flash size = size
-packed_flash Packed Far size = size
 packed_flash _ _ size = 0
+
+abbrev pub packed_far : Kept → Home → ℕ → ℕ
+packed_far Packed Far size = size
+packed_far _ _ size = 0
 
 abbrev pub packed_data : Kept → Home → ℕ → ℕ
 packed_data Packed Data size = size
@@ -68,6 +71,9 @@ initial_bytes _ _ size = 0
 abbrev pub flash_size : Entry → ℕ
 flash_size e = packed_flash e.kept e.home e.size
 
+abbrev pub far_size : Entry → ℕ
+far_size e = packed_far e.kept e.home e.size
+
 abbrev pub data_size : Entry → ℕ
 data_size e = packed_data e.kept e.home e.size
 
@@ -77,6 +83,9 @@ initial_size e = initial_bytes e.is_static e.home e.size
 
 abbrev pub flash_sizes : List Entry → ℕ
 flash_sizes es = sum_by flash_size es
+
+abbrev pub far_sizes : List Entry → ℕ
+far_sizes es = sum_by far_size es
 
 abbrev pub data_sizes : List Entry → ℕ
 data_sizes es = sum_by data_size es
@@ -109,9 +118,13 @@ scratch_size frames f = frame_size (slice_index frames f)
 
 -- ---- needs
 
--- of region `tables`: free flash objects, and the initial bytes of all static data objects
+-- of region `tables`: free objects of home flash, and the initial bytes of all static data objects
 abbrev pub table_need : List Entry → ℕ
 table_need es = flash_sizes es + initial_sizes es
+
+-- of region `far`: free objects of home far
+abbrev pub far_need : List Entry → ℕ
+far_need es = far_sizes es
 
 -- of region `data`: free static data objects, the parameters and locals of each function and its scratch memory, both
 -- overlaid by the calls, and the work bytes

@@ -4,15 +4,19 @@ use Rattle.std.specs.Prelude.{ℕ, ◌+◌, nat_le, nat_lt, Bool, true, false, �
 use Rattle.std.specs.Prelude.{drop, Option, Some, None, option_map, option_and_then, unwrap_or, is_none, position}
 use Rattle.std.specs.Prelude.{slice_get, codes}
 use Rattle.std.specs.List.{find}
+use Rattle.std.specs.Option.{option_or}
 use Rattle.std.specs.Str.{bytes_eq}
+use Rattle.ec_space.specs.Memory.{flash_size}
+use Rattle.ec_space.specs.declared.Core.TheVariants.{Small}
 use Rattle.ec_space.specs.declared.space.Bank.{Bank}
 use Rattle.ec_space.specs.declared.space.Bank.TheVariants.{Flash, Data}
+use Rattle.ec_space.specs.declared.space.Home.{Home}
+use Rattle.ec_space.specs.declared.space.Home.TheVariants.{Flash as FlashHome, Far as FarHome, Data as DataHome}
 use Rattle.ec_space.specs.Spaces.{bank_of}
 use Rattle.ec_core.specs.Plain.{PlainObject}
 use Rattle.ec_map.specs.declared.map.Fixed1.{Fixed1}
 use Rattle.ec_map.specs.declared.map.Map.{Map}
 use Rattle.ec_map.specs.declared.region.Region.{Region}
-use Rattle.ec_map.specs.Judging.{first_met}
 use Rattle.ec_locate.specs.Entries.{is_static}
 use Rattle.ec_locate.specs.declared.entries.Entry.{Entry}
 use Rattle.ec_locate.specs.declared.fixed.Block.{Block}
@@ -37,8 +41,8 @@ missing objects places = find (λ p. is_none (object_named objects p.name.items)
 -- ---- what stands at a place: the bytes of the object with its name
 
 abbrev pub block_at : (at : ℕ) → Option Entry → Block
-block_at at None = record { bank = Data; at = at; size = 0 }
-block_at at (Some e) = record { bank = bank_of e.home; at = at; size = e.size }
+block_at at None = record { home = DataHome; at = at; size = 0 }
+block_at at (Some e) = record { home = e.home; at = at; size = e.size }
 
 abbrev pub block_of : List Entry → List PlainObject → Fixed1 → Block
 block_of es objects p = block_at p.at (option_and_then (slice_get es) (object_named objects p.name.items))
@@ -51,8 +55,9 @@ blocks es objects places = map (block_of es objects) places
 abbrev pub shares : (at size first many : ℕ) → Bool
 shares at size first many = nat_lt at (first + many) && nat_lt first (at + size)
 
+-- a block and a region have a byte in common, so the region has one
 abbrev pub meets : Block → Region → Bool
-meets b r = shares b.at b.size r.first r.size
+meets b r = nat_lt 0 r.size && shares b.at b.size r.first r.size
 
 abbrev pub same_bank : Bank → Bank → Bool
 same_bank Flash Flash = true
@@ -60,28 +65,32 @@ same_bank Data Data = true
 same_bank _ _ = false
 
 abbrev pub overlaps : Block → Block → Bool
-overlaps a b = same_bank a.bank b.bank && shares a.at a.size b.at b.size
+overlaps a b = same_bank (bank_of a.home) (bank_of b.home) && shares a.at a.size b.at b.size
 
--- wholly in the flash or the SRAM of the core `small`
-abbrev pub lies_in_bank : Bank → (first end : ℕ) → Bool
-lies_in_bank Flash first end = nat_le end 32768
-lies_in_bank Data first end = nat_le 256 first && nat_le end 2304
+-- Bytes of a home lie wholly in the flash or the SRAM of the core `small`. Those of home flash end by 65,535 and those of
+-- home far by 131,071, so that the pointer past the last of them has bytes
+abbrev pub lies_in_bank : Home → (first end : ℕ) → Bool
+lies_in_bank FlashHome first end = nat_le end (flash_size Small) && nat_le end 65535
+lies_in_bank FarHome first end = nat_le end (flash_size Small) && nat_le end 131071
+lies_in_bank DataHome first end = nat_le 256 first && nat_le end 2304
 
 abbrev pub is_in_bank : Block → Bool
-is_in_bank b = lies_in_bank b.bank b.at (b.at + b.size)
+is_in_bank b = lies_in_bank b.home b.at (b.at + b.size)
 
--- the first of two regions that a block meets
-abbrev pub first_of : Block → (here : Region) (this : RegionName) (there : Region) (that : RegionName)
-    → Option RegionName
-first_of b here this there that = first_met (meets b here) this (meets b there) that
+-- the name of a region that a block meets
+abbrev pub name_where_met : Block → Region → RegionName → Option RegionName
+name_where_met b r name = if meets b r then Some name else None
 
 -- the first region of its bank that a block meets
 abbrev pub region_of_bank : Map → Block → Bank → Option RegionName
-region_of_bank m b Flash = first_of b m.code regions.Code m.tables regions.Tables
-region_of_bank m b Data = first_of b m.vars regions.Data m.stack regions.Stack
+region_of_bank m b Flash =
+    option_or (name_where_met b m.code regions.Code)
+    (option_or (name_where_met b m.tables regions.Tables) (name_where_met b m.far regions.Far))
+region_of_bank m b Data =
+    option_or (name_where_met b m.vars regions.Data) (name_where_met b m.stack regions.Stack)
 
 abbrev pub region_met : Map → Block → Option RegionName
-region_met m b = region_of_bank m b b.bank
+region_met m b = region_of_bank m b (bank_of b.home)
 
 abbrev pub region_or_later : Option RegionName → Option ℕ → Option Neighbour
 region_or_later (Some name) later = Some (InRegion name)
@@ -104,6 +113,7 @@ first_clash m i (b ∷ bs) = or_next i (clash_of m b bs) (first_clash m (i + 1) 
 abbrev pub region_text : RegionName → List ℕ
 region_text regions.Code = codes "code"
 region_text regions.Tables = codes "tables"
+region_text regions.Far = codes "far"
 region_text regions.Data = codes "data"
 region_text regions.Stack = codes "stack"
 

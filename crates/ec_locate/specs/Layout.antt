@@ -11,28 +11,28 @@ use Rattle.ec_overlay.specs.Objects.{object_at}
 use Rattle.ec_locate.specs.declared.entries.Entry.{Entry}
 use Rattle.ec_locate.specs.declared.entries.Kept.{Kept}
 use Rattle.ec_locate.specs.declared.entries.Kept.TheVariants.{Register, Fixed, Packed, InFrame}
-use Rattle.ec_locate.specs.Entries.{flash_size, data_size, initial_size, flash_sizes, data_sizes, owned_of, local_size}
-use Rattle.ec_locate.specs.Entries.{scratch_size}
+use Rattle.ec_locate.specs.Entries.{flash_size, far_size, data_size, initial_size, flash_sizes, data_sizes, owned_of}
+use Rattle.ec_locate.specs.Entries.{local_size, scratch_size}
 
-abbrev pub in_region : Home → (flash at : ℕ) → Place
-in_region FlashHome flash at = record { bank = Flash; offset = flash }
-in_region FarHome flash at = record { bank = Flash; offset = flash }
-in_region DataHome flash at = record { bank = Data; offset = at }
+abbrev pub in_region : Home → (flash far at : ℕ) → Place
+in_region FlashHome flash far at = record { bank = Flash; offset = flash }
+in_region FarHome flash far at = record { bank = Flash; offset = far }
+in_region DataHome flash far at = record { bank = Data; offset = at }
 
--- the place of an object, where its region goes on at `flash` or at `at`, and the frame of each function at `frame`
-abbrev pub place_by : Kept → Home → (flash at : ℕ) → (frame : ℕ → ℕ) → Place
-place_by (Register first) home flash at frame = record { bank = Data; offset = first }
-place_by (Fixed there) home flash at frame = record { bank = bank_of home; offset = there }
-place_by Packed home flash at frame = in_region home flash at
-place_by (InFrame f) home flash at frame = record { bank = bank_of home; offset = frame f }
+-- the place of an object, where its region goes on at `flash`, at `far` or at `at`, and the frame of each function at `frame`
+abbrev pub place_by : Kept → Home → (flash far at : ℕ) → (frame : ℕ → ℕ) → Place
+place_by (Register first) home flash far at frame = record { bank = Data; offset = first }
+place_by (Fixed there) home flash far at frame = record { bank = bank_of home; offset = there }
+place_by Packed home flash far at frame = in_region home flash far at
+place_by (InFrame f) home flash far at frame = record { bank = bank_of home; offset = frame f }
 
 -- free static objects stand one after another in their regions, and a parameter or local, the object with number i, where
 -- it stands in the frame of its function
-abbrev pub places_from : (flash at : ℕ) → (frame : ℕ → ℕ → ℕ) → (i : ℕ) → List Entry → List Place
-places_from flash at frame i [] = []
-places_from flash at frame i (e ∷ es) =
-    place_by e.kept e.home flash at (λ f. frame f i)
-    ∷ places_from (flash + flash_size e) (at + data_size e) frame (i + 1) es
+abbrev pub places_from : (flash far at : ℕ) → (frame : ℕ → ℕ → ℕ) → (i : ℕ) → List Entry → List Place
+places_from flash far at frame i [] = []
+places_from flash far at frame i (e ∷ es) =
+    place_by e.kept e.home flash far at (λ f. frame f i)
+    ∷ places_from (flash + flash_size e) (far + far_size e) (at + data_size e) frame (i + 1) es
 
 abbrev pub initial_at : (is_static : Bool) → Home → (first at : ℕ) → ℕ
 initial_at true DataHome first at = at
@@ -77,7 +77,7 @@ pub record LayoutView : Type 0 where
 
 abbrev pub layout : Map → (rows : List (List ℕ)) → List Entry → (frames : List ℕ) → LayoutView
 layout m rows es frames = record {
-  places = places_from m.tables.first m.vars.first (local_at m rows es) 0 es;
+  places = places_from m.tables.first m.far.first m.vars.first (local_at m rows es) 0 es;
   initials = initials_by m es;
   frames = frames_from (scratch_area m rows es) (begin_of rows (scratch_size frames)) 0 frames;
   work = work_area m rows es frames;

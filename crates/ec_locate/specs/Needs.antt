@@ -5,7 +5,7 @@ use Rattle.ec_map.specs.declared.region.Region.{Region}
 use Rattle.ec_locate.specs.declared.needs.Needs.{Needs}
 use Rattle.ec_locate.specs.declared.needs.Shortage.{Shortage}
 use Rattle.ec_locate.specs.declared.stop.RegionName.{RegionName}
-use Rattle.ec_locate.specs.declared.stop.RegionName.TheVariants.{Code, Tables, Data, Stack}
+use Rattle.ec_locate.specs.declared.stop.RegionName.TheVariants.{Code, Tables, Far, Data, Stack}
 
 -- 16 bytes, and a return address for each function on the longest chain of calls from main
 abbrev pub stack_need : (depth : ℕ) → ℕ
@@ -25,8 +25,8 @@ abbrev pub or_else : Option Shortage → Option Shortage → Option Shortage
 or_else None next = next
 or_else (Some s) next = Some s
 
--- the first of tables, data, stack and code that is too small
+-- the first of tables, far, data, stack and code that is too small
 abbrev pub first_shortage : Map → Needs → Option Shortage
 first_shortage m n =
-    or_else (shortage_of Tables m.tables n.tables) (or_else (shortage_of Data m.vars n.vars)
-    (or_else (shortage_of Stack m.stack n.stack) (shortage_of Code m.code n.code)))
+    or_else (shortage_of Tables m.tables n.tables) (or_else (shortage_of Far m.far n.far)
+    (or_else (shortage_of Data m.vars n.vars) (or_else (shortage_of Stack m.stack n.stack) (shortage_of Code m.code n.code))))

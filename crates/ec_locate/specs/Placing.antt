@@ -12,7 +12,7 @@ use Rattle.ec_core.specs.Plain.{PlainProgram}
 use Rattle.ec_map.specs.declared.map.Fixed1.{Fixed1}
 use Rattle.ec_map.specs.declared.map.Map.{Map}
 use Rattle.ec_locate.specs.Calls.{call_depth}
-use Rattle.ec_locate.specs.Entries.{entries, table_need, data_need}
+use Rattle.ec_locate.specs.Entries.{entries, table_need, far_need, data_need}
 use Rattle.ec_locate.specs.Fixed.{missing, blocks, first_clash, place_name, neighbour_name}
 use Rattle.ec_locate.specs.Image.{flash_of, image}
 use Rattle.ec_locate.specs.Layout.{LayoutView, layout}
@@ -38,6 +38,7 @@ scratch_needs p = map (λ f. stmt_need f.body) p.functions
 abbrev pub needs : PlainProgram → List Entry → (frames : List ℕ) → List AsmItem → Needs
 needs p es frames items = record {
   tables = table_need es;
+  far = far_need es;
   vars = data_need 64 (rows_of_program p) es frames;
   stack = stack_need (call_depth p);
   code = 2 * code_words items;

@@ -4,8 +4,8 @@ ghost use Rattle.std.specs.List.{AllByRecursion};
 ghost use Rattle.ec_core.specs.Layout.{AreStructs, IsObjectType};
 ghost use Rattle.ec_core.specs.Plain.{plain_struct, plain_type, plain_object, plain_storage, plain_program};
 ghost use Rattle.ec_core.specs.Valid.{IsObject};
-ghost use Rattle.ec_locate.specs.Entries.{fixed_place, kept_by, is_static, entry_of, entries, flash_size, data_size};
-ghost use Rattle.ec_locate.specs.Entries.{initial_size, flash_sizes, data_sizes, initial_sizes};
+ghost use Rattle.ec_locate.specs.Entries.{fixed_place, kept_by, is_static, entry_of, entries, flash_size, far_size, data_size};
+ghost use Rattle.ec_locate.specs.Entries.{initial_size, flash_sizes, far_sizes, data_sizes, initial_sizes};
 
 use ec_core::{Obj, Program, Storage, StructDef, size_of};
 use ec_map::Fixed1;
@@ -117,12 +117,22 @@ pub(crate) fn entries_of(
     Ok(made)
 }
 
-/// The bytes of a flash object in region `tables`.
+/// The bytes of an object of home flash in region `tables`.
 pub(crate) fn flash_size(entry: Entry) -> u32
     ensures { result ≡ flash_size entry }
 {
     match (entry.kept, entry.home) {
-        (Kept::Packed, Home::Flash | Home::Far) => entry.size,
+        (Kept::Packed, Home::Flash) => entry.size,
+        _ => 0,
+    }
+}
+
+/// The bytes of an object of home far in region `far`.
+pub(crate) fn far_size(entry: Entry) -> u32
+    ensures { result ≡ far_size entry }
+{
+    match (entry.kept, entry.home) {
+        (Kept::Packed, Home::Far) => entry.size,
         _ => 0,
     }
 }
@@ -155,6 +165,18 @@ pub(crate) fn flash_sizes(entries: &[Entry]) -> u64
     let mut sum = 0u64;
     for entry in entries {
         sum += u64::from(flash_size(*entry));
+    }
+    sum
+}
+
+pub(crate) fn far_sizes(entries: &[Entry]) -> u64
+    requires { length entries.now < 2 ^ 29 }
+    ensures value { result ≡ far_sizes entries.now }
+    ensures bound { result < 2 ^ 61 }
+{
+    let mut sum = 0u64;
+    for entry in entries {
+        sum += u64::from(far_size(*entry));
     }
     sum
 }

@@ -4,20 +4,20 @@ ghost use Rattle.std.specs.Option.{option_copied};
 ghost use Rattle.ec_core.specs.Plain.{plain_object, plain_storage};
 ghost use Rattle.ec_locate.specs.Entries.{is_static as static_storage};
 ghost use Rattle.ec_locate.specs.Fixed.{can_place, object_named, missing, block_at, block_of, blocks, shares, meets};
-ghost use Rattle.ec_locate.specs.Fixed.{same_bank, overlaps, lies_in_bank, is_in_bank, first_of, region_met, clash_of};
+ghost use Rattle.ec_locate.specs.Fixed.{same_bank, overlaps, is_in_bank, name_where_met, region_met, clash_of};
 ghost use Rattle.ec_locate.specs.Fixed.{region_or_later, first_clash, region_text, place_name, neighbour_name};
 
 use crate::entries::{Entry, is_static};
 use crate::stop::RegionName;
 use ec_core::Obj;
-use ec_map::{Fixed1, Map, Region, first_met};
-use ec_space::{Bank, Name, NoMemory, Seq};
+use ec_map::{Fixed1, Map, Region};
+use ec_space::{Bank, Core, Home, Name, NoMemory, Seq};
 use std::alloc::Global;
 
 /// The bytes of an object that the map places.
 #[derive(Clone, Copy)]
 pub struct Block {
-    pub bank: Bank,
+    pub home: Home,
     pub at: u32,
     pub size: u32,
 }
@@ -25,7 +25,7 @@ pub struct Block {
 /// What a block clashes with.
 #[derive(Clone, Copy)]
 pub enum Neighbour {
-    /// It does not lie wholly in its bank.
+    /// It does not lie wholly in its bank, or the pointer past its last byte has no bytes.
     BankEnd,
     InRegion(RegionName),
     /// The block of a later name, by how many names stand between.
@@ -63,12 +63,12 @@ fn block_at(at: u32, entry: Option<Entry>) -> Block
 {
     match entry {
         Some(entry) => Block {
-            bank: entry.home.bank(),
+            home: entry.home,
             at,
             size: entry.size,
         },
         None => Block {
-            bank: Bank::Data,
+            home: Home::Data,
             at,
             size: 0,
         },
@@ -109,10 +109,11 @@ fn shares(at: u32, size: u32, first: u32, many: u32) -> bool
     u64::from(at) < other_end && u64::from(first) < end
 }
 
+/// Whether a block and a region have a byte in common. A region without bytes has none.
 fn meets(block: Block, region: Region) -> bool
     ensures { result ≡ meets block region }
 {
-    shares(block.at, block.size, region.first, region.size)
+    0 < region.size && shares(block.at, block.size, region.first, region.size)
 }
 
 fn same_bank(a: Bank, b: Bank) -> bool
@@ -127,52 +128,49 @@ fn same_bank(a: Bank, b: Bank) -> bool
 fn overlaps(a: Block, b: Block) -> bool
     ensures { result ≡ overlaps a b }
 {
-    same_bank(a.bank, b.bank) && shares(a.at, a.size, b.at, b.size)
+    same_bank(a.home.bank(), b.home.bank()) && shares(a.at, a.size, b.at, b.size)
 }
 
-/// Whether a block lies wholly in the flash or the SRAM of the core.
+/// Whether a block lies wholly in the flash or the SRAM of the core, and the pointer past its last byte has bytes.
 fn is_in_bank(block: Block) -> bool
     ensures { result ≡ is_in_bank block }
 {
     let end = u64::from(block.at) + u64::from(block.size);
-    match block.bank {
-        Bank::Flash => end <= 32_768,
-        Bank::Data => 256 <= block.at && end <= 2_304,
+    let flash = u64::from(Core::Small.flash_size());
+    match block.home {
+        Home::Flash => end <= flash && end <= 65_535,
+        Home::Far => end <= flash && end <= 131_071,
+        Home::Data => 256 <= block.at && end <= 2_304,
     }
 }
 
-/// The first of two regions that a block meets.
-fn first_of(
-    block: Block,
-    here: Region,
-    this: RegionName,
-    there: Region,
-    that: RegionName,
-) -> Option<RegionName>
-    ensures { result ≡ first_of block here this there that }
+/// The name of a region, where a block meets it.
+fn name_where_met(block: Block, region: Region, name: RegionName) -> Option<RegionName>
+    ensures { result ≡ name_where_met block region name }
 {
-    first_met(meets(block, here), this, meets(block, there), that)
+    if meets(block, region) {
+        Some(name)
+    } else {
+        None
+    }
 }
 
 /// The first region of its bank that a block meets.
 fn region_met(map: &Map, block: Block) -> Option<RegionName>
     ensures { result ≡ region_met map.now block }
 {
-    match block.bank {
-        Bank::Flash => first_of(
-            block,
-            map.code,
-            RegionName::Code,
-            map.tables,
-            RegionName::Tables,
-        ),
-        Bank::Data => first_of(
-            block,
-            map.vars,
-            RegionName::Data,
-            map.stack,
-            RegionName::Stack,
-        ),
+    match block.home.bank() {
+        Bank::Flash => {
+            let code = name_where_met(block, map.code, RegionName::Code);
+            let tables = name_where_met(block, map.tables, RegionName::Tables);
+            let far = name_where_met(block, map.far, RegionName::Far);
+            code.or(tables.or(far))
+        }
+        Bank::Data => {
+            let vars = name_where_met(block, map.vars, RegionName::Data);
+            let stack = name_where_met(block, map.stack, RegionName::Stack);
+            vars.or(stack)
+        }
     }
 }
 
@@ -220,6 +218,7 @@ fn region_text(name: RegionName) -> &'static str
     match name {
         RegionName::Code => "code",
         RegionName::Tables => "tables",
+        RegionName::Far => "far",
         RegionName::Data => "data",
         RegionName::Stack => "stack",
     }

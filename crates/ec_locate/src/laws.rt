@@ -26,8 +26,9 @@ pub fn initial_values_stand()
 }
 
 /// What a placed program keeps stands apart: free static objects, the area of parameters and locals, that of scratch memory
-/// and the work bytes in a row in region `data`, flash
-/// objects and initial bytes in a row in `tables`, the code in `code`, and what the map places outside all of these.
+/// and the work bytes in a row in region `data`, objects of home flash
+/// and initial bytes in a row in `tables`, objects of home far in a row in `far`, the code in `code`, and what the map places
+/// outside all of these.
 /// The stack has room for each chain of calls from main.
 pub fn placed_stand_apart()
     ensures { PlacedStandApart }

@@ -4,13 +4,15 @@ ghost use Rattle.ec_check_recursion.specs.Rows.{plain_rows};
 ghost use Rattle.ec_overlay.specs.Chains.{NothingRecurs};
 ghost use Rattle.ec_overlay.specs.Objects.{bytes_before};
 ghost use Rattle.ec_locate.specs.Areas.{IsKeptBelow, AreAreas};
-ghost use Rattle.ec_locate.specs.Entries.{flash_sizes, data_sizes, initial_sizes, frame_of, owned_of, local_size};
+ghost use Rattle.ec_locate.specs.Entries.{flash_sizes, far_sizes, data_sizes, initial_sizes, frame_of, owned_of, local_size};
 ghost use Rattle.ec_locate.specs.Layout.{place_by, places_from, initial_at, initials_from, work_area, layout};
 ghost use Rattle.ec_locate.specs.Code.{layout_view};
 
-use crate::entries::{Entry, Kept, data_size, data_sizes, flash_size, flash_sizes, initial_size};
+use crate::entries::{
+    Entry, Kept, data_size, data_sizes, far_size, flash_size, flash_sizes, initial_size,
+};
 use crate::frames::{Areas, take};
-use ec_map::Map;
+use ec_map::{Map, Region};
 use ec_overlay::frames_are_overlaid;
 use ec_space::{Bank, Home, NoMemory, Place, Seq};
 use std::alloc::Global;
@@ -46,10 +48,11 @@ fn frame_at(area: u32, ends: &[u64], function: u16) -> u32
     (u64::from(area) + end_of(ends, function)) as u32
 }
 
-/// The place of an object, where its region goes on at `flash` or at `at`, and each frame at its end so far in an area.
-fn place_by(entry: Entry, flash: u32, at: u32, area: u32, ends: &[u64]) -> Place
+/// The place of an object, where its region goes on at `flash`, at `far` or at `at`, and each frame at its end so far in an
+/// area.
+fn place_by(entry: Entry, flash: u32, far: u32, at: u32, area: u32, ends: &[u64]) -> Place
     requires { (f : ℕ) → frame_of entry.kept ≡ Some f → area + slice_index ends.now f < 2 ^ 32 }
-    ensures { result ≡ place_by entry.kept entry.home flash at (λ f. area + slice_index ends.now f) }
+    ensures { result ≡ place_by entry.kept entry.home flash far at (λ f. area + slice_index ends.now f) }
 {
     match entry.kept {
         Kept::Register(first) => Place {
@@ -63,7 +66,8 @@ fn place_by(entry: Entry, flash: u32, at: u32, area: u32, ends: &[u64]) -> Place
         Kept::Packed => Place {
             bank: entry.home.bank(),
             offset: match entry.home {
-                Home::Flash | Home::Far => flash,
+                Home::Flash => flash,
+                Home::Far => far,
                 Home::Data => at,
             },
         },
@@ -80,26 +84,30 @@ pub(crate) fn places_from(
     alloc: Global,
     entries: &[Entry],
     flash: u32,
+    far: u32,
     at: u32,
     area: u32,
     ends: &mut [u64],
 ) -> Result<Seq<Place>, NoMemory>
     requires flash_fits { flash + flash_sizes entries.now < 2 ^ 32 }
+    requires far_fits { far + far_sizes entries.now < 2 ^ 32 }
     requires data_fits { at + data_sizes entries.now < 2 ^ 32 }
     requires few { length entries.now < 2 ^ 12 }
     requires known { All (λ entry. IsKeptBelow (length ends.old) entry.kept) entries.now }
     requires begins { All (λ begin. begin ≤ 2 ^ 60) ends.old }
     requires frames_fit { (f : ℕ) → f < length ends.old
         → area + slice_index ends.old f + local_size entries.now f < 2 ^ 32 }
-    ensures { IfOk result (λ places. places.items ≡ places_from flash at
+    ensures { IfOk result (λ places. places.items ≡ places_from flash far at
         (λ f i. area + (slice_index ends.old f + bytes_before f i (map owned_of entries.now))) 0 entries.now) }
 {
     let mut places = Seq::new(alloc);
     let mut next_flash = flash;
+    let mut next_far = far;
     let mut next_at = at;
     for entry in entries {
-        places.push(place_by(*entry, next_flash, next_at, area, ends))?;
+        places.push(place_by(*entry, next_flash, next_far, next_at, area, ends))?;
         next_flash += flash_size(*entry);
+        next_far += far_size(*entry);
         next_at += data_size(*entry);
         take(ends, *entry);
     }
@@ -146,6 +154,14 @@ pub(crate) fn frames_from(alloc: Global, area: u32, begins: &[u64]) -> Result<Se
     Ok(made)
 }
 
+/// The first address of a region, which has 32 bits.
+fn first_of(region: Region) -> u32
+    ensures value { result ≡ region.first }
+    ensures fits { result < 2 ^ 32 }
+{
+    region.first
+}
+
 /// The layout of a program by the regions of a map.
 pub(crate) fn layout_of(
     alloc: Global,
@@ -162,6 +178,7 @@ pub(crate) fn layout_of(
     requires areas { AreAreas (plain_rows rows.now) entries.now frames.now areas }
     requires begins { All (λ begin. begin ≤ 2 ^ 60) areas.locals.begins.items }
     requires flash { map.now.tables.first + flash_sizes entries.now + initial_sizes entries.now < 2 ^ 32 }
+    requires far { map.now.far.first < 2 ^ 32 → map.now.far.first + far_sizes entries.now < 2 ^ 32 }
     requires ram { work_area map.now (plain_rows rows.now) entries.now frames.now < 2 ^ 32 }
     ensures { IfOk result (λ made. layout_view made ≡ layout map.now (plain_rows rows.now) entries.now frames.now) }
 {
@@ -173,7 +190,9 @@ pub(crate) fn layout_of(
     let scratch_area = local_area + locals.need as u32;
     let work = scratch_area + scratch.need as u32;
     let mut ends = locals.begins;
-    let places = places_from(alloc, entries, flash, map.vars.first, local_area, &mut ends)?;
+    let vars = map.vars.first;
+    let far = first_of(map.far);
+    let places = places_from(alloc, entries, flash, far, vars, local_area, &mut ends)?;
     let initials = initials_from(alloc, entries, flash, values)?;
     let frames = frames_from(alloc, scratch_area, &scratch.begins)?;
     Ok(Layout {

@@ -9,6 +9,7 @@ use ec_map::{Map, Region};
 #[derive(Clone, Copy)]
 pub struct Needs {
     pub tables: u64,
+    pub far: u64,
     pub vars: u64,
     pub stack: u64,
     pub code: u64,
@@ -56,13 +57,14 @@ fn or_else(first: Option<Shortage>, next: Option<Shortage>) -> Option<Shortage>
     }
 }
 
-/// The first of tables, data, stack and code that is too small.
+/// The first of tables, far, data, stack and code that is too small.
 pub(crate) fn first_shortage(map: &Map, needs: Needs) -> Option<Shortage>
     ensures { result ≡ first_shortage map.now needs }
 {
     let tables = shortage_of(RegionName::Tables, map.tables, needs.tables);
+    let far = shortage_of(RegionName::Far, map.far, needs.far);
     let vars = shortage_of(RegionName::Data, map.vars, needs.vars);
     let stack = shortage_of(RegionName::Stack, map.stack, needs.stack);
     let code = shortage_of(RegionName::Code, map.code, needs.code);
-    or_else(tables, or_else(vars, or_else(stack, code)))
+    or_else(tables, or_else(far, or_else(vars, or_else(stack, code))))
 }

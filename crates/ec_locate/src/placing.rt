@@ -13,7 +13,7 @@ ghost use Rattle.ec_overlay.specs.Chains.{NothingRecurs};
 ghost use Rattle.ec_locate.specs.Areas.{IsKeptBelow, AreAreas};
 ghost use Rattle.ec_locate.specs.Calls.{call_depth};
 ghost use Rattle.ec_locate.specs.Code.{has_words};
-ghost use Rattle.ec_locate.specs.Entries.{flash_sizes, initial_sizes, entries};
+ghost use Rattle.ec_locate.specs.Entries.{flash_sizes, far_sizes, initial_sizes, entries};
 ghost use Rattle.ec_locate.specs.Fixed.{missing, blocks, first_clash};
 ghost use Rattle.ec_locate.specs.Image.{flash_of, image};
 ghost use Rattle.ec_locate.specs.Layout.{work_area, layout};
@@ -23,7 +23,7 @@ ghost use Rattle.ec_locate.specs.Placing.{IsStop, IsLocated, last_of};
 ghost use Rattle.ec_space.specs.declared.Core.TheVariants.{Small};
 
 use crate::calls::call_depth;
-use crate::entries::{Entry, data_sizes, entries_of, flash_sizes, initial_sizes};
+use crate::entries::{Entry, data_sizes, entries_of, far_sizes, flash_sizes, initial_sizes};
 use crate::fixed::{Neighbour, blocks_of, first_clash, missing, named, neighbour_name, place_name};
 use crate::frames::{Areas, areas_of};
 use crate::image::image_from;
@@ -64,6 +64,7 @@ fn needs_of(entries: &[Entry], asm: &AsmProgram, areas: &Areas, depth: u32) -> N
 {
     Needs {
         tables: flash_sizes(entries) + initial_sizes(entries),
+        far: far_sizes(entries),
         vars: data_sizes(entries) + areas.locals.need + areas.scratch.need + 64,
         stack: 16 + 2 * u64::from(depth),
         code: 2 * code_words(asm.items.as_slice()),
@@ -155,6 +156,7 @@ fn locate(
     requires areas { AreAreas (plain_rows rows.now) entries.now asm.now.frames.items areas }
     requires begins { All (λ begin. begin ≤ 2 ^ 60) areas.locals.begins.items }
     requires flash { map.now.tables.first + flash_sizes entries.now + initial_sizes entries.now < 2 ^ 32 }
+    requires far { map.now.far.first < 2 ^ 32 → map.now.far.first + far_sizes entries.now < 2 ^ 32 }
     requires ram { work_area map.now (plain_rows rows.now) entries.now asm.now.frames.items < 2 ^ 32 }
     requires stack { map.now.stack.first + map.now.stack.size < 2 ^ 32 }
     requires some { 0 < map.now.stack.size }

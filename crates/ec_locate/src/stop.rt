@@ -9,11 +9,12 @@ use thiserror::Error;
 pub enum RegionName {
     Code,
     Tables,
+    Far,
     Data,
     Stack,
 }
 
-/// Why a program is not placed. The needs of tables, data, stack and code are judged in this order, then whether each
+/// Why a program is not placed. The needs of tables, far, data, stack and code are judged in this order, then whether each
 /// name of the map has an object, by rising bytes, and then whether each has a place of its own.
 #[derive(Drop, Debug, Error)]
 pub enum PlaceStop {

@@ -60,6 +60,23 @@ table_sized (Some d) =
     let at : (key : Option Data) → IsSized (option_and_then region_of key) = value_sized in
     four_sized _ _ _ _ (at (get (codes "code") d)) (at (get (codes "tables") d)) (at (get (codes "data") d)) (at (get (codes "stack") d))
 
+-- ---- there is no region `far`
+
+abbrev HasNoFar : Option Regions → Type 0
+HasNoFar None = Unit {0}
+HasNoFar (Some r) = r.far.size ≡ 0
+
+four_without_far : (a b c e : Option Region) → HasNoFar (four a b c e)
+four_without_far None b c e = tt
+four_without_far (Some x) None c e = tt
+four_without_far (Some x) (Some y) None e = tt
+four_without_far (Some x) (Some y) (Some z) None = tt
+four_without_far (Some x) (Some y) (Some z) (Some w) = refl
+
+table_without_far : (o : Option Data) → HasNoFar (option_and_then regions_in o)
+table_without_far None = tt
+table_without_far (Some d) = four_without_far _ _ _ _
+
 -- ---- what the tests say
 
 within : (from to : ℕ) (r : Region) → 1 ≤ r.size → lies_in from to r ≡ true → LiesIn from to r
@@ -76,8 +93,8 @@ apart a b h =
     ⊎_elim (λ l. inl (leb-true (end_of a) b.first l)) (λ r. inr (leb-true (end_of b) a.first r))
     (either (nat_le (end_of a) b.first) (nat_le (end_of b) a.first) h)
 
-valid : (r : Regions) → AreSized (Some r) → are_in_banks r ≡ true → is_code r ≡ true → are_apart r ≡ true → ValidRegions r
-valid r sized banks code apart_all =
+valid : (r : Regions) → AreSized (Some r) → r.far.size ≡ 0 → are_in_banks r ≡ true → is_code r ≡ true → are_apart r ≡ true → ValidRegions r
+valid r sized no_far banks code apart_all =
     let (flash, sram) =
     and_parts (lies_in 0 32768 r.code && lies_in 0 32768 r.tables) (lies_in 256 2304 r.vars && lies_in 256 2304 r.stack) banks in
     let (a, b) = and_parts (lies_in 0 32768 r.code) (lies_in 0 32768 r.tables) flash in
@@ -87,6 +104,7 @@ valid r sized banks code apart_all =
     record {
       code = within 0 32768 r.code sized.0.0 a;
       tables = within 0 32768 r.tables sized.0.1 b;
+      no_far = no_far;
       vars = within 256 2304 r.vars sized.1.0 c;
       stack = within 256 2304 r.stack sized.1.1 e;
       start = eqb-true r.code.first 0 start;
@@ -102,4 +120,5 @@ regions_valid d r h told =
     let code : option_map_or is_code (regions_of d) false ≡ true = kept_at (kept d) 5 all in
     let separate : option_map_or are_apart (regions_of d) false ≡ true = kept_at (kept d) 6 all in
     let sized : AreSized (regions_of d) = table_sized (get (codes "region") d) in
-    valid r (rw told at sized) (rw told at banks) (rw told at code) (rw told at separate)
+    let no_far : HasNoFar (regions_of d) = table_without_far (get (codes "region") d) in
+    valid r (rw told at sized) (rw told at no_far) (rw told at banks) (rw told at code) (rw told at separate)

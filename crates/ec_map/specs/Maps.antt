@@ -74,10 +74,11 @@ abbrev pub place_view : Fixed1 → PlaceView
 place_view p = record { name = p.name.items; at = p.at }
 
 abbrev pub regions : Map → Regions
-regions m = record { code = m.code; tables = m.tables; vars = m.vars; stack = m.stack }
+regions m = record { code = m.code; tables = m.tables; far = m.far; vars = m.vars; stack = m.stack }
 
 -- the map that a table is, for the core `small`
 pub record IsMapOf (d : Data) (m : Map) : Type 0 where
+  pub core_told : m.core ≡ Small
   pub regions_told : regions_of d ≡ Some (regions m)
   pub ports_told : map port_view m.io.ports.items ≡ map (port_of (groups_of d)) (ports_of d)
   pub groups_told : map group_view m.io.groups.items ≡ map port_group_of (groups_of d)

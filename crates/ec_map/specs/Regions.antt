@@ -28,9 +28,13 @@ region_of d = option_and_then region_in (as_array d)
 abbrev pub region_at : List ℕ → Data → Option Region
 region_at key d = option_and_then region_of (get key d)
 
+-- the region `far`, which the core `small` does not have
+abbrev pub no_bytes : Region
+no_bytes = record { first = 0; size = 0 }
+
 abbrev pub four : Option Region → Option Region → Option Region → Option Region → Option Regions
 four (Some code) (Some tables) (Some vars) (Some stack) =
-    Some (record { code = code; tables = tables; vars = vars; stack = stack })
+    Some (record { code = code; tables = tables; far = no_bytes; vars = vars; stack = stack })
 four _ _ _ _ = None
 
 -- the four regions of a table of regions
@@ -72,10 +76,12 @@ pub record LiesIn (from to : ℕ) (region : Region) : Type 0 where
 abbrev pub AreApart : Region → Region → Type 0
 AreApart a b = (end_of a ≤ b.first) ⊎ (end_of b ≤ a.first)
 
--- regions of the core `small`: those of code and tables in its flash, the others in its SRAM
+-- Regions of the core `small`: those of code and tables in its flash, and those of data and stack in its SRAM. It has no
+-- region `far`, wherever that is said to begin
 pub record ValidRegions (r : Regions) : Type 0 where
   pub code : LiesIn 0 32768 r.code
   pub tables : LiesIn 0 32768 r.tables
+  pub no_far : r.far.size ≡ 0
   pub vars : LiesIn 256 2304 r.vars
   pub stack : LiesIn 256 2304 r.stack
   pub start : r.code.first ≡ 0

@@ -13,4 +13,3 @@ mod values;
 pub use map::{Fixed1, Map};
 pub use read::{MapStop, read_map};
 pub use region::{Region, Regions};
-pub use rules::first_met;

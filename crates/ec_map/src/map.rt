@@ -33,6 +33,8 @@ pub struct Map {
     pub code: Region,
     /// Flash objects and initial bytes, in flash.
     pub tables: Region,
+    /// Far objects, in flash. Its size is 0 where the map has none, as on the core `small`.
+    pub far: Region,
     /// The region `data`, in SRAM.
     pub vars: Region,
     /// The stack, in SRAM.
@@ -53,6 +55,7 @@ impl Map {
         Regions {
             code: self.code,
             tables: self.tables,
+            far: self.far,
             vars: self.vars,
             stack: self.stack,
         }
@@ -242,6 +245,7 @@ pub(crate) fn map_from(alloc: Global, root: &Value) -> Result<Map, NoMemory>
     let Regions {
         code,
         tables,
+        far,
         vars,
         stack,
     } = regions_from(root);
@@ -249,6 +253,7 @@ pub(crate) fn map_from(alloc: Global, root: &Value) -> Result<Map, NoMemory>
         core: Core::Small,
         code,
         tables,
+        far,
         vars,
         stack,
         io: io_from(alloc, root)?,

@@ -1,7 +1,7 @@
 //! The regions that a map divides the banks into.
 ghost use Rattle.std.specs.Prelude.{◌≡◌, ◌+◌, ◌<◌, ◌^◌};
 ghost use Rattle.toml.specs.View.{view, items_view};
-ghost use Rattle.ec_map.specs.Regions.{region_in, region_of, region_at, regions_in, regions_of, bytes_from};
+ghost use Rattle.ec_map.specs.Regions.{region_in, region_of, region_at, regions_in, regions_of, bytes_from, no_bytes};
 ghost use Rattle.ec_map.specs.Regions.{lies_in, are_in_banks, is_code, share_no_byte, are_apart};
 
 use crate::rules::lie_in;
@@ -13,7 +13,7 @@ use toml::Value;
 pub struct Region {
     /// The address of the first byte.
     pub first: u32,
-    /// How many bytes, at least 1.
+    /// How many bytes: at least 1, and 0 for a region that the map does not have.
     pub size: u32,
 }
 
@@ -24,6 +24,8 @@ pub struct Regions {
     pub code: Region,
     /// Flash objects and initial bytes, in flash.
     pub tables: Region,
+    /// Far objects, in flash. The core `small` has no such region.
+    pub far: Region,
     /// The region `data`, in SRAM.
     pub vars: Region,
     /// The stack, in SRAM.
@@ -32,6 +34,13 @@ pub struct Regions {
 
 /// The greatest first address and size that a map can name.
 const LIMIT: u32 = 131_072;
+
+/// A region that a map does not have.
+fn no_bytes() -> Region
+    ensures { result ≡ no_bytes }
+{
+    Region { first: 0, size: 0 }
+}
 
 /// The region of two numbers, where the size is at least 1.
 fn bytes_from(first: Option<u32>, size: Option<u32>) -> Option<Region>
@@ -80,6 +89,7 @@ fn regions_in(table: &Value) -> Option<Regions>
     Some(Regions {
         code: region_at(table, "code")?,
         tables: region_at(table, "tables")?,
+        far: no_bytes(),
         vars: region_at(table, "data")?,
         stack: region_at(table, "stack")?,
     })

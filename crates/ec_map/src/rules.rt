@@ -1,6 +1,6 @@
 //! The rules of a map, over the table that its text is read as.
 ghost use Rattle.std.specs.Prelude.{◌≡◌, ◌<◌, not, length, position, IfSome};
-ghost use Rattle.ec_map.specs.Judging.{lie_in, first_broken, first_met};
+ghost use Rattle.ec_map.specs.Judging.{lie_in, first_broken};
 ghost use Rattle.std.specs.Prelude.{map};
 ghost use Rattle.std.specs.List.{list_all};
 ghost use Rattle.std.specs.Map.{values_of};
@@ -42,20 +42,6 @@ pub fn first_broken(kept: &[bool; 18]) -> Option<u8>
     match first_not_kept(kept) {
         Some(at) => Some(at as u8 + 1),
         None => None,
-    }
-}
-
-/// The first of two regions that a block of bytes meets, where it is told of each whether it does. None where it meets
-/// neither.
-pub fn first_met<T: Copy>(meets_here: bool, here: T, meets_there: bool, there: T) -> Option<T>
-    ensures { result ≡ first_met meets_here here meets_there there }
-{
-    if meets_here {
-        Some(here)
-    } else if meets_there {
-        Some(there)
-    } else {
-        None
     }
 }
 

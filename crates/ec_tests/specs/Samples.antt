@@ -1,4 +1,4 @@
--- Programs whose `main` returns 0: one without objects, and one with four variables.
+-- Programs whose `main` returns 0: one without objects, one with four variables, and one with a variable of the home far.
 use Rattle.std.specs.Prelude.{ℕ, pos, Bool, true, false, List, [], ◌∷◌, Some}
 use Rattle.ec_space.specs.declared.space.Home.{Home}
 use Rattle.ec_space.specs.declared.space.Home.TheVariants as homes
@@ -38,5 +38,12 @@ main_function = record {
   body = statement 0 0 (return_value (Some (expression int (record { saturate = false }) (number (pos 0)))));
 }
 
+abbrev pub program_of : List PlainObject → PlainProgram
+program_of objects = record { structs = []; objects = objects; functions = main_function ∷ []; main = 0 }
+
 abbrev pub sample : Bool → PlainProgram
-sample some = record { structs = []; objects = variables some; functions = main_function ∷ []; main = 0 }
+sample some = program_of (variables some)
+
+-- f, which is external
+abbrev pub far_sample : PlainProgram
+far_sample = program_of (variable 102 true space.FarFlash homes.Far 3 ∷ [])

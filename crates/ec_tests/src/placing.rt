@@ -3,7 +3,7 @@
 ghost use Rattle.std.specs.Prelude.{IfOk};
 ghost use Rattle.ec_map.specs.Maps.{ValidMap};
 
-use crate::programs::{code, program, sizes};
+use crate::programs::{code, far_program, far_sizes, program, sizes};
 use Want::{Clashes, Fits, Lacks, Needs, Puts};
 use ec_asm::is_valid_asm;
 use ec_avr::Image;
@@ -196,6 +196,46 @@ static ROWS: [Row; 28] = [
     ),
 ];
 
+/// The regions code, tables, data and stack, where the map places f, and what comes of it. The core has no region for
+/// objects of the home far, so f needs a place in the flash, which ends at 0x8000.
+static FAR_ROWS: [([&str; 4], &str, Want); 7] = [
+    (
+        [CODE, TABLES, DATA, STACK],
+        "",
+        Needs(RegionName::Far, 2, 0),
+    ),
+    (
+        [CODE, TABLES, "[256, 79]", STACK],
+        "",
+        Needs(RegionName::Far, 2, 0),
+    ),
+    (
+        ["[0, 1024]", TABLES, DATA, STACK],
+        "f = 0x6FFE",
+        Fits(&[0x6FFE], 256, 272),
+    ),
+    (
+        ["[0, 1024]", TABLES, "[256, 79]", STACK],
+        "f = 0x6FFE",
+        Needs(RegionName::Data, 80, 79),
+    ),
+    (
+        ["[0, 1024]", TABLES, DATA, STACK],
+        "f = 0x6FFF",
+        Clashes("f", "tables"),
+    ),
+    (
+        ["[0, 1024]", "[1024, 1024]", DATA, STACK],
+        "f = 0x7FFE",
+        Fits(&[0x7FFE], 256, 272),
+    ),
+    (
+        ["[0, 1024]", TABLES, DATA, STACK],
+        "f = 0x7FFF",
+        Clashes("f", "bank"),
+    ),
+];
+
 /// JMP 5; LDS R24, 0x0501; LDI R30, 0x03; BREAK, by the instruction set manual, with q at 0x0500 and its initial value
 /// behind t at 0x7000.
 static CODE_BYTES: [u8; 12] = [
@@ -299,6 +339,29 @@ fn is_placed(alloc: Global, some: bool, map: &Map, want: &Want) -> Result<bool, 
     Ok(is_placed)
 }
 
+/// Whether the program with a variable of the home far is placed so by a map.
+fn is_far_placed(alloc: Global, map: &Map, want: &Want) -> Result<bool, NoMemory>
+    requires { ValidMap map.now }
+{
+    let program = far_program(alloc)?;
+    let asm = code(alloc, false)?;
+    let is_code = is_valid_asm(&asm, far_sizes(), 64) && asm.items.len() < 100;
+    let is_placed = is_code && is_wanted(&place(alloc, &program, &asm, map), want);
+    Ok(is_placed)
+}
+
+fn is_far_right(
+    alloc: Global,
+    regions: &[&str; 4],
+    places: &str,
+    want: &Want,
+) -> Result<bool, NoMemory> {
+    match map(alloc, regions, places) {
+        Ok(map) => is_far_placed(alloc, &map, want),
+        Err(_) => Err(NoMemory),
+    }
+}
+
 /// Whether a row is right. A map that is none is no row.
 fn is_right(alloc: Global, row: &Row) -> Result<bool, NoMemory> {
     let (some, regions, places, want) = row;
@@ -312,5 +375,15 @@ fn is_right(alloc: Global, row: &Row) -> Result<bool, NoMemory> {
 fn places_or_tells_why_not(rt: HostRuntime) {
     for (k, row) in ROWS.iter().enumerate() {
         assert!(rt; matches!(is_right(rt.alloc(), row), Ok(true)), "row {k}");
+    }
+}
+
+#[test]
+fn far_objects_are_placed_or_told(rt: HostRuntime) {
+    for (k, (regions, places, want)) in FAR_ROWS.iter().enumerate() {
+        assert!(rt;
+            matches!(is_far_right(rt.alloc(), regions, places, want), Ok(true)),
+            "row {k}"
+        );
     }
 }

@@ -1,11 +1,11 @@
-//! Programs whose `main` returns 0: one without objects, and one with the variables q, r, t in flash and s, which is not
-//! external. Each is an int with an initial value.
+//! Programs whose `main` returns 0: one without objects, one with the variables q, r, t in flash and s, which is not
+//! external, and one with the variable f of the home far. Each is an int with an initial value.
 ghost use Rattle.std.specs.Prelude.{◌≡◌, [], ◌∷◌, map, IfOk};
 ghost use Rattle.ec_core.specs.Plain.{plain_type, plain_object, plain_function, plain_program};
 ghost use Rattle.ec_core.specs.Typing.{int};
 ghost use Rattle.ec_locate.specs.Placing.{object_sizes};
 ghost use Rattle.ec_tests.specs.Samples.{variable as variable_of, variables as variables_of, main_function as main_of};
-ghost use Rattle.ec_tests.specs.Samples.{sample};
+ghost use Rattle.ec_tests.specs.Samples.{program_of as program_with, sample, far_sample};
 
 use ec_asm::{AsmItem, AsmProgram};
 use ec_core::{CType, Expr, Func, LeafInit, Node, Obj, Program, Stmt, StmtKind, Storage};
@@ -95,11 +95,10 @@ fn main_function(alloc: Global) -> Func
     }
 }
 
-/// The program with the variables, or the one without.
-pub fn program(alloc: Global, some: bool) -> Result<Program, NoMemory>
-    ensures { IfOk result (λ p. plain_program p ≡ sample some) }
+/// The program with these objects.
+fn program_of(alloc: Global, objs: Seq<Obj>) -> Result<Program, NoMemory>
+    ensures { IfOk result (λ p. plain_program p ≡ program_with (map plain_object objs.items)) }
 {
-    let objs = variables(alloc, some)?;
     let mut funcs = Seq::new(alloc);
     funcs.push(main_function(alloc))?;
     Ok(Program {
@@ -108,6 +107,31 @@ pub fn program(alloc: Global, some: bool) -> Result<Program, NoMemory>
         funcs,
         main: 0,
     })
+}
+
+/// The program with the variables, or the one without.
+pub fn program(alloc: Global, some: bool) -> Result<Program, NoMemory>
+    ensures { IfOk result (λ p. plain_program p ≡ sample some) }
+{
+    let objs = variables(alloc, some)?;
+    program_of(alloc, objs)
+}
+
+/// The program with a variable of the home far.
+pub fn far_program(alloc: Global) -> Result<Program, NoMemory>
+    ensures { IfOk result (λ p. plain_program p ≡ far_sample) }
+{
+    let mut objs = Seq::new(alloc);
+    let f = variable(alloc, b'f', true, SpaceId::FarFlash, Home::Far, 3)?;
+    objs.push(f)?;
+    program_of(alloc, objs)
+}
+
+/// The bytes of its variable.
+pub fn far_sizes() -> &'static [u32]
+    ensures { result.now ≡ object_sizes far_sample }
+{
+    &[2]
 }
 
 /// Code that loads a byte of q and a part of the address of its initial value, behind a jump past both; or BREAK alone.

@@ -24,7 +24,7 @@ use Rattle.ec_map.specs.Regions.{end_of}
 use Rattle.ec_map.specs.declared.map.Map.{Map}
 use Rattle.ec_locate.specs.DataBank.{IsOwnedBy, IsLocalOf, Names, an_object, scratch, work, CanBeLive, StandsIn}
 use Rattle.ec_locate.specs.DataBank.{IsInMemory, DataStands, DataStandsApart}
-use Rattle.ec_locate.specs.Entries.{flash_size, data_size, frame_size}
+use Rattle.ec_locate.specs.Entries.{flash_size, far_size, data_size, frame_size}
 use Rattle.ec_locate.specs.Layout.{places_from}
 use Rattle.ec_locate.specs.Placing.{object_sizes, scratch_needs, entries_by}
 use Rattle.ec_locate.specs.declared.entries.Entry.{Entry}
@@ -52,14 +52,16 @@ stands laws p m asm l h =
 
 -- ---- places
 
-counted_places : (es : List Entry) (flash at : ℕ) (frame : ℕ → ℕ → ℕ) (i : ℕ) → length (places_from flash at frame i es) ≡ length es
-counted_places [] flash at frame i = refl
-counted_places (e ∷ es) flash at frame i = ap suc (counted_places es (flash + flash_size e) (at + data_size e) frame (i + 1))
+counted_places : (es : List Entry) (flash far at : ℕ) (frame : ℕ → ℕ → ℕ) (i : ℕ)
+    → length (places_from flash far at frame i es) ≡ length es
+counted_places [] flash far at frame i = refl
+counted_places (e ∷ es) flash far at frame i =
+    ap suc (counted_places es (flash + flash_size e) (far + far_size e) (at + data_size e) frame (i + 1))
 
 each_place : (p : PlainProgram) (m : Map) (asm : AsmProgram) (l : Located) → IsTranslated p m asm l
     → length l.places.items ≡ length p.objects
 each_place p m asm l h =
-    ap length h.located.places ∙ counted_places (entries_by m p) _ _ _ 0 ∙ length-map p.objects _
+    ap length h.located.places ∙ counted_places (entries_by m p) _ _ _ _ 0 ∙ length-map p.objects _
 
 static_of : (s : PlainStorage) → is_static s ≡ true → (inits : List LeafInit) × (s ≡ static inits)
 static_of (static inits) e = (inits, refl)

@@ -27,6 +27,12 @@ places_from-requires-clause-frames_fit c f l =
     < 4294967296 = c.requires.ram in
     omega (arith, begin, within, sizes, ram)
 
+pub places_from-requires-clause-far_fits : goal.places_from-requires-clause-far_fits
+places_from-requires-clause-far_fits c =
+    let first = c.first_of-far.ensures in
+    let far = c.requires.far (omega (arith, first.value, first.fits)) in
+    omega (arith, first.value, far)
+
 pub frames_from-requires : goal.frames_from-requires
 frames_from-requires c k d l =
     let rows = plain_rows c.args.rows.now in
@@ -74,9 +80,11 @@ returns c =
     let goes : local_at m rows es f i
     ≡ m.vars.first + data_sizes es + (begin_of rows (local_size es) f + bytes_before f i (map owned_of es)) = refl in
     omega (arith, begin, sizes, goes)) in
-    let places : c.in_ok-places.places.items ≡ places_from m.tables.first m.vars.first (local_at m rows es) 0 es =
+    let places : c.in_ok-places.places.items ≡ places_from m.tables.first m.far.first m.vars.first (local_at m rows es) 0 es =
     c.in_ok-places.ensures
-    ∙ places_same (length c.args.rows.now) es m.tables.first m.vars.first _ (local_at m rows es) 0 c.requires.known agree in
+    ∙ places_same (length c.args.rows.now) es m.tables.first c.first_of-far.result m.vars.first _ (local_at m rows es) 0 c.requires.known
+    agree
+    ∙ ap (λ n. places_from m.tables.first n m.vars.first (local_at m rows es) 0 es) c.first_of-far.ensures.value in
     let initials : c.in_ok-initials.initials.items ≡ initials_by m es =
     c.in_ok-initials.ensures ∙ ap (λ n. initials_from m.tables.first (m.tables.first + n) es) flash in
     let area : c.args.map.now.vars.first + c.data_sizes.result + c.args.areas.locals.need ≡ scratch_area m rows es =

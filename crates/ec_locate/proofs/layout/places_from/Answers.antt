@@ -2,7 +2,7 @@ use Rattle.std.proofs.Common.{◌∙◌, ◌+◌, ◌*◌, ◌<◌, ◌≤◌, l
 use Rattle.std.specs.Prelude.{slice_index}
 use Rattle.std.proofs.lemmas.List.{get_or_default}
 use Rattle.ec_overlay.specs.Objects.{bytes_before}
-use Rattle.ec_locate.specs.Entries.{flash_size, data_size, owned_of, local_size}
+use Rattle.ec_locate.specs.Entries.{flash_size, far_size, data_size, owned_of, local_size}
 use Rattle.ec_locate.proofs.FrameBytes.{bytes_none, before_within, take_step, placed_step, left_step}
 use Rattle.ec_locate.proofs.Kept.{owner_below}
 use Rattle.ec_locate.proofs.layout.places_from.Goals as goal
@@ -11,6 +11,7 @@ pub loop-entry-init : goal.loop-entry-init
 loop-entry-init c = record {
   made = rw c.new-places.ensures refl;
   flash = refl;
+  far = refl;
   at = refl;
   count = refl;
   each = λ f l. (let none = bytes_none c.args.entries.now f in omega (arith, none));
@@ -45,13 +46,14 @@ loop-entry-preserved c =
     let test = c.loop-entry-test.true in
     let count = c.loop-entry.invariant.count in
     record {
-      made = placed_step (length c.args.ends.now) es i c.loop-entry.next_flash c.loop-entry.next_at _ _ _
+      made = placed_step (length c.args.ends.now) es i c.loop-entry.next_flash c.loop-entry.next_far c.loop-entry.next_at _ _ _ _
           (λ f. c.args.area + slice_index c.loop-entry.ends f)
           c.loop-entry.places.items _ _ _ _ test c.requires.known
           (λ f l. ap (λ n. c.args.area + n) (c.loop-entry.invariant.each f l)) c.loop-entry.invariant.made c.place_by.ensures
-          c.flash_size-next_flash.ensures c.data_size-next_at.ensures c.in_ok-push.ensures.ok;
+          c.flash_size-next_flash.ensures c.far_size-next_far.ensures c.data_size-next_at.ensures c.in_ok-push.ensures.ok;
       flash = left_step flash_size es i c.loop-entry.next_flash _ _ _ test c.loop-entry.invariant.flash
           c.flash_size-next_flash.ensures;
+      far = left_step far_size es i c.loop-entry.next_far _ _ _ test c.loop-entry.invariant.far c.far_size-next_far.ensures;
       at = left_step data_size es i c.loop-entry.next_at _ _ _ test c.loop-entry.invariant.at c.data_size-next_at.ensures;
       count = c.take.ensures.count ∙ count;
       each = λ f l. take_step es i f _ _ _ _ test (c.loop-entry.invariant.each f l) (c.take.ensures.each f (omega (arith, l, count)));

@@ -28,4 +28,4 @@ returns c p areas deep =
     let stack : 16 + 2 * c.from.result ≡ stack_need (call_depth p) = omega (arith, from, deep) in
     let code : 2 * c.code_words.result ≡ 2 * code_words c.args.asm.now.items.items =
     ap (λ n. 2 * n) (c.code_words.ensures ∙ ap code_words c.as_slice.ensures) in
-    λ j. record { tables = tables j; vars = vars j; stack = stack j; code = code j }
+    λ j. record { tables = tables j; far = c.far_sizes.ensures.value j; vars = vars j; stack = stack j; code = code j }

@@ -12,7 +12,7 @@ use Rattle.ec_locate.specs.Code.{has_words}
 use Rattle.ec_locate.specs.Needs.{first_shortage}
 use Rattle.ec_locate.specs.Placing.{object_sizes, scratch_needs, entries_by}
 use Rattle.ec_locate.proofs.Objects.{objects_typed}
-use Rattle.ec_locate.proofs.Placed.{few_entries, as_many, known_entries, flash_room, ram_room, code_room, shortage_is, depth_is}
+use Rattle.ec_locate.proofs.Placed.{few_entries, as_many, known_entries, flash_room, far_room, ram_room, code_room, shortage_is, depth_is}
 use Rattle.ec_locate.proofs.Placed.{short_stop, missing_stop, clash_stop}
 use Rattle.ec_locate.proofs.Words.{valid_words}
 use Rattle.ec_locate.proofs.placing.place.Goals as goal
@@ -118,6 +118,22 @@ locate-requires-clause-flash c =
     let fits = sym short ∙ c.in_ok-refuse_short.ensures.ok in
     let placed : c.as_slice-9.result.now ≡ entries_by m p = c.as_slice-9.ensures ∙ all in
     rw placed (flash_room p m c.args.asm.now c.requires.map fits)
+
+pub locate-requires-clause-far : goal.locate-requires-clause-far
+locate-requires-clause-far c =
+    let p = plain_program c.args.program.now in
+    let m = c.args.map.now in
+    let all = rw c.as_slice.ensures at c.in_ok-entries.ensures in
+    let areas : AreAreas (rows_of_program p) c.as_slice-5.result.now c.args.asm.now.frames.items c.in_ok-areas.areas =
+    rw c.as_slice-5.ensures
+    (rw (c.as_slice-2.ensures, c.in_ok-rows.ensures, c.as_slice-3.ensures, c.as_slice-frames.ensures) at c.in_ok-areas.ensures.areas) in
+    let deep =
+    depth_is p c.as_slice-4.result.now c.in_ok-depth.depth (rw c.as_slice-4.ensures c.in_ok-rows.ensures) c.in_ok-depth.ensures in
+    let short = shortage_is p m c.args.asm.now c.as_slice-5.result.now c.needs_of-needs.result (c.as_slice-5.ensures ∙ all)
+    (c.needs_of-needs.ensures p areas deep) in
+    let fits = sym short ∙ c.in_ok-refuse_short.ensures.ok in
+    let placed : c.as_slice-9.result.now ≡ entries_by m p = c.as_slice-9.ensures ∙ all in
+    rw placed (far_room p m c.args.asm.now c.requires.map fits)
 
 pub locate-requires-clause-ram : goal.locate-requires-clause-ram
 locate-requires-clause-ram c =
