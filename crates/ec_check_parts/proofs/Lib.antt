@@ -8,6 +8,8 @@ pub mod Mains
 -- For this crate alone.
 mod Tests
 mod Qualifiers
+mod Orders
+mod Sets
 mod TypeWords
 mod Storages
 mod Specifiers

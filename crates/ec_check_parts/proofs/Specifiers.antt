@@ -22,12 +22,14 @@ use Rattle.ec_check_names.specs.Words.{is_never, is_at_most_once}
 use Rattle.ec_check_names.specs.Tables.{at_name}
 use Rattle.ec_check_names.specs.Tags.{Tags, state_by, is_undefined}
 use Rattle.ec_check_parts.specs.Words.{words_from, words_among, IsStorageWord, HasOne, HasTwo}
-use Rattle.ec_check_parts.specs.Specifiers.{NameType, UseNoTag, BreakSpecifiers, no_type, two_storage_words, storage_word}
+use Rattle.ec_check_parts.specs.TypeWords.{NameType}
+use Rattle.ec_check_parts.specs.Specifiers.{UseNoTag, BreakSpecifiers, no_type, two_storage_words, storage_word}
 use Rattle.ec_check_parts.specs.Specifiers.{no_tag, qualified}
 use Rattle.ec_check_parts.specs.Laws.{SpecifiersAreJudged}
 use Rattle.ec_check_parts.proofs.Qualifiers.{AreBroken, second, flash, broken_later, broken_here, told_here, IsConstWith, SaysConst}
 use Rattle.ec_check_parts.proofs.Qualifiers.{const_step, says_const, list_broken, broken_list, qualifiers_judged}
 use Rattle.ec_check_parts.proofs.Storages.{two_told, one_told}
+use Rattle.ec_check_parts.proofs.TypeWords.{type_told}
 
 -- ---- tags
 
@@ -128,10 +130,7 @@ says tags (specs first more) =
 -- what breaks 1
 abbrev BreakTypes : Tags → Bool → Specs → Type 0
 BreakTypes tags may ss =
-    ((¬ NameType tags ss) ⊎ HasTwo IsStorageWord (words_among ss)) ⊎ ((may ≡ false) × HasOne IsStorageWord (words_among ss))
-
-is_set : (b : Bool) → Decides b (b ≡ true)
-is_set b = (λ e. e, λ e. e)
+    ((¬ NameType ss) ⊎ HasTwo IsStorageWord (words_among ss)) ⊎ ((may ≡ false) × HasOne IsStorageWord (words_among ss))
 
 is_unset : (b : Bool) → Decides (not b) (b ≡ false)
 is_unset true = (λ e. absurd (false≢true e), λ e. absurd (true≢false e))
@@ -145,7 +144,7 @@ types_told tags may (specs first more) =
     let s = storages_of ss in
     let one = not (is_never s.times) in
     Decides-or (not (names_type t) || not (is_at_most_once s.times)) (not may && one)
-    (Decides-or (not (names_type t)) (not (is_at_most_once s.times)) (Decides-not (names_type t) (is_set (names_type t)))
+    (Decides-or (not (names_type t)) (not (is_at_most_once s.times)) (Decides-not (names_type t) (type_told tags ss))
     (two_told no_storage (first ∷ more)))
     (Decides-and (not may) one (is_unset may) (one_told no_storage (first ∷ more)))
 

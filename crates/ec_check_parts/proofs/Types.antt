@@ -36,7 +36,7 @@ use Rattle.ec_check_parts.specs.Words.{Word, words_from, words_among, words_of, 
 use Rattle.ec_check_parts.proofs.Qualifiers.{star_says}
 use Rattle.ec_check_parts.proofs.Specifiers.{says}
 use Rattle.ec_check_parts.proofs.Tests.{space_told}
-use Rattle.ec_check_parts.proofs.TypeWords.{name_told}
+use Rattle.ec_check_parts.proofs.TypeWords.{type_told, name_told}
 
 -- ---- spaces
 
@@ -188,7 +188,7 @@ space_is tags ss stars = (own_said (declared_by (specified tags ss)) (words_amon
 
 -- ---- void
 
-void_names : (o : Option BaseType) → option_map base_type o ≡ Some void → o ≡ Some Void
+pub void_names : (o : Option BaseType) → option_map base_type o ≡ Some void → o ≡ Some Void
 void_names None e = absurd (nothing_there void e)
 void_names (Some Void) e = refl
 void_names (Some (Number (Integer i))) e = absurd (no_void (inside e))
@@ -255,4 +255,4 @@ type_meant tags ss stars ty =
     )
 
 pub types_are_said : TypesAreSaid
-types_are_said = record { names = name_told; said = type_said }
+types_are_said = record { named = type_told; names = name_told; said = type_said }

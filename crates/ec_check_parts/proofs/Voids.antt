@@ -1,8 +1,8 @@
 -- Where the word `void` names the type.
 use Rattle.std.proofs.Common.{◌≡◌, ◌∙◌, ℕ, Bool, true, false, List, [], ◌∷◌, refl, sym, ap, inl, inr}
 use Rattle.std.specs.Prelude.{◌⊎◌, ◌↔◌, if◌then◌else◌, option_map, Option, Some, None}
-use Rattle.std.proofs.lemmas.Bool.{false≢true}
 use Rattle.ec_core.specs.declared.arithmetic_types.Arithmetic.{Arithmetic}
+use Rattle.ec_core.specs.Plain.{void}
 use Rattle.ec_grammar.specs.declared.token.WordKind.{WordKind}
 use Rattle.ec_grammar.specs.declared.token.WordKind.TheVariants as w
 use Rattle.ec_grammar.specs.Trees.{Spec, word_spec, struct_spec, Specs, specs, identifier}
@@ -16,12 +16,14 @@ use Rattle.ec_check_names.specs.declared.words.BaseType.TheVariants.{Void, Numbe
 use Rattle.ec_check_names.specs.declared.words.Times.{Times}
 use Rattle.ec_check_names.specs.declared.words.Times.TheVariants.{Never, Once, Often}
 use Rattle.ec_check_names.specs.declared.words.Words.{Words}
-use Rattle.ec_check_names.specs.Specifiers.{with_word_as, struct_type, named_by, base_by, at_void, void_at, with_spec}
+use Rattle.ec_check_names.specs.Specifiers.{with_word_as, struct_type, base_of, base_by, at_void, void_at, with_spec}
 use Rattle.ec_check_names.specs.Specifiers.{nothing_said, specified, specified_from}
 use Rattle.ec_check_names.specs.Tags.{Tags, tag_state}
-use Rattle.ec_check_names.specs.Words.{again, lone_type, number_type, are_none}
+use Rattle.ec_check_names.specs.Words.{again, lone_type, number_type, are_none, base_type}
 use Rattle.ec_check_parts.specs.Words.{Word, words_from, IsVoidWord, HasAt}
 use Rattle.ec_check_parts.specs.Heads.{SaysVoid}
+use Rattle.ec_check_parts.proofs.TypeWords.{name_told}
+use Rattle.ec_check_parts.proofs.Types.{void_names}
 
 -- ---- words that name a type alone
 
@@ -177,8 +179,8 @@ void_of_numbers (Some a) (Some l) at h = h
 
 void_of_one : (none : Bool) (at : ℕ) (ty : Option BaseType) (b : ℕ)
     → IsTheToken (at_void (if none then ty else None) (Some (record { at = at; ty = ty }))) b
-    ↔ ((none ≡ true) × (ty ≡ Some Void) × (b ≡ at))
-void_of_one false at ty b = (λ h. absurd h, λ q. absurd (false≢true q.0))
+    ↔ (((if none then ty else None) ≡ Some Void) × (ty ≡ Some Void) × (b ≡ at))
+void_of_one false at ty b = (λ h. absurd h, λ q. let e : ◌≡◌ {A = Option BaseType} None (Some Void) = q.0 in cc)
 void_of_one true at None b = (λ h. absurd h, λ q. let e : ◌≡◌ {A = Option BaseType} None (Some Void) = q.1 in cc)
 void_of_one true at (Some Void) b = (λ h. (refl, refl, h), λ q. q.2)
 void_of_one true at (Some (Number a)) b = (λ h. absurd h, λ q. let e : ◌≡◌ {A = Option BaseType} (Some (Number a)) (Some Void) = q.1 in cc)
@@ -187,7 +189,7 @@ void_of_one true at (Some (Struct i)) b = (λ h. absurd h, λ q. let e : ◌≡�
 -- of words that say so
 void_by : (ws : List Word) (words : Words) (lones : Times) (alone : Option Lone) (b : ℕ)
     → Says ws (record { words = words; lones = lones; lone = alone })
-    → IsTheToken (at_void (base_by lones words alone) alone) b ↔ ((named_by lones words ≡ true) × HasAt IsVoidWord ws b)
+    → IsTheToken (at_void (base_by lones words alone) alone) b ↔ ((base_by lones words alone ≡ Some Void) × HasAt IsVoidWord ws b)
 void_by ws words Never alone b (says_none e h) = (λ t. absurd (void_of_numbers (number_type words) alone b t), λ q. absurd (h b q.1))
 void_by ws words Never alone b (says_one l e f h) = let q : ◌≡◌ {A = Times} Never Once = e in cc
 void_by ws words Never alone b (says_more e) = let q : ◌≡◌ {A = Times} Never Often = e in cc
@@ -203,13 +205,18 @@ void_by ws words Once (Some m) b (says_one l e f h) =
     some_same : ◌≡◌ {A = Option Lone} (Some m) (Some l) → m ≡ l
     some_same q = cc
 void_by ws words Once alone b (says_more e) = let q : ◌≡◌ {A = Times} Once Often = e in cc
-void_by ws words Often alone b s = (often alone, λ q. absurd (false≢true q.0))
+void_by ws words Often alone b s = (often alone, λ q. let e : ◌≡◌ {A = Option BaseType} None (Some Void) = q.0 in cc)
   where
-    often : (alone : Option Lone) → IsTheToken (at_void (base_by Often words alone) alone) b → (false ≡ true) × HasAt IsVoidWord ws b
+    often : (alone : Option Lone) → IsTheToken (at_void (base_by Often words alone) alone) b
+        → (base_by Often words alone ≡ Some Void) × HasAt IsVoidWord ws b
     often None h = absurd h
     often (Some l) h = absurd h
 
 pub void_is : (tags : Tags) (ss : Specs) (b : ℕ) → IsTheToken (void_at (specified tags ss).types) b ↔ SaysVoid tags ss b
 void_is tags (specs first more) b =
     let t = (specified tags (specs first more)).types in
-    void_by (words_from (first ∷ more)) t.words t.lones t.lone b (never_says tags nothing_said (first ∷ more) refl)
+    let named = name_told tags (specs first more) void in
+    let h = void_by (words_from (first ∷ more)) t.words t.lones t.lone b (never_says tags nothing_said (first ∷ more) refl) in (
+      λ q. let v = h.0 q in (named.0 (ap (option_map base_type) v.0), v.1),
+      λ v. h.1 (void_names (base_of t) (named.1 v.0), v.1),
+    )

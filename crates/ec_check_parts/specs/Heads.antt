@@ -2,10 +2,12 @@
 -- 6.7.5 and 6.7.6; ISO/IEC TR 18037:2008, 5.1.2).
 use Rattle.std.specs.Prelude.{ℕ, ◌≡◌, ◌⊎◌, ⊤, List, [], ◌∷◌}
 use Rattle.ec_grammar.specs.Trees.{Specs, Star, star}
+use Rattle.ec_core.specs.Plain.{void}
 use Rattle.ec_check_operands.specs.declared.faults.Fault.{Fault}
 use Rattle.ec_check_names.specs.Tags.{Tags}
 use Rattle.ec_check_parts.specs.Words.{words_among, words_of, own_words, IsSpaceWord, IsVoidWord, HasAt, HasFirstAt}
-use Rattle.ec_check_parts.specs.Specifiers.{BreakQualifiers, NameType}
+use Rattle.ec_check_parts.specs.Specifiers.{BreakQualifiers}
+use Rattle.ec_check_parts.specs.TypeWords.{Name}
 
 -- what is declared: the result is that of a function, wherever it is declared
 pub data Role : Type 0 where
@@ -25,7 +27,7 @@ MayHaveSpace role = ⊥
 
 -- the word `void`, where the type words name void
 abbrev pub SaysVoid : Tags → Specs → (at : ℕ) → Type 0
-SaysVoid tags ss at = NameType tags ss × HasAt IsVoidWord (words_among ss) at
+SaysVoid tags ss at = Name tags ss void × HasAt IsVoidWord (words_among ss) at
 
 -- a result may be void, and nothing else; no pointer is one to void
 abbrev pub MayBeVoid : Role → List Star → Type 0

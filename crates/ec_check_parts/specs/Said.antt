@@ -4,7 +4,7 @@ use Rattle.ec_grammar.specs.declared.Spot.{Spot}
 use Rattle.ec_grammar.specs.Trees as t
 use Rattle.ec_core.specs.declared.programs.LeafInit.{LeafInit}
 use Rattle.ec_core.specs.Plain.{PlainType, PlainStruct, PlainExpr}
-use Rattle.ec_check_names.specs.Specifiers.{specified}
+use Rattle.ec_check_names.specs.Specifiers.{specified, names_type}
 use Rattle.ec_check_names.specs.Stars.{declared_by}
 use Rattle.ec_check_names.specs.Tags.{Tags}
 use Rattle.ec_check_expressions.specs.Known.{Known}
@@ -22,7 +22,7 @@ use Rattle.ec_check_parts.specs.ConstantForms.{IsConstantTerm}
 use Rattle.ec_check_parts.specs.Declared.{DeclareObject, IsConst, IsInSpace, DeclareParam, DeclareResult, DeclareRegister}
 use Rattle.ec_check_parts.specs.Items.{HasItemValue, IsInitialValue}
 use Rattle.ec_check_parts.specs.Structures.{DeclareStruct}
-use Rattle.ec_check_parts.specs.TypeWords.{Name}
+use Rattle.ec_check_parts.specs.TypeWords.{NameType, Name}
 use Rattle.ec_check_parts.specs.Types.{SayType}
 
 -- ---- constants
@@ -47,8 +47,9 @@ pub record ItemsHaveValues : Type 0 where
 
 -- ---- declarations
 
--- the type that specifiers name, and the one that they say with stars
+-- whether specifiers name a type and which, and the one that they say with stars
 pub record TypesAreSaid : Type 0 where
+  pub named : (tags : Tags) (ss : t.Specs) → names_type (specified tags ss).types ≡ true ↔ NameType ss
   pub names : (tags : Tags) (ss : t.Specs) (ty : PlainType) → (declared_by (specified tags ss)).ty ≡ Some ty ↔ Name tags ss ty
   pub said : (tags : Tags) (ss : t.Specs) (stars : List t.Star) (ty : PlainType)
       → (head_of (specified tags ss) stars).ty ≡ Some ty ↔ SayType tags ss stars ty

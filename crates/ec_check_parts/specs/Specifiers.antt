@@ -1,12 +1,12 @@
 -- The constraints on specifiers and on lists of qualifiers, in words (ISO/IEC 9899:1999, 6.7.1 to 6.7.3; ISO/IEC TR
 -- 18037:2008, 5.1.2; that `__flash` and `__farflash` ask for const is this project's profile).
-use Rattle.std.specs.Prelude.{ℕ, ◌≡◌, ◌⊎◌, Bool, true, false, None, List, [], ◌∷◌}
+use Rattle.std.specs.Prelude.{ℕ, ◌≡◌, ◌⊎◌, Bool, false, None, List, [], ◌∷◌}
 use Rattle.ec_grammar.specs.Trees.{Spec, word_spec, struct_spec, Specs, specs, identifier}
 use Rattle.ec_check_operands.specs.declared.faults.Fault.{Fault}
 use Rattle.ec_check_names.specs.Firsts.{first_specs}
-use Rattle.ec_check_names.specs.Specifiers.{specified, names_type}
 use Rattle.ec_check_names.specs.Tables.{at_name}
 use Rattle.ec_check_names.specs.Tags.{Tags}
+use Rattle.ec_check_parts.specs.TypeWords.{NameType}
 use Rattle.ec_check_parts.specs.Words.{Word, words_among, IsSpaceWord, IsFlashWord, IsConstWord, IsStorageWord}
 use Rattle.ec_check_parts.specs.Words.{HasOne, HasTwo, HasAt, HasSecondAt}
 
@@ -16,10 +16,6 @@ pub data BreakQualifiers (ws : List Word) (f : Fault) : Type 0 where
   second_space : f.rule ≡ 2 → HasSecondAt IsSpaceWord ws f.at → BreakQualifiers ws f
   -- `__flash` or `__farflash` stands in it without const
   flash_not_const : f.rule ≡ 4 → HasAt IsFlashWord ws f.at → ¬ HasOne IsConstWord ws → BreakQualifiers ws f
-
--- the words for types, taken together, name one
-abbrev pub NameType : Tags → Specs → Type 0
-NameType tags ss = names_type (specified tags ss).types ≡ true
 
 -- `struct` stands before a tag that is none of those whose definitions have ended
 abbrev pub UseNoTag : Tags → List Spec → (at : ℕ) → Type 0
@@ -34,7 +30,7 @@ specs_in (specs first more) = first ∷ more
 -- specifiers, where a storage word may stand or not, and these tags are defined
 pub data BreakSpecifiers (tags : Tags) (may_store : Bool) (ss : Specs) (f : Fault) : Type 0 where
   -- the type words name no type
-  no_type : f.rule ≡ 1 → f.at ≡ first_specs ss → ¬ NameType tags ss → BreakSpecifiers tags may_store ss f
+  no_type : f.rule ≡ 1 → f.at ≡ first_specs ss → ¬ NameType ss → BreakSpecifiers tags may_store ss f
   -- more than one storage word stands, the same or another
   two_storage_words : f.rule ≡ 1 → f.at ≡ first_specs ss → HasTwo IsStorageWord (words_among ss)
       → BreakSpecifiers tags may_store ss f

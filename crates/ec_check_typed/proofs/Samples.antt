@@ -1,12 +1,13 @@
 -- Statements and declarations with what they are, by the relation alone: in an int context, where a and b are declared.
-use Rattle.std.proofs.Common.{◌≡◌, ◌<◌, ◌≤◌, ◌+◌, ℕ, true, false, [], ◌∷◌, refl, inl, inr, arith}
+use Rattle.std.proofs.Common.{◌≡◌, ◌<◌, ◌≤◌, ◌+◌, ℕ, true, false, List, [], ◌∷◌, refl, inl, inr, arith}
 use Rattle.std.specs.Prelude.{◌⊎◌, pos, Option, Some, None}
 use Rattle.std.proofs.lemmas.Bool.{false≢true}
 use Rattle.ec_grammar.specs.declared.Constant.TheVariants as constants
 use Rattle.ec_grammar.specs.declared.Spot.{Spot}
+use Rattle.ec_grammar.specs.declared.token.WordKind.{WordKind}
 use Rattle.ec_grammar.specs.declared.token.WordKind.TheVariants as w
 use Rattle.ec_grammar.specs.Trees as t
-use Rattle.ec_core.specs.Plain.{PlainType, void, array, number, last_expr, statement}
+use Rattle.ec_core.specs.Plain.{void, array, number, last_expr, statement}
 use Rattle.ec_core.specs.Plain.{block, declare, for_loop, break_loop, no_stmt, a_stmt, last_stmt, next_stmt}
 use Rattle.ec_core.specs.Typing.{int}
 use Rattle.ec_check_operands.specs.Operands.{made}
@@ -17,7 +18,9 @@ use Rattle.ec_check_meanings.specs.Means as means
 use Rattle.ec_check_meanings.specs.Means.{not_void}
 use Rattle.ec_check_parts.specs.Declared.{alone, DeclareObject, IsConst}
 use Rattle.ec_check_parts.specs.Places.{Inside}
-use Rattle.ec_check_parts.specs.TypeWords.{Name}
+use Rattle.ec_check_parts.specs.TypeWords.{type_specifiers, Pick, the_first, a_later, AreWords, no_more, one_more}
+use Rattle.ec_check_parts.specs.TypeWords.{no_sign, IsSet, nothing, an_integer, Name, by_words}
+use Rattle.ec_check_parts.specs.TypeWords as words
 use Rattle.ec_check_parts.specs.Types as type
 use Rattle.ec_check_typed.specs.Initialisers.{element, no_leaf, a_leaf, Gives, one_value, in_braces, no_item, IsValue, passed, IsZero}
 use Rattle.ec_check_typed.specs.Initialisers as initial
@@ -48,12 +51,24 @@ module _ (e : Enclosing) (c : Context) (i : Inside) (room : i.made < 65_000) whe
   -- `int` alone declares an int that is not const
   an_int : (k : Known) → DeclareObject k int_specs [] t.object None int
   an_int k = record {
-    typed = alone (record { said = type.said refl type.no_star; no_void = no_void }) (inr (inl refl));
+    typed = alone (record { said = type.said an_int_set type.no_star; no_void = no_void }) (inr (inl refl));
     small = two;
   }
     where
+      an_int_set : Name k.tags int_specs int
+      an_int_set = by_words (an_integer (words.int no_sign)) (one_more the_first no_more)
+
+      none_picked : (word : WordKind) (left : List WordKind) → Pick word [] left → ⊥
+      none_picked word left p = elim p [ ]
+
+      int_is_void : (left : List WordKind) → Pick w.Int (w.Void ∷ []) left → ⊥
+      int_is_void _ (a_later {left = left} p) = none_picked w.Int left p
+
+      no_set : (set : List WordKind) → AreWords set (type_specifiers int_specs) → IsSet set void → ⊥
+      no_set _ (one_more {left = left} p h) nothing = int_is_void left p
+
       no_void : Name k.tags int_specs void → ⊥
-      no_void q = let e : ◌≡◌ {A = Option PlainType} (Some int) (Some void) = q in cc
+      no_void (by_words {set = set} s h) = no_set set h s
 
       two : 2 ≤ 32_767
       two = omega arith
