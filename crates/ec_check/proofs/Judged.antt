@@ -27,6 +27,7 @@ use Rattle.ec_check_statements.proofs.Growth.{NamesAdded, no_names_added, names_
 use Rattle.ec_check_file_scope.specs.FileFunctions.{named_function_sites}
 use Rattle.ec_check_file_scope.specs.States.{Setting, State, context_of, with_scope, broken, in_unit, nothing_declared}
 use Rattle.ec_check_least.specs.Told.{IsToldAt}
+use Rattle.ec_check_parts.specs.Readings.{Reading, walked, OneReads}
 use Rattle.ec_check_parts.specs.Mains.{HasNoMain}
 use Rattle.ec_check_parts.specs.Parts.{Part, specifiers, function, function_name, end, Breaks, OneBreaks}
 use Rattle.ec_check_parts.specs.Places.{Inside, behind_body, StandsInBody}
@@ -53,6 +54,7 @@ pub record PartLaws : Type 0 where
   pub names : FileNamesAreJudged
   pub bodies : BodiesAreJudged
   pub file : FileScopeIsJudged
+  pub one : OneReads
   pub scopes : ScopesEnd
   pub blocks : BlocksEnd
 
@@ -147,19 +149,19 @@ module _ (laws : PartLaws) where
     known = params_are r.unit (number_in s.functions) d.params s.scope
 
     body_is : outside_of (with_scope (after_body c around b params) s)
-        ≡ with_both s.scope.names (behind_body c b (behind_params d.params (inside_at (outside_of s)))).made
+        ≡ with_both s.scope.names (behind_body walked c b (behind_params d.params (inside_at (outside_of s)))).made
     body_is =
         ap (λ (z : Names). with_both z (length (after_body c around b params).objects)) names_kept
         ∙ ap (with_both s.scope.names) (laws.bodies.behind_bodies c around b params)
-        ∙ ap (λ (z : Inside). with_both s.scope.names (behind_body c b z).made) known
+        ∙ ap (λ (z : Inside). with_both s.scope.names (behind_body walked c b z).made) known
 
     body_stands : TellAt (body_sites c around b params)
-        (OneBreaks (StandsInBody c (surroundings d (outside_of s)) b (behind_params d.params (inside_at (outside_of s)))))
+        (OneBreaks (StandsInBody walked c (surroundings d (outside_of s)) b (behind_params d.params (inside_at (outside_of s)))))
     body_stands =
-        subst (λ (z : Inside). TellAt (body_sites c around b params) (OneBreaks (StandsInBody c (surroundings_of around) b z))) known
+        subst (λ (z : Inside). TellAt (body_sites c around b params) (OneBreaks (StandsInBody walked c (surroundings_of around) b z))) known
         (laws.bodies.bodies c around b params)
 
-  definition_is : (r : Setting) (f : t.Function) (s : State) → outside_of (after_definition r f s) ≡ behind_definition r f (outside_of s)
+  definition_is : (r : Setting) (f : t.Function) (s : State) → outside_of (after_definition r f s) ≡ behind_definition walked r f (outside_of s)
   definition_is r (t.function (t.type_name ss stars) (t.identifier at n) l ps e body) s =
       let f = t.function (t.type_name ss stars) (t.identifier at n) l ps e body in
       let d = definition_declared f s in
@@ -170,11 +172,11 @@ module _ (laws : PartLaws) where
       ∙ body_is r d body named
 
   definition_stands : (r : Setting) (f : t.Function) (s : State)
-      → TellAt (definition_sites r f s) (OneBreaks (StandsInDefinition r f (outside_of s)))
+      → TellAt (definition_sites r f s) (OneBreaks (StandsInDefinition walked r f (outside_of s)))
   definition_stands r (t.function (t.type_name ss stars) (t.identifier at n) l ps e body) s =
       let f = t.function (t.type_name ss stars) (t.identifier at n) l ps e body in
       let o = outside_of s in
-      let d = function_at ss stars ps o in
+      let d = function_at walked ss stars ps o in
       let word = word_in ss in
       let named = named_definition r f s d in
       let words = on (specs_rules s.tags true ss []) in
@@ -183,8 +185,8 @@ module _ (laws : PartLaws) where
       let bodies = body_sites (context_of r.ports named) (body_in r d named) body (params_in r d named) in
       let Words = (λ (p : Part). p ≡ specifiers s.tags ss) in
       let Function = (λ (p : Part). p ≡ function s.tags true ss stars at.index ps) in
-      let name = function_name s.declared (function_name_at r ss n true d o) word None at.index in
-      let Body = StandsInBody (context_at r (outside_of named)) (surroundings d (outside_of named)) body
+      let name = function_name s.declared (function_name_at walked r ss n true d o) word None at.index in
+      let Body = StandsInBody walked (context_at r (outside_of named)) (surroundings d (outside_of named)) body
       (behind_params d.params (inside_at (outside_of named))) in
       stand_both (λ rest. words ∷ rest) (λ rest. functions (names (bodies rest))) Words (λ p. Function p ⊎ ((p ≡ name) ⊎ Body p))
       (laws.file.specifiers s.tags ss)
@@ -195,7 +197,7 @@ module _ (laws : PartLaws) where
 
   -- ---- external declarations
 
-  pub external_is : (r : Setting) (x : t.External) (s : State) → outside_of (after_external r x s) ≡ behind_external r x (outside_of s)
+  pub external_is : (r : Setting) (x : t.External) (s : State) → outside_of (after_external r x s) ≡ behind_external walked r x (outside_of s)
   external_is r (t.pragma_item p) s = refl
   external_is r (t.structure_item (t.structure w (t.identifier at tag) l first more e semicolon)) s = refl
   external_is r (t.register_item d) s = laws.file.behind_registers r d s
@@ -203,7 +205,7 @@ module _ (laws : PartLaws) where
   external_is r (t.function_item f) s = definition_is r f s
 
   external_stands : (r : Setting) (x : t.External) (s : State)
-      → TellAt (external_sites r x s) (OneBreaks (StandsInExternal r x (outside_of s)))
+      → TellAt (external_sites r x s) (OneBreaks (StandsInExternal walked r x (outside_of s)))
   external_stands r (t.pragma_item p) s = stands_nowhere
   external_stands r (t.structure_item d) s = laws.file.structures r d s
   external_stands r (t.register_item d) s = laws.file.registers r d s
@@ -211,18 +213,18 @@ module _ (laws : PartLaws) where
   external_stands r (t.function_item f) s = definition_stands r f s
 
   externals_are : (r : Setting) (xs : List t.External) (s : State)
-      → outside_of (after_externals r xs s) ≡ behind_externals r xs (outside_of s)
+      → outside_of (after_externals r xs s) ≡ behind_externals walked r xs (outside_of s)
   externals_are r [] s = refl
-  externals_are r (x ∷ xs) s = externals_are r xs (after_external r x s) ∙ ap (behind_externals r xs) (external_is r x s)
+  externals_are r (x ∷ xs) s = externals_are r xs (after_external r x s) ∙ ap (behind_externals walked r xs) (external_is r x s)
 
   externals_stand : (r : Setting) (xs : List t.External) (s : State) (o : Outside) → outside_of s ≡ o
-      → TellAt (externals_sites r xs s) (OneBreaks (StandsInExternals r xs o))
+      → TellAt (externals_sites r xs s) (OneBreaks (StandsInExternals walked r xs o))
   externals_stand r [] s o e = stands_nowhere
   externals_stand r (x ∷ xs) s o e =
-      subst (λ (z : Outside). TellAt (externals_sites r (x ∷ xs) s) (OneBreaks (StandsInExternals r (x ∷ xs) z))) e
-      (stand_both (external_sites r x s) (externals_sites r xs (after_external r x s)) (StandsInExternal r x (outside_of s))
-      (StandsInExternals r xs (behind_external r x (outside_of s))) (external_stands r x s)
-      (externals_stand r xs (after_external r x s) (behind_external r x (outside_of s)) (external_is r x s)))
+      subst (λ (z : Outside). TellAt (externals_sites r (x ∷ xs) s) (OneBreaks (StandsInExternals walked r (x ∷ xs) z))) e
+      (stand_both (external_sites r x s) (externals_sites r xs (after_external r x s)) (StandsInExternal walked r x (outside_of s))
+      (StandsInExternals walked r xs (behind_external walked r x (outside_of s))) (external_stands r x s)
+      (externals_stand r xs (after_external r x s) (behind_external walked r x (outside_of s)) (external_is r x s)))
 
   -- ---- units
 
@@ -253,14 +255,14 @@ module _ (laws : PartLaws) where
       (λ f. (end_there ds last at f, λ h. inl ((end_told ds last).1 h.2, h.1, h.0))))
 
   unit_stands : (r : Setting) (last : Bool) (u : t.Tree) (s : State)
-      → TellAt (unit_sites r last u s) (OneBreaks (StandsInUnit r last u (outside_of s)))
+      → TellAt (unit_sites r last u s) (OneBreaks (StandsInUnit walked r last u (outside_of s)))
   unit_stands r last (t.tree xs e) s =
       let ends = (λ (rest : List Site). on (rule 18 (last && is_none (main_of r.definitions)) e.index ∷ []) ∷ rest) in
-      stand_both (externals_sites r xs (in_unit s)) ends (StandsInExternals r xs (unit_begins (outside_of s)))
+      stand_both (externals_sites r xs (in_unit s)) ends (StandsInExternals walked r xs (unit_begins (outside_of s)))
       (λ p. (last ≡ true) × (p ≡ end r.definitions e.index))
       (externals_stand r xs (in_unit s) (unit_begins (outside_of s)) refl) (end_stands r.definitions last e.index)
 
-  pub unit_is : (r : Setting) (u : t.Tree) (s : State) → outside_of (after_unit r u s) ≡ behind_unit r u (outside_of s)
+  pub unit_is : (r : Setting) (u : t.Tree) (s : State) → outside_of (after_unit r u s) ≡ behind_unit walked r u (outside_of s)
   unit_is r (t.tree xs e) s = externals_are r xs (in_unit s)
 
   last_is : (us : List t.Tree) → parts.is_last us ≡ is_last us
@@ -269,13 +271,13 @@ module _ (laws : PartLaws) where
 
   -- a fault of the unit with a number among some, before which this is known
   abbrev IsFault : List Definition → IoTable → (first : ℕ) → List t.Tree → Outside → (unit : ℕ) → Fault → Type 0
-  IsFault ds io first us o unit f = OneBreaks (StandsAmong ds io first us o unit) f
+  IsFault ds io first us o unit f = OneBreaks (StandsAmong walked ds io first us o unit) f
 
   first_judged : (r : Setting) (us : List t.Tree) (u : t.Tree) (s : State) (o : Outside) → outside_of s ≡ o
-      → TellAt (unit_sites r (is_last us) u s) (OneBreaks (StandsInUnit r (parts.is_last us) u o))
+      → TellAt (unit_sites r (is_last us) u s) (OneBreaks (StandsInUnit walked r (parts.is_last us) u o))
   first_judged r us u s o q =
-      subst (λ (z : Outside). TellAt (unit_sites r (is_last us) u s) (OneBreaks (StandsInUnit r (parts.is_last us) u z))) q
-      (subst (λ (b : Bool). TellAt (unit_sites r (is_last us) u s) (OneBreaks (StandsInUnit r b u (outside_of s)))) (sym (last_is us))
+      subst (λ (z : Outside). TellAt (unit_sites r (is_last us) u s) (OneBreaks (StandsInUnit walked r (parts.is_last us) u z))) q
+      (subst (λ (b : Bool). TellAt (unit_sites r (is_last us) u s) (OneBreaks (StandsInUnit walked r b u (outside_of s)))) (sym (last_is us))
       (unit_stands r (is_last us) u s))
 
   alone : (B : Fault → Type 0) (f : Fault) → B f ⊎ ⊥ → B f
@@ -297,16 +299,29 @@ module _ (laws : PartLaws) where
       let places = unit_sites r (is_last us) u s [] in
       let more = sites_from ds io (first + 1) us (after_unit r u s) in
       let judged = (first_judged r us u s o q).exactly [] f in (
-        λ h. alone (OneBreaks (StandsInUnit r (parts.is_last us) u o)) f (judged.0 (split places more zero f h)),
+        λ h. alone (OneBreaks (StandsInUnit walked r (parts.is_last us) u o)) f (judged.0 (split places more zero f h)),
         λ h. record { places = places; stand = refl; tells = judged.1 (inl h) },
       )
   among_told ds io first (u ∷ us) s o q (suc unit) f =
       let r = setting_of ds io first in
       let places = unit_sites r (is_last us) u s [] in
       let more = sites_from ds io (first + 1) us (after_unit r u s) in
-      let rest = among_told ds io (first + 1) us (after_unit r u s) (behind_unit r u o) (unit_is r u s ∙ ap (behind_unit r u) q) unit f in
+      let rest = among_told ds io (first + 1) us (after_unit r u s) (behind_unit walked r u o) (unit_is r u s ∙ ap (behind_unit walked r u) q) unit f in
       (λ h. rest.0 (split places more (suc unit) f h), λ h. further places more unit f (rest.1 h))
+
+  -- a part stands in the unit with a number, by a reading
+  abbrev StandsBy : List t.Tree → IoTable → (unit : ℕ) → Reading → Part → Type 0
+  StandsBy us io unit q p = StandsAmong q (definitions us) io 0 us nothing_known unit p
 
   pub unit_told : (us : List t.Tree) (io : IoTable) (unit : ℕ) (f : Fault)
       → IsToldIn (sites_of us io) unit f ↔ OneBreaks (Stands us io unit) f
-  unit_told us io unit f = among_told (definitions us) io 0 us nothing_declared nothing_known refl unit f
+  unit_told us io unit f = (λ h. to_stand (judged.0 h), λ h. judged.1 (of_stand h))
+    where
+      judged : IsToldIn (sites_of us io) unit f ↔ OneBreaks (StandsBy us io unit walked) f
+      judged = among_told (definitions us) io 0 us nothing_declared nothing_known refl unit f
+
+      to_stand : OneBreaks (StandsBy us io unit walked) f → OneBreaks (Stands us io unit) f
+      to_stand (p, h, b) = (p, (walked, (laws.one walked).1 refl, h), b)
+
+      of_stand : OneBreaks (Stands us io unit) f → OneBreaks (StandsBy us io unit walked) f
+      of_stand (p, (q, r, h), b) = (p, subst (λ (z : Reading). StandsBy us io unit z p) ((laws.one q).0 r) h, b)

@@ -18,6 +18,7 @@ use Rattle.ec_check_declarations.specs.Scopes.{Context, Scope, has_room, made_nu
 use Rattle.ec_check_statements.specs.Around.{Around}
 use Rattle.ec_check_statements.specs.Statements.{body_of, after_body}
 use Rattle.ec_check_file_scope.specs.States.{Setting, State, context_of, with_scope, broken, in_unit, nothing_declared}
+use Rattle.ec_check_parts.specs.Readings.{Reading, walked}
 use Rattle.ec_check_parts.specs.Declared.{DeclareResult}
 use Rattle.ec_check_parts.specs.Functions.{params_behind, params_in}
 use Rattle.ec_check_parts.specs.Laws.{inside_of, outside_of}
@@ -229,7 +230,7 @@ module _ (bodies : FunctionLaws) (r : Setting) (ss : t.Specs) (stars : List t.St
   f = t.function (t.type_name ss stars) (t.identifier at n) l ps e b
 
   abbrev d : FunctionDeclared
-  d = function_at ss stars ps (outside_of s)
+  d = function_at walked ss stars ps (outside_of s)
 
   abbrev named : State
   named = named_definition r f s d
@@ -325,7 +326,7 @@ module _ (bodies : FunctionLaws) (r : Setting) (ss : t.Specs) (stars : List t.St
       definition_further returns os us body ns made meant.0 meant.1 typed ((Decides-ltb (length s.functions) 65_536).1 room)
 
   abbrev FoundFunction : Type 0
-  FoundFunction = (g : PlainFunction) × (os : List PlainObject) × IsFunction r (place_of s) f g os
+  FoundFunction = (g : PlainFunction) × (os : List PlainObject) × IsFunction walked r (place_of s) f g os
 
   to_definition : (after_definition r f s).whole ≡ true → FoundFunction
   to_definition h = numbered_so (function_there (made_as (number_in named.functions) d.returns)
@@ -370,23 +371,23 @@ module _ (bodies : FunctionLaws) (r : Setting) (ss : t.Specs) (stars : List t.St
 -- ---- external declarations
 
 module _ (parts : PartLaws) (file : FileScopeIsSaid) (bodies : FunctionLaws) where
-  function_added : (r : Setting) (f : t.Function) (s : State) (a : Added) → Adds r (place_of s) (t.function_item f) a
+  function_added : (r : Setting) (f : t.Function) (s : State) (a : Added) → Adds walked r (place_of s) (t.function_item f) a
       → IsFurther a s (after_definition r f s)
   function_added r _ s _ (units.by_function {f = f} {g = g} {os = os} h) = by f g os h
     where
-      by : (f : t.Function) (g : PlainFunction) (os : List PlainObject) → IsFunction r (place_of s) f g os
+      by : (f : t.Function) (g : PlainFunction) (os : List PlainObject) → IsFunction walked r (place_of s) f g os
           → IsFurther (record { structs = []; objects = os; functions = g ∷ [] }) s (after_definition r f s)
       by _ _ _ (units.a_function {ss = ss} {stars = stars} {at = at} {l = l} {e = e} {n = n} {ps = ps} {b = b} {returns = returns} {ns = ns}
           {os = os} {us = us} {body = body} room typed h m) =
           definition_to bodies r ss stars at n l ps e b s returns ns os us body room typed h m
 
   function_said : (r : Setting) (f : t.Function) (s : State) → (after_definition r f s).whole ≡ true
-      → (a : Added) × Adds r (place_of s) (t.function_item f) a
+      → (a : Added) × Adds walked r (place_of s) (t.function_item f) a
   function_said r (t.function (t.type_name ss stars) (t.identifier at n) l ps e b) s h =
       let g = to_definition bodies r ss stars at n l ps e b s h in
       (record { structs = []; objects = g.1; functions = g.0 ∷ [] }, units.by_function g.2)
 
-  pragma_added : (r : Setting) (q : Pragma) (s : State) (a : Added) → Adds r (place_of s) (t.pragma_item q) a
+  pragma_added : (r : Setting) (q : Pragma) (s : State) (a : Added) → Adds walked r (place_of s) (t.pragma_item q) a
       → IsFurther a s (after_external r (t.pragma_item q) s)
   pragma_added r q s _ units.by_pragma = record {
     whole = refl;
@@ -395,7 +396,7 @@ module _ (parts : PartLaws) (file : FileScopeIsSaid) (bodies : FunctionLaws) whe
     functions = sym (append-nil s.functions);
   }
 
-  external_said : (r : Setting) (x : t.External) (s : State) → IsSaid (Adds r (place_of s) x) s (after_external r x s)
+  external_said : (r : Setting) (x : t.External) (s : State) → IsSaid (Adds walked r (place_of s) x) s (after_external r x s)
   external_said r (t.pragma_item q) s = record { added = pragma_added r q s; there = λ h. (nothing, units.by_pragma) }
   external_said r (t.structure_item d) s = file.structures r d s
   external_said r (t.register_item d) s = file.registers r d s
@@ -403,20 +404,20 @@ module _ (parts : PartLaws) (file : FileScopeIsSaid) (bodies : FunctionLaws) whe
   external_said r (t.function_item f) s = record { added = function_added r f s; there = function_said r f s }
 
   next_place : (r : Setting) (x : t.External) (s : State) (a : Added) → IsFurther a s (after_external r x s)
-      → place_of (after_external r x s) ≡ past a (behind_external r x (outside_of s)) (place_of s)
+      → place_of (after_external r x s) ≡ past a (behind_external walked r x (outside_of s)) (place_of s)
   next_place r x s a h =
-      place_behind s (after_external r x s) (behind_external r x (outside_of s)) a (external_is parts r x s) h
+      place_behind s (after_external r x s) (behind_external walked r x (outside_of s)) a (external_is parts r x s) h
 
-  externals_to : (r : Setting) (p : Place) (xs : List t.External) (a : Added) → AddAll r p xs a → (s : State) → place_of s ≡ p
+  externals_to : (r : Setting) (p : Place) (xs : List t.External) (a : Added) → AddAll walked r p xs a → (s : State) → place_of s ≡ p
       → IsFurther a s (after_externals r xs s)
   externals_to r _ _ _ units.no_external = λ s e. nothing_further s
   externals_to r _ _ _ (units.more_externals {p = p} {x = x} {xs = xs} {a = a} {b = b} h m) =
       λ s e.
       let next = after_external r x s in
-      let one = (external_said r x s).added a (subst (λ (z : Place). Adds r z x a) (sym e) h) in
+      let one = (external_said r x s).added a (subst (λ (z : Place). Adds walked r z x a) (sym e) h) in
       further_then a b s next (after_externals r xs next) one
-      (externals_to r (past a (behind_external r x p.known) p) xs b m next
-      (next_place r x s a one ∙ ap (λ (z : Place). past a (behind_external r x z.known) z) e))
+      (externals_to r (past a (behind_external walked r x p.known) p) xs b m next
+      (next_place r x s a one ∙ ap (λ (z : Place). past a (behind_external walked r x z.known) z) e))
 
   external_whole : (r : Setting) (x : t.External) (s : State) → (after_external r x s).whole ≡ true → s.whole ≡ true
   external_whole r x s h =
@@ -427,14 +428,14 @@ module _ (parts : PartLaws) (file : FileScopeIsSaid) (bodies : FunctionLaws) whe
   externals_whole r (x ∷ xs) s h = external_whole r x s (externals_whole r xs (after_external r x s) h)
 
   externals_there : (r : Setting) (xs : List t.External) (s : State) → (after_externals r xs s).whole ≡ true
-      → (a : Added) × AddAll r (place_of s) xs a
+      → (a : Added) × AddAll walked r (place_of s) xs a
   externals_there r [] s h = (nothing, units.no_external)
   externals_there r (x ∷ xs) s h =
       let next = after_external r x s in
       let g = (external_said r x s).there (externals_whole r xs next h) in
       let one = (external_said r x s).added g.0 g.1 in
       let m = externals_there r xs next h in
-      (both g.0 m.0, units.more_externals g.1 (subst (λ (z : Place). AddAll r z xs m.0) (next_place r x s g.0 one) m.1))
+      (both g.0 m.0, units.more_externals g.1 (subst (λ (z : Place). AddAll walked r z xs m.0) (next_place r x s g.0 one) m.1))
 
   -- ---- units
 
@@ -442,11 +443,11 @@ module _ (parts : PartLaws) (file : FileScopeIsSaid) (bodies : FunctionLaws) whe
   from_start s v a h = record { whole = h.whole; structs = h.structs; objects = h.objects; functions = h.functions }
 
   unit_place : (r : Setting) (xs : List t.External) (e : Spot) (s : State) (a : Added) → IsFurther a s (after_unit r (t.tree xs e) s)
-      → place_of (after_unit r (t.tree xs e) s) ≡ past a (behind_unit r (t.tree xs e) (outside_of s)) (place_of s)
+      → place_of (after_unit r (t.tree xs e) s) ≡ past a (behind_unit walked r (t.tree xs e) (outside_of s)) (place_of s)
   unit_place r xs e s a h =
-      place_behind s (after_unit r (t.tree xs e) s) (behind_unit r (t.tree xs e) (outside_of s)) a (unit_is parts r (t.tree xs e) s) h
+      place_behind s (after_unit r (t.tree xs e) s) (behind_unit walked r (t.tree xs e) (outside_of s)) a (unit_is parts r (t.tree xs e) s) h
 
-  units_to : (ds : List Definition) (io : IoTable) (n : ℕ) (p : Place) (us : List t.Tree) (a : Added) → UnitsAdd ds io n p us a
+  units_to : (ds : List Definition) (io : IoTable) (n : ℕ) (p : Place) (us : List t.Tree) (a : Added) → UnitsAdd walked ds io n p us a
       → (s : State) → place_of s ≡ p → IsFurther a s (after_units ds io n us s)
   units_to ds io _ _ _ _ units.no_unit = λ s e. nothing_further s
   units_to ds io _ _ _ _ (units.more_units {unit = n} {p = p} {xs = xs} {e = z} {us = us} {a = a} {b = b} h m) =
@@ -455,8 +456,8 @@ module _ (parts : PartLaws) (file : FileScopeIsSaid) (bodies : FunctionLaws) whe
       let next = after_unit r (t.tree xs z) s in
       let one = from_start s next a (externals_to r (begins p) xs a h (in_unit s) (ap begins e)) in
       further_then a b s next (after_units ds io (n + 1) us next) one
-      (units_to ds io (n + 1) (past a (behind_unit r (t.tree xs z) p.known) p) us b m next
-      (unit_place r xs z s a one ∙ ap (λ (q : Place). past a (behind_unit r (t.tree xs z) q.known) q) e))
+      (units_to ds io (n + 1) (past a (behind_unit walked r (t.tree xs z) p.known) p) us b m next
+      (unit_place r xs z s a one ∙ ap (λ (q : Place). past a (behind_unit walked r (t.tree xs z) q.known) q) e))
 
   units_whole : (ds : List Definition) (io : IoTable) (n : ℕ) (us : List t.Tree) (s : State)
       → (after_units ds io n us s).whole ≡ true → s.whole ≡ true
@@ -466,7 +467,7 @@ module _ (parts : PartLaws) (file : FileScopeIsSaid) (bodies : FunctionLaws) whe
       (units_whole ds io (n + 1) us (after_unit (setting_of ds io n) (t.tree xs z) s) h)
 
   units_there : (ds : List Definition) (io : IoTable) (n : ℕ) (us : List t.Tree) (s : State)
-      → (after_units ds io n us s).whole ≡ true → (a : Added) × UnitsAdd ds io n (place_of s) us a
+      → (after_units ds io n us s).whole ≡ true → (a : Added) × UnitsAdd walked ds io n (place_of s) us a
   units_there ds io n [] s h = (nothing, units.no_unit)
   units_there ds io n (t.tree xs z ∷ us) s h =
       let r = setting_of ds io n in
@@ -474,7 +475,7 @@ module _ (parts : PartLaws) (file : FileScopeIsSaid) (bodies : FunctionLaws) whe
       let g = externals_there r xs (in_unit s) (units_whole ds io (n + 1) us next h) in
       let one = from_start s next g.0 (externals_to r (begins (place_of s)) xs g.0 g.1 (in_unit s) refl) in
       let m = units_there ds io (n + 1) us next h in
-      (both g.0 m.0, units.more_units g.1 (subst (λ (q : Place). UnitsAdd ds io (n + 1) q us m.0) (unit_place r xs z s g.0 one) m.1))
+      (both g.0 m.0, units.more_units g.1 (subst (λ (q : Place). UnitsAdd walked ds io (n + 1) q us m.0) (unit_place r xs z s g.0 one) m.1))
 
 -- ---- how many functions there are
 
@@ -487,30 +488,30 @@ few_both p o a b h m le =
     let two = m (h le) in
     omega (arith, there, two)
 
-few_added : (r : Setting) (p : Place) (x : t.External) (a : Added) → Adds r p x a → FewFunctions p a
+few_added : (r : Setting) (p : Place) (x : t.External) (a : Added) → Adds walked r p x a → FewFunctions p a
 few_added r p _ _ units.by_pragma = λ le. omega (arith, le)
 few_added r p _ _ (units.by_struct h) = λ le. omega (arith, le)
 few_added r p _ _ (units.by_register h) = λ le. omega (arith, le)
 few_added r p _ _ (units.by_declaration h) = λ le. omega (arith, le)
 few_added r p _ _ (units.by_function {f = f} {g = g} {os = os} h) = by f g os h
   where
-    by : (f : t.Function) (g : PlainFunction) (os : List PlainObject) → IsFunction r p f g os → p.functions ≤ 65_536
+    by : (f : t.Function) (g : PlainFunction) (os : List PlainObject) → IsFunction walked r p f g os → p.functions ≤ 65_536
         → p.functions + 1 ≤ 65_536
     by _ _ _ (units.a_function room typed h m) le = omega (arith, room)
 
-few_externals : (r : Setting) (p : Place) (xs : List t.External) (a : Added) → AddAll r p xs a → FewFunctions p a
+few_externals : (r : Setting) (p : Place) (xs : List t.External) (a : Added) → AddAll walked r p xs a → FewFunctions p a
 few_externals r _ _ _ (units.no_external {p = p}) = λ le. omega (arith, le)
 few_externals r _ _ _ (units.more_externals {p = p} {x = x} {xs = xs} {a = a} {b = b} h m) =
-    few_both p (behind_external r x p.known) a b (few_added r p x a h)
-    (few_externals r (past a (behind_external r x p.known) p) xs b m)
+    few_both p (behind_external walked r x p.known) a b (few_added r p x a h)
+    (few_externals r (past a (behind_external walked r x p.known) p) xs b m)
 
-few_units : (ds : List Definition) (io : IoTable) (n : ℕ) (p : Place) (us : List t.Tree) (a : Added) → UnitsAdd ds io n p us a
+few_units : (ds : List Definition) (io : IoTable) (n : ℕ) (p : Place) (us : List t.Tree) (a : Added) → UnitsAdd walked ds io n p us a
     → FewFunctions p a
 few_units ds io _ _ _ _ (units.no_unit {p = p}) = λ le. omega (arith, le)
 few_units ds io _ _ _ _ (units.more_units {unit = n} {p = p} {xs = xs} {e = z} {us = us} {a = a} {b = b} h m) =
     let r = setting_of ds io n in
-    few_both p (behind_unit r (t.tree xs z) p.known) a b (few_externals r (begins p) xs a h)
-    (few_units ds io (n + 1) (past a (behind_unit r (t.tree xs z) p.known) p) us b m)
+    few_both p (behind_unit walked r (t.tree xs z) p.known) a b (few_externals r (begins p) xs a h)
+    (few_units ds io (n + 1) (past a (behind_unit walked r (t.tree xs z) p.known) p) us b m)
 
 -- ---- programs
 
@@ -518,7 +519,7 @@ module _ (parts : PartLaws) (file : FileScopeIsSaid) (bodies : FunctionLaws) (us
   abbrev behind : State
   behind = after_units (definitions us) io 0 us nothing_declared
 
-  program_at : (a : Added) (start : ℕ) → main_of (definitions us) ≡ Some start → UnitsAdd (definitions us) io 0 first_place us a
+  program_at : (a : Added) (start : ℕ) → main_of (definitions us) ≡ Some start → UnitsAdd walked (definitions us) io 0 first_place us a
       → program_of us io
       ≡ Some (record { structs = a.structs; objects = a.objects; functions = a.functions; main = start })
   program_at a start e h =
@@ -539,7 +540,9 @@ module _ (parts : PartLaws) (file : FileScopeIsSaid) (bodies : FunctionLaws) (us
           record { structs = behind.structs; objects = behind.scope.objects; functions = behind.functions; main = start }
 
   typed_to : (p : PlainProgram) → Typed us io p → program_of us io ≡ Some p
-  typed_to _ (units.typed {a = a} {start = start} h e) = program_at a start ((mains_are_found (definitions us) start).1 e) h
+  typed_to _ (units.typed {q = q} {a = a} {start = start} r h e) =
+      program_at a start ((mains_are_found (definitions us) start).1 e)
+      (subst (λ (z : Reading). UnitsAdd z (definitions us) io 0 first_place us a) ((parts.one q).0 r) h)
 
   to_typed : (p : PlainProgram) → program_of us io ≡ Some p → Typed us io p
   to_typed p q = by (main_of (definitions us)) refl q
@@ -549,7 +552,7 @@ module _ (parts : PartLaws) (file : FileScopeIsSaid) (bodies : FunctionLaws) (us
           → Typed us io p
       whole start true c w e f =
           let g = units_there parts file bodies (definitions us) io 0 us nothing_declared w in
-          subst (λ (z : PlainProgram). Typed us io z) (inside (sym (program_at g.0 start e g.1) ∙ q)) (units.typed g.1 ((mains_are_found (definitions us) start).0 e))
+          subst (λ (z : PlainProgram). Typed us io z) (inside (sym (program_at g.0 start e g.1) ∙ q)) (units.typed ((parts.one walked).1 refl) g.1 ((mains_are_found (definitions us) start).0 e))
       whole start false c w e f = absurd (nothing_there p f)
 
       by : (start : Option ℕ) → main_of (definitions us) ≡ start → program_by start behind ≡ Some p → Typed us io p

@@ -13,7 +13,7 @@ use ec_check_least::the_least_is_told;
 use ec_check_names::{blocks_end, equal_structs_are_one};
 use ec_check_parts::{
     bodies_are_judged, declarators_are_said, file_names_are_judged, file_scope_is_judged,
-    functions_are_judged,
+    functions_are_judged, there_is_one_reading,
 };
 use ec_check_statements::{
     bodies_are_valid, bodies_need_their_tokens, function_types_are_usable,
@@ -33,6 +33,7 @@ pub fn the_least_is_found()
     file_names_are_judged();
     bodies_are_judged();
     file_scope_is_judged();
+    there_is_one_reading();
     scopes_end();
     blocks_end();
 }
@@ -100,6 +101,7 @@ pub fn programs_are_typed()
     file_names_are_judged();
     bodies_are_judged();
     file_scope_is_judged();
+    there_is_one_reading();
     scopes_end();
     blocks_end();
     declarators_are_said();

@@ -44,6 +44,7 @@ use Rattle.ec_check_parts.specs.Declared.{DeclareParam, DeclareResult, no_result
 use Rattle.ec_check_parts.specs.Declared.{DeclareRegister}
 use Rattle.ec_check_parts.specs.Said.{DeclaratorsAreSaid}
 use Rattle.ec_check_parts.specs.TypeWords.{Name}
+use Rattle.ec_check_parts.specs.Readings.{TypeRegister}
 use Rattle.ec_check_parts.specs.Types.{MeanType}
 use Rattle.ec_check_parts.proofs.ConstantForms.{constants_are_told}
 use Rattle.ec_check_parts.proofs.Expressions.{ExpressionLaws, uses_conditional}
@@ -363,6 +364,39 @@ passing_back structs first ty le = grind (arith, nat_tests, le)
 
 abbrev register_typed_by : Known → t.Specs → Option PlainType
 register_typed_by k ss = register_type (length k.structs) (specified k.tags ss)
+
+-- the type of an object that lies in registers
+pub register_types : (k : Known) (register : List ℕ) (ss : t.Specs) (ty : PlainType)
+    → type_in k.structs (register_number register) (register_typed_by k ss) ≡ Some ty ↔ TypeRegister k register ss ty
+register_types k register ss ty = (there, back)
+  where
+    there : type_in k.structs (register_number register) (register_typed_by k ss) ≡ Some ty → TypeRegister k register ss ty
+    there h =
+        let u = unless (passes_last k.structs (register_number register) (register_typed_by k ss)) (number_type (register_typed_by k ss)) ty h in
+        let a = (number_is (register_typed_by k ss) ty).0 u.1 in
+        let o = (register_typed k ss ty).0 a.0 in
+        record {
+          meant = o.0;
+          number = a.1;
+          object = o.1;
+          inside = λ first n.
+              passing_is k.structs first ty
+              (sym (ap (λ (z : Option ℕ). passes_last k.structs z (register_typed_by k ss)) ((register_named register first).1 n)
+              ∙ ap (λ (z : Option PlainType). passes_last k.structs (Some first) z) a.0)
+              ∙ u.0);
+        }
+
+    fits : (o : Option ℕ) → register_number register ≡ o → TypeRegister k register ss ty → passes_last k.structs o (Some ty) ≡ false
+    fits None e h = refl
+    fits (Some first) e h = passing_back k.structs first ty (h.inside first ((register_named register first).0 e))
+
+    back : TypeRegister k register ss ty → type_in k.structs (register_number register) (register_typed_by k ss) ≡ Some ty
+    back h =
+        let o = (register_typed k ss ty).1 (h.meant, h.object) in
+        ap (λ (b : Bool). if b then None else number_type (register_typed_by k ss))
+        (ap (λ (z : Option PlainType). passes_last k.structs (register_number register) z) o
+        ∙ fits (register_number register) refl h)
+        ∙ (number_is (register_typed_by k ss) ty).1 (o, h.number)
 
 abbrev said_before : Known → t.Specs → Option PlainType
 said_before k ss = meant_type (void_at (specified k.tags ss).types) (head_of (specified k.tags ss) []).ty

@@ -19,6 +19,7 @@ use Rattle.ec_check_file_scope.specs.FileObjects.{is_started, extern_rules, name
 use Rattle.ec_check_file_scope.specs.FileObjects.{shares_register, register_name as name_of_register, file_register_sites}
 use Rattle.ec_check_file_scope.specs.FileScope.{after_declarator, declarator_sites, more_sites, declaration_sites}
 use Rattle.ec_check_file_scope.specs.States.{Setting, State, known_of}
+use Rattle.ec_check_parts.specs.Readings.{walked}
 use Rattle.ec_check_parts.specs.Structures.{IsFunction}
 use Rattle.ec_check_parts.specs.Parts.{Part, specifiers, object, started, static_initialiser, function, structure, register}
 use Rattle.ec_check_parts.specs.Parts.{object_name, function_name, register_name, OneBreaks, Breaks}
@@ -66,15 +67,15 @@ module _ (laws : FileLaws) (r : Setting) where
       → ¬ IsFunction shape
       → TellAt (file_object_sites r (specified s.tags ss) (storages_of ss).first
       (t.init_declarator (t.declarator stars (t.identifier at n) shape) start) s)
-      (OneBreaks (StandsInObject r ss (t.declarator stars (t.identifier at n) shape) start (outside_of s)))
+      (OneBreaks (StandsInObject walked r ss (t.declarator stars (t.identifier at n) shape) start (outside_of s)))
   object_stands ss stars at n shape start s unlike =
       let o = outside_of s in
       let d = t.declarator stars (t.identifier at n) shape in
-      let x = object_at r ss d start o in
+      let x = object_at walked r ss d start o in
       let k = known_of r.ports s in
       let word = word_in ss in
-      let name = object_name_at r ss n x o in
-      let inner = known_at r (behind_name r ss n x o) in
+      let name = object_name_at walked r ss n x o in
+      let inner = known_at r (behind_name walked r ss n x o) in
       let objects = object_sites k true (specified s.tags ss) d start in
       let externs = on (extern_rules (is_started start) (storages_of ss).first) in
       let names = on (name_rules name s.declared at.index) in
@@ -97,17 +98,17 @@ module _ (laws : FileLaws) (r : Setting) where
       (start : Option t.Start) (s : State)
       → TellAt (file_function_sites r (specified s.tags ss) (storages_of ss).first
       (t.init_declarator (t.declarator stars (t.identifier at n) shape) start) ps s)
-      (OneBreaks (StandsInFunction r ss stars at.index n ps start (outside_of s)))
+      (OneBreaks (StandsInFunction walked r ss stars at.index n ps start (outside_of s)))
   function_stands ss stars at n shape ps start s =
       let o = outside_of s in
-      let d = function_at ss stars ps o in
+      let d = function_at walked ss stars ps o in
       let word = word_in ss in
       let externs = on (extern_rules (is_started start) (storages_of ss).first) in
       let functions = function_sites s.tags false (specified s.tags ss) stars at.index ps in
       let names = named_function_sites r word n false d (is_started start) at.index s in
       let Function = (λ (p : Part). p ≡ function s.tags false ss stars at.index ps) in
       let Started = (λ (p : Part). p ≡ started ss start) in
-      let named = function_name s.declared (function_name_at r ss n false d o) word start at.index in
+      let named = function_name s.declared (function_name_at walked r ss n false d o) word start at.index in
       stand_both functions (λ rest. externs ∷ names rest) Function (λ p. Started p ⊎ (p ≡ named))
       (stands_alone functions (function s.tags false ss stars at.index ps) (laws.functions s.tags false ss stars at.index ps))
       (stand_both (λ rest. externs ∷ rest) names Started (λ p. p ≡ named) (extern_stands ss start)
@@ -120,7 +121,7 @@ module _ (laws : FileLaws) (r : Setting) where
     storage = (storages_of ss).first
 
     declarator_stands : (d : t.InitDeclarator) (s : State)
-        → TellAt (declarator_sites r (specified s.tags ss) storage d s) (OneBreaks (StandsInDeclarator r ss d (outside_of s)))
+        → TellAt (declarator_sites r (specified s.tags ss) storage d s) (OneBreaks (StandsInDeclarator walked r ss d (outside_of s)))
     declarator_stands (t.init_declarator (t.declarator stars (t.identifier at n) t.object) start) s =
         object_stands ss stars at n t.object start s (λ h. h)
     declarator_stands (t.init_declarator (t.declarator stars (t.identifier at n) (t.array l size e)) start) s =
@@ -129,49 +130,49 @@ module _ (laws : FileLaws) (r : Setting) where
         function_stands ss stars at n (t.function_shape l ps e) ps start s
 
     declarator_at_tags : (d : t.InitDeclarator) (tags : Tags) (s : State) → s.tags ≡ tags
-        → TellAt (declarator_sites r (specified tags ss) storage d s) (OneBreaks (StandsInDeclarator r ss d (outside_of s)))
+        → TellAt (declarator_sites r (specified tags ss) storage d s) (OneBreaks (StandsInDeclarator walked r ss d (outside_of s)))
     declarator_at_tags d tags s e =
         subst (λ (z : Tags). TellAt (declarator_sites r (specified z ss) storage d s)
-        (OneBreaks (StandsInDeclarator r ss d (outside_of s)))) e (declarator_stands d s)
+        (OneBreaks (StandsInDeclarator walked r ss d (outside_of s)))) e (declarator_stands d s)
 
     declarators_stand : (ds : List t.NextInitDeclarator) (tags : Tags) (s : State) (o : Outside) → s.tags ≡ tags → outside_of s ≡ o
-        → TellAt (more_sites r (specified tags ss) storage ds s) (OneBreaks (StandsInDeclarators r ss ds o))
+        → TellAt (more_sites r (specified tags ss) storage ds s) (OneBreaks (StandsInDeclarators walked r ss ds o))
     declarators_stand [] tags s o e q = stands_nowhere
     declarators_stand (t.next_init_declarator comma d ∷ ds) tags s o e q =
         let said = specified tags ss in
         subst (λ (z : Outside). TellAt (more_sites r said storage (t.next_init_declarator comma d ∷ ds) s)
-        (OneBreaks (StandsInDeclarators r ss (t.next_init_declarator comma d ∷ ds) z))) q
+        (OneBreaks (StandsInDeclarators walked r ss (t.next_init_declarator comma d ∷ ds) z))) q
         (stand_both (declarator_sites r said storage d s) (more_sites r said storage ds (after_declarator r said storage d s))
-        (StandsInDeclarator r ss d (outside_of s)) (StandsInDeclarators r ss ds (behind_declarator r ss d (outside_of s)))
+        (StandsInDeclarator walked r ss d (outside_of s)) (StandsInDeclarators walked r ss ds (behind_declarator walked r ss d (outside_of s)))
         (declarator_at_tags d tags s e)
-        (declarators_stand ds tags (after_declarator r said storage d s) (behind_declarator r ss d (outside_of s))
+        (declarators_stand ds tags (after_declarator r said storage d s) (behind_declarator walked r ss d (outside_of s))
         (tags_at r ss d tags s e) (declarator_at r ss d tags s e)))
 
   declaration_stands : (d : t.Declaration) (s : State)
-      → TellAt (declaration_sites r d s) (OneBreaks (StandsInDeclaration r d (outside_of s)))
+      → TellAt (declaration_sites r d s) (OneBreaks (StandsInDeclaration walked r d (outside_of s)))
   declaration_stands (t.declaration ss first more semicolon) s =
       let said = specified s.tags ss in
       let storage = (storages_of ss).first in
       let o = outside_of s in
-      let First = StandsInDeclarator r ss first o in
-      let More = StandsInDeclarators r ss more (behind_declarator r ss first o) in
+      let First = StandsInDeclarator walked r ss first o in
+      let More = StandsInDeclarators walked r ss more (behind_declarator walked r ss first o) in
       let later = after_declarator r said storage first s in
       stand_both (λ rest. on (specs_rules s.tags true ss []) ∷ rest)
       (λ rest. declarator_sites r said storage first s (more_sites r said storage more later rest))
       (λ p. p ≡ specifiers s.tags ss) (λ p. First p ⊎ More p) (specifiers_stand s.tags ss)
       (stand_both (declarator_sites r said storage first s) (more_sites r said storage more later) First More
       (declarator_stands ss first s)
-      (declarators_stand ss more s.tags later (behind_declarator r ss first o) (tags_at r ss first s.tags s refl)
+      (declarators_stand ss more s.tags later (behind_declarator walked r ss first o) (tags_at r ss first s.tags s refl)
       (declarator_at r ss first s.tags s refl)))
 
   -- ---- named registers and structs
 
   register_stands : (d : t.RegisterObject) (s : State)
-      → TellAt (file_register_sites r d s) (OneBreaks (StandsInRegister r d (outside_of s)))
+      → TellAt (file_register_sites r d s) (OneBreaks (StandsInRegister walked r d (outside_of s)))
   register_stands (t.register_object w (t.identifier at reg) ss (t.identifier name_at n) e) s =
       let d = t.register_object w (t.identifier at reg) ss (t.identifier name_at n) e in
       let k = known_of r.ports s in
-      let name = name_of_register r n (register_at r d (outside_of s)) in
+      let name = name_of_register r n (register_at walked r d (outside_of s)) in
       let sharing = on (rule 13 (shares_register name s.declared) at.index ∷ []) in
       let names = on (name_rules name s.declared name_at.index) in
       let Register = (λ (p : Part). p ≡ register k at.index reg ss) in
@@ -185,7 +186,7 @@ module _ (laws : FileLaws) (r : Setting) where
       (laws.names.objects s.declared name None name_at.index tt)))
 
   structure_stands : (d : t.Structure) (s : State)
-      → TellAt (structure_sites (known_of r.ports s) d) (OneBreaks (StandsInStructure r d (outside_of s)))
+      → TellAt (structure_sites (known_of r.ports s) d) (OneBreaks (StandsInStructure walked r d (outside_of s)))
   structure_stands (t.structure w (t.identifier at tag) l first more e semicolon) s =
       let k = known_of r.ports s in
       stands_alone (structure_sites k (t.structure w (t.identifier at tag) l first more e semicolon)) (structure k at.index tag first more)

@@ -33,6 +33,7 @@ mod Blocks
 mod Statements
 mod FileNames
 mod Linkages
+mod Readings
 mod Places
 mod Outside
 mod FileScope

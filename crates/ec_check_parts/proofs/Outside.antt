@@ -15,6 +15,7 @@ use Rattle.ec_check_file_scope.specs.FileObjects.{with_defined, object_made, ini
 use Rattle.ec_check_file_scope.specs.FileObjects.{register_name, register_named, register_made}
 use Rattle.ec_check_file_scope.specs.FileScope.{after_declarator, after_more, after_declaration}
 use Rattle.ec_check_file_scope.specs.States.{Setting, State, known_of, with_name, with_scope, broken}
+use Rattle.ec_check_parts.specs.Readings.{walked}
 use Rattle.ec_check_parts.specs.Units.{Outside, made_by, behind_declarator, behind_declarators, behind_declaration, behind_register}
 use Rattle.ec_check_parts.specs.Laws.{outside_of}
 use Rattle.ec_check_parts.proofs.Places.{one_longer}
@@ -62,7 +63,7 @@ module _ (r : Setting) (ss : t.Specs) where
   declared_as said stars n shape start s = object_declared (known_of r.ports s) said (t.declarator stars n shape) start
 
   declarator_is : (d : t.InitDeclarator) (s : State)
-      → outside_of (after_declarator r (specified s.tags ss) storage d s) ≡ behind_declarator r ss d (outside_of s)
+      → outside_of (after_declarator r (specified s.tags ss) storage d s) ≡ behind_declarator walked r ss d (outside_of s)
   declarator_is (t.init_declarator (t.declarator stars (t.identifier at n) t.object) start) s =
       object_is r ss n start s (declared_as (specified s.tags ss) stars (t.identifier at n) t.object start s)
   declarator_is (t.init_declarator (t.declarator stars (t.identifier at n) (t.array l size e)) start) s =
@@ -81,9 +82,9 @@ module _ (r : Setting) (ss : t.Specs) where
 
   -- where tags were known before the declaration
   pub declarator_at : (d : t.InitDeclarator) (tags : Tags) (s : State) → s.tags ≡ tags
-      → outside_of (after_declarator r (specified tags ss) storage d s) ≡ behind_declarator r ss d (outside_of s)
+      → outside_of (after_declarator r (specified tags ss) storage d s) ≡ behind_declarator walked r ss d (outside_of s)
   declarator_at d tags s e =
-      subst (λ (z : Tags). outside_of (after_declarator r (specified z ss) storage d s) ≡ behind_declarator r ss d (outside_of s)) e
+      subst (λ (z : Tags). outside_of (after_declarator r (specified z ss) storage d s) ≡ behind_declarator walked r ss d (outside_of s)) e
       (declarator_is d s)
 
   pub tags_at : (d : t.InitDeclarator) (tags : Tags) (s : State) → s.tags ≡ tags
@@ -91,22 +92,22 @@ module _ (r : Setting) (ss : t.Specs) where
   tags_at d tags s e = tags_stay (specified tags ss) d s ∙ e
 
   declarators_are : (ds : List t.NextInitDeclarator) (tags : Tags) (s : State) → s.tags ≡ tags
-      → outside_of (after_more r (specified tags ss) storage ds s) ≡ behind_declarators r ss ds (outside_of s)
+      → outside_of (after_more r (specified tags ss) storage ds s) ≡ behind_declarators walked r ss ds (outside_of s)
   declarators_are [] tags s e = refl
   declarators_are (t.next_init_declarator comma d ∷ ds) tags s e =
       declarators_are ds tags (after_declarator r (specified tags ss) storage d s) (tags_at d tags s e)
-      ∙ ap (behind_declarators r ss ds) (declarator_at d tags s e)
+      ∙ ap (behind_declarators walked r ss ds) (declarator_at d tags s e)
 
 pub declaration_is : (r : Setting) (d : t.Declaration) (s : State)
-    → outside_of (after_declaration r d s) ≡ behind_declaration r d (outside_of s)
+    → outside_of (after_declaration r d s) ≡ behind_declaration walked r d (outside_of s)
 declaration_is r (t.declaration ss first more semicolon) s =
     declarators_are r ss more s.tags (after_declarator r (specified s.tags ss) (storages_of ss).first first s)
     (tags_at r ss first s.tags s refl)
-    ∙ ap (behind_declarators r ss more) (declarator_at r ss first s.tags s refl)
+    ∙ ap (behind_declarators walked r ss more) (declarator_at r ss first s.tags s refl)
 
 -- ---- named registers
 
-pub register_is : (r : Setting) (d : t.RegisterObject) (s : State) → outside_of (after_register r d s) ≡ behind_register r d (outside_of s)
+pub register_is : (r : Setting) (d : t.RegisterObject) (s : State) → outside_of (after_register r d s) ≡ behind_register walked r d (outside_of s)
 register_is r (t.register_object w reg ss (t.identifier at n) e) s =
     let x = register_declared (known_of r.ports s) (t.register_object w reg ss (t.identifier at n) e) in
     made_of (not (is_registered n s.declared)) (register_made r n x x.first x.ty)

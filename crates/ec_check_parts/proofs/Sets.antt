@@ -268,11 +268,11 @@ integers Once h Once l s u x m o e = absurd (nothing_there x e)
 integers Once h Often l s u x m o e = absurd (nothing_there x e)
 integers Never h Never l s u x m o e =
     let p =
-        given (has_integer_word (tally Never h Never l s u Never Never Never)) (integer (is_never u) (if is_once l then 4 else 2)) x e in
+    given (has_integer_word (tally Never h Never l s u Never Never Never)) (integer (is_never u) (if is_once l then 4 else 2)) x e in
     subst (HasSet (tally Never h Never l s u Never Never Never)) p.1 (without_int h l s u m o p.0)
 integers Never h Once l s u x m o e =
     let p =
-        given (has_integer_word (tally Never h Once l s u Never Never Never)) (integer (is_never u) (if is_once l then 4 else 2)) x e in
+    given (has_integer_word (tally Never h Once l s u Never Never Never)) (integer (is_never u) (if is_once l then 4 else 2)) x e in
     subst (HasSet (tally Never h Once l s u Never Never Never)) p.1 (with_int h l s u m o)
 integers Never h Often l s u x m o e = absurd (nothing_there x e)
 integers Often h i l s u x m o e = absurd (nothing_there x e)

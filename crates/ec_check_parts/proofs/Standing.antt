@@ -16,6 +16,7 @@ use Rattle.ec_check_statements.specs.Locals.{local_declared, local_made, with_lo
 use Rattle.ec_check_statements.specs.Locals.{local_sites, locals_sites, storage_rules, declaration_sites}
 use Rattle.ec_check_statements.specs.Parts.{test_sites, optional_test_sites, evaluation_sites, optional_evaluation_sites, return_sites}
 use Rattle.ec_check_statements.specs.Statements.{after, after_item, statement_sites, item_sites, items_sites, body_sites}
+use Rattle.ec_check_parts.specs.Readings.{walked}
 use Rattle.ec_check_parts.specs.Parts.{Part, block_specifiers, block_object, block_initialiser, condition, evaluation, returned, leaving}
 use Rattle.ec_check_parts.specs.Parts.{Breaks, OneBreaks}
 use Rattle.ec_check_parts.specs.Places.{Inside, object_of, behind_declarator, behind_first, behind_heading, behind, behind_item}
@@ -70,48 +71,48 @@ module _ (laws : FunctionLaws) (c : Context) where
 
   declarator_stands : (r : Around) (ss : t.Specs) (d : t.InitDeclarator) (s : Scope)
       → TellAt (local_sites c r (specified c.tags ss) d s)
-      (OneBreaks (StandsInDeclarator c (surroundings_of r) ss d (inside_of s)))
+      (OneBreaks (StandsInDeclarator walked c (surroundings_of r) ss d (inside_of s)))
   unfolding local_sites started_sites local_made local_declared
   declarator_stands r ss (t.init_declarator (t.declarator stars (t.identifier at n) shape) start) s =
       let d = t.init_declarator (t.declarator stars (t.identifier at n) shape) start in
       let said = specified c.tags ss in
-      let ty = (object_of c ss d s.names).ty in
+      let ty = (object_of walked c ss d s.names).ty in
       let x = block_object (known_in c s.names) r.first ss stars at.index n shape start in
       let names = (with_local c r said d s).names in
       stand_both (declarator_sites c r said d s) (initial_sites c names start ty) (λ p. p ≡ x)
-      (StandsInStart c (behind_declarator c ss d (inside_of s)).names start ty)
+      (StandsInStart c (behind_declarator walked c ss d (inside_of s)).names start ty)
       (stands_alone (declarator_sites c r said d s) x (laws.blocks.declarators c r ss stars at n shape start s))
       (subst (λ (known : Names). TellAt (initial_sites c names start ty) (OneBreaks (StandsInStart c known start ty)))
       (ap (λ (i : Inside). i.names) (local_is c r ss d s)) (start_stands names start ty))
 
   declarators_stand : (r : Around) (ss : t.Specs) (ds : List t.NextInitDeclarator) (s : Scope) (i : Inside) → inside_of s ≡ i
-      → TellAt (locals_sites c r (specified c.tags ss) ds s) (OneBreaks (StandsInDeclarators c (surroundings_of r) ss ds i))
+      → TellAt (locals_sites c r (specified c.tags ss) ds s) (OneBreaks (StandsInDeclarators walked c (surroundings_of r) ss ds i))
   declarators_stand r ss [] s i e = stands_nowhere
   declarators_stand r ss (t.next_init_declarator comma d ∷ ds) s i e =
       let said = specified c.tags ss in
       subst (λ (i : Inside). TellAt (locals_sites c r said (t.next_init_declarator comma d ∷ ds) s)
-      (OneBreaks (StandsInDeclarators c (surroundings_of r) ss (t.next_init_declarator comma d ∷ ds) i))) e
+      (OneBreaks (StandsInDeclarators walked c (surroundings_of r) ss (t.next_init_declarator comma d ∷ ds) i))) e
       (stand_both (local_sites c r said d s) (locals_sites c r said ds (with_local c r said d s))
-      (StandsInDeclarator c (surroundings_of r) ss d (inside_of s))
-      (StandsInDeclarators c (surroundings_of r) ss ds (behind_declarator c ss d (inside_of s)))
+      (StandsInDeclarator walked c (surroundings_of r) ss d (inside_of s))
+      (StandsInDeclarators walked c (surroundings_of r) ss ds (behind_declarator walked c ss d (inside_of s)))
       (declarator_stands r ss d s)
-      (declarators_stand r ss ds (with_local c r said d s) (behind_declarator c ss d (inside_of s)) (local_is c r ss d s)))
+      (declarators_stand r ss ds (with_local c r said d s) (behind_declarator walked c ss d (inside_of s)) (local_is c r ss d s)))
 
   declaration_stands : (r : Around) (d : t.Declaration) (s : Scope)
-      → TellAt (declaration_sites c r d s) (OneBreaks (StandsInDeclaration c (surroundings_of r) d (inside_of s)))
+      → TellAt (declaration_sites c r d s) (OneBreaks (StandsInDeclaration walked c (surroundings_of r) d (inside_of s)))
   unfolding declaration_sites
   declaration_stands r (t.declaration ss first more e) s =
       let said = specified c.tags ss in
       let words = on (specs_rules c.tags true ss (storage_rules (storages_of ss).first)) in
-      let First = StandsInDeclarator c (surroundings_of r) ss first (inside_of s) in
-      let More = StandsInDeclarators c (surroundings_of r) ss more (behind_declarator c ss first (inside_of s)) in
+      let First = StandsInDeclarator walked c (surroundings_of r) ss first (inside_of s) in
+      let More = StandsInDeclarators walked c (surroundings_of r) ss more (behind_declarator walked c ss first (inside_of s)) in
       stand_both (λ rest. words ∷ rest)
       (λ rest. local_sites c r said first s (locals_sites c r said more (with_local c r said first s) rest))
       (λ p. p ≡ block_specifiers c.tags ss) (λ p. First p ⊎ More p)
       (stands_alone (λ rest. words ∷ rest) (block_specifiers c.tags ss) (laws.blocks.specifiers c.tags ss))
       (stand_both (local_sites c r said first s) (locals_sites c r said more (with_local c r said first s)) First More
       (declarator_stands r ss first s)
-      (declarators_stand r ss more (with_local c r said first s) (behind_declarator c ss first (inside_of s)) (local_is c r ss first s)))
+      (declarators_stand r ss more (with_local c r said first s) (behind_declarator walked c ss first (inside_of s)) (local_is c r ss first s)))
 
   -- ---- expressions
 
@@ -136,21 +137,21 @@ module _ (laws : FunctionLaws) (c : Context) where
   -- ---- `for`
 
   first_stands : (r : Around) (x : t.First) (s : Scope)
-      → TellAt (first_sites c r x s) (OneBreaks (StandsInFirst c (surroundings_of r) x (inside_of s)))
+      → TellAt (first_sites c r x s) (OneBreaks (StandsInFirst walked c (surroundings_of r) x (inside_of s)))
   unfolding first_sites
   first_stands r (t.first_declared d) s = declaration_stands r d s
   first_stands r (t.first_evaluated x e) s = evaluation_stands s.names x
 
   heading_stands : (r : Around) (h : t.Heading) (at : ℕ) (s : Scope)
-      → TellAt (heading_sites c r h at s) (OneBreaks (StandsInHeading c (surroundings_of r) h at (inside_of s)))
+      → TellAt (heading_sites c r h at s) (OneBreaks (StandsInHeading walked c (surroundings_of r) h at (inside_of s)))
   unfolding heading_sites
   heading_stands r (t.heading l first x semicolon y e) at s =
       let names = (after_first c r first s).names in
-      let known = (behind_first c first (inside_of s)).names in
+      let known = (behind_first walked c first (inside_of s)).names in
       let same : names ≡ known = ap (λ (i : Inside). i.names) (first_is c r first s) in
       stand_both (first_sites c r first s)
       (λ rest. optional_test_sites c names x at (optional_evaluation_sites c names y rest))
-      (StandsInFirst c (surroundings_of r) first (inside_of s)) (λ p. IsTest c known x at p ⊎ IsEvaluation c known y p)
+      (StandsInFirst walked c (surroundings_of r) first (inside_of s)) (λ p. IsTest c known x at p ⊎ IsEvaluation c known y p)
       (first_stands r first s)
       (stand_both (optional_test_sites c names x at) (optional_evaluation_sites c names y) (IsTest c known x at) (IsEvaluation c known y)
       (subst (λ (n : Names). TellAt (optional_test_sites c names x at) (OneBreaks (IsTest c n x at))) same
@@ -163,7 +164,7 @@ module _ (laws : FunctionLaws) where
 
   -- what is told of a statement, where this is known before it
   abbrev IsJudged : Context → Around → t.Statement → Scope → Inside → Type 0
-  IsJudged c r x s i = TellAt (statement_sites c r x s) (OneBreaks (StandsInStatement c (surroundings_of r) x i))
+  IsJudged c r x s i = TellAt (statement_sites c r x s) (OneBreaks (StandsInStatement walked c (surroundings_of r) x i))
 
   mutual
     statement_stands : (c : Context) (r : Around) (x : t.Statement) (s : Scope) → IsJudged c r x s (inside_of s)
@@ -172,10 +173,10 @@ module _ (laws : FunctionLaws) where
     statement_stands c r (t.simple x e) s = evaluation_stands laws c s.names x
     statement_stands c r (t.if_then at (t.condition l x e) a) s =
         stand_both (test_sites c s.names x at.index) (statement_sites c r a s) (λ p. p ≡ condition (known_in c s.names) x at.index)
-        (StandsInStatement c (surroundings_of r) a (inside_of s)) (test_stands laws c s.names x at.index) (statement_stands c r a s)
+        (StandsInStatement walked c (surroundings_of r) a (inside_of s)) (test_stands laws c s.names x at.index) (statement_stands c r a s)
     statement_stands c r (t.if_else at (t.condition l x e) a w b) s =
-        let First = StandsInStatement c (surroundings_of r) a (inside_of s) in
-        let Second = StandsInStatement c (surroundings_of r) b (behind c a (inside_of s)) in
+        let First = StandsInStatement walked c (surroundings_of r) a (inside_of s) in
+        let Second = StandsInStatement walked c (surroundings_of r) b (behind walked c a (inside_of s)) in
         stand_both (test_sites c s.names x at.index)
         (λ rest. statement_sites c r a s (statement_sites c r b (after c r a s) rest))
         (λ p. p ≡ condition (known_in c s.names) x at.index) (λ p. First p ⊎ Second p) (test_stands laws c s.names x at.index)
@@ -183,13 +184,13 @@ module _ (laws : FunctionLaws) where
         (subst (IsJudged c r b (after c r a s)) (statement_is laws.ends c r a s) (statement_stands c r b (after c r a s))))
     statement_stands c r (t.while_loop at (t.condition l x e) a) s =
         stand_both (test_sites c s.names x at.index) (statement_sites c (looping r) a s)
-        (λ p. p ≡ condition (known_in c s.names) x at.index) (StandsInStatement c (surroundings_of (looping r)) a (inside_of s))
+        (λ p. p ≡ condition (known_in c s.names) x at.index) (StandsInStatement walked c (surroundings_of (looping r)) a (inside_of s))
         (test_stands laws c s.names x at.index) (statement_stands c (looping r) a s)
     statement_stands c r (t.do_loop at a w (t.condition l x e) z) s =
         let names = (after c (looping r) a s).names in
         let same : names ≡ s.names = ap (λ (i : Inside). i.names) (statement_is laws.ends c (looping r) a s) in
         stand_both (statement_sites c (looping r) a s) (test_sites c names x w.index)
-        (StandsInStatement c (surroundings_of (looping r)) a (inside_of s)) (λ p. p ≡ condition (known_in c s.names) x w.index)
+        (StandsInStatement walked c (surroundings_of (looping r)) a (inside_of s)) (λ p. p ≡ condition (known_in c s.names) x w.index)
         (statement_stands c (looping r) a s)
         (subst (λ (n : Names). TellAt (test_sites c names x w.index) (OneBreaks (λ p. p ≡ condition (known_in c n) x w.index))) same
         (test_stands laws c names x w.index))
@@ -197,8 +198,8 @@ module _ (laws : FunctionLaws) where
         let r2 = within r s.names in
         let behind_it = after_heading c r2 h s in
         stand_both (heading_sites c r2 h at.index s) (statement_sites c (looping r2) a behind_it)
-        (StandsInHeading c (surroundings_of r2) h at.index (inside_of s))
-        (StandsInStatement c (surroundings_of (looping r2)) a (behind_heading c h (inside_of s)))
+        (StandsInHeading walked c (surroundings_of r2) h at.index (inside_of s))
+        (StandsInStatement walked c (surroundings_of (looping r2)) a (behind_heading walked c h (inside_of s)))
         (heading_stands laws c r2 h at.index s)
         (subst (IsJudged c (looping r2) a behind_it) (heading_is c r2 h s) (statement_stands c (looping r2) a behind_it))
     statement_stands c r (t.break_loop at e) s =
@@ -210,23 +211,23 @@ module _ (laws : FunctionLaws) where
         (laws.statements.returns c r s.names x at.index)
 
     item_stands : (c : Context) (r : Around) (x : t.Item) (s : Scope)
-        → TellAt (item_sites c r x s) (OneBreaks (StandsInItem c (surroundings_of r) x (inside_of s)))
+        → TellAt (item_sites c r x s) (OneBreaks (StandsInItem walked c (surroundings_of r) x (inside_of s)))
     item_stands c r (t.declared d) s = declaration_stands laws c r d s
     item_stands c r (t.stated x) s = statement_stands c r x s
 
     items_stand : (c : Context) (r : Around) (xs : t.Items) (s : Scope) (i : Inside) → inside_of s ≡ i
-        → TellAt (items_sites c r xs s) (OneBreaks (StandsInItems c (surroundings_of r) xs i))
+        → TellAt (items_sites c r xs s) (OneBreaks (StandsInItems walked c (surroundings_of r) xs i))
     items_stand c r t.no_items s i e = stands_nowhere
     items_stand c r (t.items x xs) s i e =
         subst (λ (i : Inside). TellAt (items_sites c r (t.items x xs) s)
-        (OneBreaks (StandsInItems c (surroundings_of r) (t.items x xs) i))) e
+        (OneBreaks (StandsInItems walked c (surroundings_of r) (t.items x xs) i))) e
         (stand_both (item_sites c r x s) (items_sites c r xs (after_item c r x s))
-        (StandsInItem c (surroundings_of r) x (inside_of s))
-        (StandsInItems c (surroundings_of r) xs (behind_item c x (inside_of s))) (item_stands c r x s)
-        (items_stand c r xs (after_item c r x s) (behind_item c x (inside_of s)) (item_is_behind laws.ends c r x s)))
+        (StandsInItem walked c (surroundings_of r) x (inside_of s))
+        (StandsInItems walked c (surroundings_of r) xs (behind_item walked c x (inside_of s))) (item_stands c r x s)
+        (items_stand c r xs (after_item c r x s) (behind_item walked c x (inside_of s)) (item_is_behind laws.ends c r x s)))
 
   body_stands : (c : Context) (r : Around) (b : t.Compound) (s : Scope)
-      → TellAt (body_sites c r b s) (OneBreaks (StandsInBody c (surroundings_of r) b (inside_of s)))
+      → TellAt (body_sites c r b s) (OneBreaks (StandsInBody walked c (surroundings_of r) b (inside_of s)))
   unfolding body_sites
   body_stands c r (t.compound l ps xs e) s = items_stand (under ps c) r xs s (inside_of s) refl
 

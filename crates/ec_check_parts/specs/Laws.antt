@@ -38,6 +38,7 @@ use Rattle.ec_check_statements.specs.Kinds.{left_sites}
 use Rattle.ec_check_statements.specs.Locals.{declarator_sites, storage_rules}
 use Rattle.ec_check_statements.specs.Parts.{test_sites, evaluation_sites, return_sites}
 use Rattle.ec_check_statements.specs.Statements.{after_body, body_sites}
+use Rattle.ec_check_parts.specs.Readings.{walked}
 use Rattle.ec_check_parts.specs.Words.{words_of}
 use Rattle.ec_check_parts.specs.Specifiers.{BreakQualifiers, BreakSpecifiers}
 use Rattle.ec_check_parts.specs.Heads.{Role, file_object, block_object, result, type_name, BreakHead}
@@ -153,9 +154,9 @@ surroundings_of r = record { in_loop = r.in_loop; result = r.result; first = r.f
 -- the declaration of an object as many objects are known
 pub record BodiesAreJudged : Type 0 where
   pub bodies : (c : Context) (r : Around) (b : Compound) (s : Scope)
-      → TellAt (body_sites c r b s) (OneBreaks (StandsInBody c (surroundings_of r) b (inside_of s)))
+      → TellAt (body_sites c r b s) (OneBreaks (StandsInBody walked c (surroundings_of r) b (inside_of s)))
   pub behind_bodies : (c : Context) (r : Around) (b : Compound) (s : Scope)
-      → length (after_body c r b s).objects ≡ (behind_body c b (inside_of s)).made
+      → length (after_body c r b s).objects ≡ (behind_body walked c b (inside_of s)).made
   pub behind_objects : (unit : ℕ) (n : List ℕ) (ty : Option PlainType) (konst : Bool) (storage : PlainStorage) (s : Scope)
       → inside_of (with_inner unit n ty konst storage s) ≡ with_object n ty konst (inside_of s)
 
@@ -178,12 +179,12 @@ pub record FileScopeIsJudged : Type 0 where
   pub specifiers : (tags : Tags) (ss : Specs)
       → TellAt (λ rest. on (specs_rules tags true ss []) ∷ rest) (OneBreaks (λ p. p ≡ specifiers tags ss))
   pub declarations : (r : Setting) (d : Declaration) (s : State)
-      → TellAt (declaration_sites r d s) (OneBreaks (StandsInDeclaration r d (outside_of s)))
+      → TellAt (declaration_sites r d s) (OneBreaks (StandsInDeclaration walked r d (outside_of s)))
   pub registers : (r : Setting) (d : RegisterObject) (s : State)
-      → TellAt (file_register_sites r d s) (OneBreaks (StandsInRegister r d (outside_of s)))
+      → TellAt (file_register_sites r d s) (OneBreaks (StandsInRegister walked r d (outside_of s)))
   pub structures : (r : Setting) (d : Structure) (s : State)
-      → TellAt (structure_sites (known_of r.ports s) d) (OneBreaks (StandsInStructure r d (outside_of s)))
+      → TellAt (structure_sites (known_of r.ports s) d) (OneBreaks (StandsInStructure walked r d (outside_of s)))
   pub behind_declarations : (r : Setting) (d : Declaration) (s : State)
-      → outside_of (after_declaration r d s) ≡ behind_declaration r d (outside_of s)
+      → outside_of (after_declaration r d s) ≡ behind_declaration walked r d (outside_of s)
   pub behind_registers : (r : Setting) (d : RegisterObject) (s : State)
-      → outside_of (after_register r d s) ≡ behind_register r d (outside_of s)
+      → outside_of (after_register r d s) ≡ behind_register walked r d (outside_of s)

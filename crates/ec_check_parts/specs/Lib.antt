@@ -19,6 +19,7 @@ pub mod Statements
 pub mod FileNames
 pub mod Linkages
 pub mod Mains
+pub mod Readings
 pub mod Parts
 pub mod Places
 pub mod Units

@@ -4,6 +4,7 @@ ghost use Rattle.ec_check_parts.specs.Laws.{StructuresAreJudged, InitialisersAre
 ghost use Rattle.ec_check_parts.specs.Laws.{StatementsAreJudged, FileNamesAreJudged, BodiesAreJudged, FileScopeIsJudged};
 ghost use Rattle.ec_check_parts.specs.Linkages.{LinkagesAreFound};
 ghost use Rattle.ec_check_parts.specs.Mains.{MainsAreFound};
+ghost use Rattle.ec_check_parts.specs.Readings.{OneReads};
 ghost use Rattle.ec_check_parts.specs.Said.{ConstantsAreTold, ItemsHaveValues, TypesAreSaid, DeclaratorsAreSaid, StructsAreDeclared};
 
 use ec_check_file_scope::conflicts_are_told;
@@ -170,3 +171,13 @@ pub fn structs_are_declared()
 pub fn mains_are_found()
     ensures { MainsAreFound }
 {}
+
+/// There is one reading of declarators, of definitions of structs and of names at file scope by the words for them, and it is what
+/// the walk finds.
+pub fn there_is_one_reading()
+    ensures { OneReads }
+{
+    declarators_are_said();
+    structs_are_declared();
+    linkages_are_found();
+}

@@ -9,5 +9,5 @@ pub use laws::{
     file_names_are_judged, file_scope_is_judged, functions_are_judged, heads_are_judged,
     initialisers_are_judged, items_have_values, linkages_are_found, mains_are_found,
     objects_are_judged, specifiers_are_judged, statements_are_judged, structs_are_declared,
-    structures_are_judged, types_are_said,
+    structures_are_judged, there_is_one_reading, types_are_said,
 };

@@ -20,6 +20,7 @@ use Rattle.ec_check_names.specs.Names.{Names}
 use Rattle.ec_check_expressions.specs.Known.{Known}
 use Rattle.ec_check_declarations.specs.Scopes.{Context, known_in}
 use Rattle.ec_check_statements.specs.Around.{under, is_saturating, with_state, with_pragmas}
+use Rattle.ec_check_parts.specs.Readings.{walked}
 use Rattle.ec_check_parts.specs.Parts.{Part, condition, returned}
 use Rattle.ec_check_parts.specs.Places as place
 use Rattle.ec_check_parts.specs.Places.{Inside, Surroundings}
@@ -105,7 +106,7 @@ module _ (ts : List Placed) where
         this _ p e (initialiser_knows ts (known_in c names) outer i rest h (past ts _ _ (c.modes ∷ outer) q))
 
     init_declarator_knows : (ss : t.Specs) (d : t.InitDeclarator) (i : Inside) (p : Part) (rest : List Leaf) → g.Is_init_declarator d
-        → Here (s.of_init_declarator d rest) → place.StandsInDeclarator c r ss d i p → PartKnowsStates ts p
+        → Here (s.of_init_declarator d rest) → place.StandsInDeclarator walked c r ss d i p → PartKnowsStates ts p
     init_declarator_knows ss (t.init_declarator (t.declarator stars (t.identifier at n) shape) start) i p rest h q (inl e) =
         this _ p e (declarator_knows ts (known_in c i.names) outer stars (t.identifier at n) shape _ q)
     init_declarator_knows ss (t.init_declarator (t.declarator stars (t.identifier at n) shape) start) i p rest h q (inr e) =
@@ -114,7 +115,7 @@ module _ (ts : List Placed) where
 
     init_declarators_know : (ss : t.Specs) (ds : List t.NextInitDeclarator) (i : Inside) (p : Part) (rest : List Leaf)
         → g.Every g.Is_next_init_declarator ds → Here (s.of_list s.of_next_init_declarator ds rest)
-        → place.StandsInDeclarators c r ss ds i p → PartKnowsStates ts p
+        → place.StandsInDeclarators walked c r ss ds i p → PartKnowsStates ts p
     init_declarators_know ss [] i p rest h q e = absurd e
     init_declarators_know ss (t.next_init_declarator comma d ∷ ds) i p rest h q (inl e) =
         init_declarator_knows ss d i p _ h.0 (past ts _ _ (c.modes ∷ outer) q) e
@@ -123,7 +124,7 @@ module _ (ts : List Placed) where
         (passed.past_init_declarator ts c.modes outer d _ h.0 (past ts _ _ (c.modes ∷ outer) q)) e
 
     declaration_knows : (d : t.Declaration) (i : Inside) (p : Part) (rest : List Leaf) → g.Is_declaration d
-        → Here (s.of_declaration d rest) → place.StandsInDeclaration c r d i p → PartKnowsStates ts p
+        → Here (s.of_declaration d rest) → place.StandsInDeclaration walked c r d i p → PartKnowsStates ts p
     declaration_knows (t.declaration ss first more e) i p rest h q (inl w) = this _ p w tt
     declaration_knows (t.declaration ss first more e) i p rest h q (inr (inl w)) =
         init_declarator_knows ss first i p _ h.1 (passed.past_specs ts (c.modes ∷ outer) ss _ q) w
@@ -147,12 +148,12 @@ module _ (ts : List Placed) where
         this _ p w (expression_knows ts (known_in c names) outer x _ (past ts _ _ (c.modes ∷ outer) q))
 
     first_knows : (x : t.First) (i : Inside) (p : Part) (rest : List Leaf) → g.Is_first x → Here (s.of_first x rest)
-        → place.StandsInFirst c r x i p → PartKnowsStates ts p
+        → place.StandsInFirst walked c r x i p → PartKnowsStates ts p
     first_knows (t.first_declared d) i p rest h q w = declaration_knows d i p rest h q w
     first_knows (t.first_evaluated x e) i p rest h q w = evaluation_knows i.names x p _ q w
 
     heading_knows : (x : t.Heading) (at : ℕ) (i : Inside) (p : Part) (rest : List Leaf) → g.Is_heading x → Here (s.of_heading x rest)
-        → place.StandsInHeading c r x at i p → PartKnowsStates ts p
+        → place.StandsInHeading walked c r x at i p → PartKnowsStates ts p
     heading_knows (t.heading l first x semicolon y e) at i p rest h q (inl w) =
         first_knows first i p _ h.0 (past ts _ _ (c.modes ∷ outer) q) w
     heading_knows (t.heading l first x semicolon y e) at i p rest h q (inr (inl w)) =
@@ -181,7 +182,7 @@ module _ (ts : List Placed) where
 
   mutual
     statement_knows : (c : Context) (r : Surroundings) (outer : List Modes) (x : t.Statement) (i : Inside) (p : Part) (rest : List Leaf)
-        → g.Is_statement x → Reached ts (s.of_statement x rest) (c.modes ∷ outer) → place.StandsInStatement c r x i p
+        → g.Is_statement x → Reached ts (s.of_statement x rest) (c.modes ∷ outer) → place.StandsInStatement walked c r x i p
         → PartKnowsStates ts p
     statement_knows c r outer (t.block (t.compound l ps xs e)) i p rest h q w =
         items_know (under ps c) _ (c.modes ∷ outer) xs i p _ h (within_braces c outer l ps _ q) w
@@ -222,18 +223,18 @@ module _ (ts : List Placed) where
         returned_knows c r outer i.names x at.index p _ (past ts _ _ (c.modes ∷ outer) q) w
 
     item_knows : (c : Context) (r : Surroundings) (outer : List Modes) (x : t.Item) (i : Inside) (p : Part) (rest : List Leaf)
-        → g.Is_item x → Reached ts (s.of_item x rest) (c.modes ∷ outer) → place.StandsInItem c r x i p → PartKnowsStates ts p
+        → g.Is_item x → Reached ts (s.of_item x rest) (c.modes ∷ outer) → place.StandsInItem walked c r x i p → PartKnowsStates ts p
     item_knows c r outer (t.declared d) i p rest h q w = declaration_knows c r outer d i p rest h q w
     item_knows c r outer (t.stated x) i p rest h q w = statement_knows c r outer x i p rest h q w
 
     items_know : (c : Context) (r : Surroundings) (outer : List Modes) (x : t.Items) (i : Inside) (p : Part) (rest : List Leaf)
-        → g.Are_items x → Reached ts (s.of_items x rest) (c.modes ∷ outer) → place.StandsInItems c r x i p → PartKnowsStates ts p
+        → g.Are_items x → Reached ts (s.of_items x rest) (c.modes ∷ outer) → place.StandsInItems walked c r x i p → PartKnowsStates ts p
     items_know c r outer t.no_items i p rest h q w = absurd w
     items_know c r outer (t.items x xs) i p rest h q (inl w) = item_knows c r outer x i p _ h.0 q w
     items_know c r outer (t.items x xs) i p rest h q (inr w) =
         items_know c r outer xs _ p rest h.1 (passed.past_item ts c.modes outer x _ h.0 q) w
 
   pub body_knows : (c : Context) (r : Surroundings) (outer : List Modes) (x : t.Compound) (i : Inside) (p : Part) (rest : List Leaf)
-      → g.Is_compound x → Reached ts (s.of_compound x rest) (c.modes ∷ outer) → place.StandsInBody c r x i p → PartKnowsStates ts p
+      → g.Is_compound x → Reached ts (s.of_compound x rest) (c.modes ∷ outer) → place.StandsInBody walked c r x i p → PartKnowsStates ts p
   body_knows c r outer (t.compound l ps xs e) i p rest h q w =
       items_know (under ps c) r (c.modes ∷ outer) xs i p _ h (within_braces c outer l ps _ q) w

@@ -23,6 +23,7 @@ use Rattle.ec_check_names.specs.Tags.{Tags}
 use Rattle.ec_check_declarations.specs.Scopes.{Context}
 use Rattle.ec_check_file_scope.specs.FileNames.{FileName, is_register, is_registered}
 use Rattle.ec_check_file_scope.specs.States.{Setting}
+use Rattle.ec_check_parts.specs.Readings.{Reading, walked, OneReads}
 use Rattle.ec_check_parts.specs.Functions.{params_behind, params_in}
 use Rattle.ec_check_parts.specs.Places.{Inside}
 use Rattle.ec_check_parts.specs.Units.{Outside, word_in, behind_declarator, behind_declarators, behind_external, behind_externals}
@@ -190,7 +191,7 @@ module _ (all : List PlainObject) where
       (λ q. q) (record { name = refl; unit = refl; kept = tt }))
       (params_give tags structs unit function _ ps ns os h)
 
-  function_gives : (r : Setting) (p : Place) (f : t.Function) (g : PlainFunction) (os : List PlainObject) → IsFunction r p f g os
+  function_gives : (r : Setting) (p : Place) (f : t.Function) (g : PlainFunction) (os : List PlainObject) → IsFunction walked r p f g os
       → Gives os (external_in r.unit (t.function_item f))
   function_gives r p _ _ _ (units.a_function {ps = ps} {b = b} {ns = ns} {os = os} {us = us} {body = body} room declared h m) =
       both os us (all_params_in r.unit (params_in ps)) (body_in r.unit b) (params_give _ _ r.unit p.functions _ (params_in ps) ns os h)
@@ -223,7 +224,7 @@ module _ (all : List PlainObject) where
     plain = h.plain;
   }
 
-  object_gives : (r : Setting) (o : Outside) (ss : t.Specs) (d : t.InitDeclarator) (os : List PlainObject) → IsObject r o ss d os
+  object_gives : (r : Setting) (o : Outside) (ss : t.Specs) (d : t.InitDeclarator) (os : List PlainObject) → IsObject walked r o ss d os
       → Gives os (static_in r.unit (word_in ss) d)
   object_gives r o ss _ _ units.a_function_name = nothing
   object_gives r o ss _ _ (units.declared_only {stars = stars} {n = t.identifier at n} {shape = shape} {start = start} f e) =
@@ -237,7 +238,7 @@ module _ (all : List PlainObject) where
       (one (units.static_object r n linkage ty konst space leaves) (record { unit = r.unit; at = at.index; name = n; kind = at_file_scope })
       at_the_file (λ q. q) (record { name = refl; unit = refl; kept = tt }))
 
-  objects_give : (r : Setting) (o : Outside) (ss : t.Specs) (ds : List t.InitDeclarator) (os : List PlainObject) → AreObjects r o ss ds os
+  objects_give : (r : Setting) (o : Outside) (ss : t.Specs) (ds : List t.InitDeclarator) (os : List PlainObject) → AreObjects walked r o ss ds os
       → Gives os (statics_in r.unit (word_in ss) ds)
   objects_give r _ _ _ _ units.no_object = nothing
   objects_give r _ _ _ _ (units.more_objects {o = o} {ss = ss} {d = d} {ds = ds} {os = os} {us = us} h m) =
@@ -279,7 +280,7 @@ module _ (all : List PlainObject) where
       one_more n xs d ∙ ap (λ b. is_registered n xs || (b && bytes_eq d.name n)) e ∙ or_none (is_registered n xs)
 
   declarator_behind : (n : List ℕ) (r : Setting) (ss : t.Specs) (d : t.InitDeclarator) (o : Outside)
-      → is_registered n (behind_declarator r ss d o).declared ≡ is_registered n o.declared
+      → is_registered n (behind_declarator walked r ss d o).declared ≡ is_registered n o.declared
   declarator_behind n r ss (t.init_declarator (t.declarator stars (t.identifier at m) (t.function_shape l ps e)) start) o =
       no_register n o.declared _ refl
   declarator_behind n r ss (t.init_declarator (t.declarator stars (t.identifier at m) t.object) start) o = no_register n o.declared _ refl
@@ -287,25 +288,25 @@ module _ (all : List PlainObject) where
       no_register n o.declared _ refl
 
   declarators_behind : (n : List ℕ) (r : Setting) (ss : t.Specs) (ds : List t.NextInitDeclarator) (o : Outside)
-      → is_registered n (behind_declarators r ss ds o).declared ≡ is_registered n o.declared
+      → is_registered n (behind_declarators walked r ss ds o).declared ≡ is_registered n o.declared
   declarators_behind n r ss [] o = refl
   declarators_behind n r ss (t.next_init_declarator comma d ∷ ds) o =
-      declarators_behind n r ss ds (behind_declarator r ss d o) ∙ declarator_behind n r ss d o
+      declarators_behind n r ss ds (behind_declarator walked r ss d o) ∙ declarator_behind n r ss d o
 
   external_behind : (n : List ℕ) (r : Setting) (x : t.External) (o : Outside)
-      → is_registered n (behind_external r x o).declared ≡ behind_one n (is_registered n o.declared) x
+      → is_registered n (behind_external walked r x o).declared ≡ behind_one n (is_registered n o.declared) x
   external_behind n r (t.pragma_item p) o = refl
   external_behind n r (t.structure_item (t.structure w (t.identifier at tag) l first more e semicolon)) o = refl
   external_behind n r (t.register_item (t.register_object w reg ss (t.identifier at m) e)) o = one_more n o.declared _
   external_behind n r (t.declaration_item (t.declaration ss d ds e)) o =
-      declarators_behind n r ss ds (behind_declarator r ss d o) ∙ declarator_behind n r ss d o
+      declarators_behind n r ss ds (behind_declarator walked r ss d o) ∙ declarator_behind n r ss d o
   external_behind n r (t.function_item (t.function (t.type_name ss stars) (t.identifier at m) l ps e b)) o = no_register n o.declared _ refl
 
   externals_behind : (n : List ℕ) (r : Setting) (xs : List t.External) (o : Outside)
-      → is_registered n (behind_externals r xs o).declared ≡ behind_all n (is_registered n o.declared) xs
+      → is_registered n (behind_externals walked r xs o).declared ≡ behind_all n (is_registered n o.declared) xs
   externals_behind n r [] o = refl
   externals_behind n r (x ∷ xs) o =
-      externals_behind n r xs (behind_external r x o) ∙ ap (λ b. behind_all n b xs) (external_behind n r x o)
+      externals_behind n r xs (behind_external walked r x o) ∙ ap (λ b. behind_all n b xs) (external_behind n r x o)
 
   -- ---- external declarations
 
@@ -376,7 +377,7 @@ module _ (all : List PlainObject) where
       back before n (inr (inl g)) = inr g.0
       back before n (inr (inr g)) = absurd g
 
-  external_step : (r : Setting) (p : Place) (x : t.External) (a : Added) → Adds r p x a → (before : List PlainObject)
+  external_step : (r : Setting) (p : Place) (x : t.External) (a : Added) → Adds walked r p x a → (before : List PlainObject)
       → Agree (λ n. is_registered n p.known.declared) before → Step x (λ n. is_registered n p.known.declared) r.unit before a.objects
   external_step r p _ _ (units.by_pragma {q = q}) = λ before h.
       plain_step (t.pragma_item q) (λ n. is_registered n p.known.declared) r.unit before [] (λ n b. refl) nothing h
@@ -395,7 +396,7 @@ module _ (all : List PlainObject) where
       ((rest : List (Definer Kept)) → Give (before ++ os) rest → Give before (externals_in unit xs rest))
       × Agree (λ n. behind_all n (seen n) xs) (before ++ os)
 
-  externals_step : (r : Setting) (p : Place) (xs : List t.External) (a : Added) → AddAll r p xs a → (before : List PlainObject)
+  externals_step : (r : Setting) (p : Place) (xs : List t.External) (a : Added) → AddAll walked r p xs a → (before : List PlainObject)
       → Agree (λ n. is_registered n p.known.declared) before → Steps xs (λ n. is_registered n p.known.declared) r.unit before a.objects
   externals_step r _ _ _ (units.no_external {p = p}) = λ before h. (
     λ rest g. subst (λ (z : List PlainObject). Give z rest) (append-nil before) g,
@@ -403,7 +404,7 @@ module _ (all : List PlainObject) where
   )
   externals_step r _ _ _ (units.more_externals {p = p} {x = x} {xs = xs} {a = a} {b = b} s m) = λ before h.
       let one = external_step r p x a s before h in
-      let next = past a (behind_external r x p.known) p in
+      let next = past a (behind_external walked r x p.known) p in
       let rest_of = externals_step r next xs b m (before ++ a.objects)
       (λ n. subst (λ (z : Bool). Decides z (HasRegister n (before ++ a.objects))) (sym (external_behind n r x p.known)) (one.agrees n)) in (
         λ rest g.
@@ -418,7 +419,7 @@ module _ (all : List PlainObject) where
 
   -- ---- units
 
-  units_give : (ds : List Definition) (io : IoTable) (unit : ℕ) (p : Place) (us : List t.Tree) (a : Added) → UnitsAdd ds io unit p us a
+  units_give : (ds : List Definition) (io : IoTable) (unit : ℕ) (p : Place) (us : List t.Tree) (a : Added) → UnitsAdd walked ds io unit p us a
       → (before : List PlainObject) → Agree (λ n. is_registered n p.known.declared) before → before ++ a.objects ≡ all
       → Give before (objects_from unit us)
   units_give ds io _ _ _ _ (units.no_unit {p = p}) = λ before h e.
@@ -426,16 +427,19 @@ module _ (all : List PlainObject) where
   units_give ds io _ _ _ _ (units.more_units {unit = unit} {p = p} {xs = xs} {e = z} {us = us} {a = a} {b = b} s m) = λ before h e.
       let r = setting_in ds io unit in
       let one = externals_step r (begins p) xs a s before h in
-      let next = past a (behind_unit r (t.tree xs z) p.known) p in
+      let next = past a (behind_unit walked r (t.tree xs z) p.known) p in
       one.0 (objects_from (unit + 1) us)
       (units_give ds io (unit + 1) next us b m (before ++ a.objects)
       (λ n. subst (λ (y : Bool). Decides y (HasRegister n (before ++ a.objects)))
       (sym (externals_behind n r xs (begins p).known)) (one.1 n))
       (append_assoc before a.objects b.objects ∙ e))
 
-pub objects_are_made : (us : List t.Tree) (io : IoTable) (p : PlainProgram) → Typed us io p → MakeObjects p.objects [] (objects_from 0 us)
-objects_are_made us io _ (units.typed {a = a} h e) =
-    units_give a.objects (definitions us) io 0 first_place us a h [] (λ n. (λ q. absurd (false≢true q), λ q. absurd q)) refl
+pub objects_are_made : OneReads → (us : List t.Tree) (io : IoTable) (p : PlainProgram) → Typed us io p
+    → MakeObjects p.objects [] (objects_from 0 us)
+objects_are_made one us io _ (units.typed {q = q} {a = a} r h e) =
+    units_give a.objects (definitions us) io 0 first_place us a
+    (subst (λ (z : Reading). UnitsAdd z (definitions us) io 0 first_place us a) ((one q).0 r) h) []
+    (λ n. (λ z. absurd (false≢true z), λ z. absurd z)) refl
 
 -- ---- their order
 
@@ -558,11 +562,11 @@ externals_stand unit (x ∷ xs) ds rest h = external_stands unit x _ _ (external
 unit_stands : (unit : ℕ) (u : t.Tree) → StandInOrder (unit_in unit u []) (s.of_tree u [])
 unit_stands unit (t.tree xs e) = externals_stand unit xs [] (s.leaf e tokens.end ∷ []) ended
 
-pub objects_are_in_order : ObjectsAreInOrder
-objects_are_in_order = record {
+pub objects_are_in_order : OneReads → ObjectsAreInOrder
+objects_are_in_order one = record {
   order = record {
     named = unit_stands;
     rising = λ ts unit u h. among.rise ts 0 (s.of_tree u []) (unit_in unit u []) (sym h.0) (unit_stands unit u);
   };
-  objects = objects_are_made;
+  objects = objects_are_made one;
 }

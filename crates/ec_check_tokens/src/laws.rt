@@ -7,13 +7,15 @@ ghost use Rattle.ec_check_tokens.specs.Objects.{ObjectsAreInOrder, StructsAreInO
 use ec_check::programs_are_typed;
 use ec_check_meanings::{modes_are_said, walk_gives_meanings};
 use ec_check_names::equal_structs_are_one;
-use ec_check_parts::structs_are_declared;
+use ec_check_parts::{structs_are_declared, there_is_one_reading};
 
 /// The overflow states that are known at each expression of a unit are those that the pragmas and braces before its first
 /// token say (ISO/IEC TR 18037:2008, 4.1.3).
 pub fn tokens_say_states()
     ensures { TokensSayStates }
-{}
+{
+    there_is_one_reading();
+}
 
 /// Each node of an expression in the program of units has the mode that the pragmas and braces before its statement say of
 /// its type (ISO/IEC TR 18037:2008, 4.1.3).
@@ -52,7 +54,9 @@ pub fn functions_are_in_order()
 /// one in named registers stands at the first declaration of its name in all units.
 pub fn objects_are_in_order()
     ensures { ObjectsAreInOrder }
-{}
+{
+    there_is_one_reading();
+}
 
 /// The structs of the program of units stand in the order of their definitions, by unit and by token, and one that later
 /// units define again stands once (ISO/IEC 9899:1999, 6.2.7).

@@ -33,6 +33,7 @@ use Rattle.ec_check_file_scope.specs.FileObjects.{after_object, register_name, r
 use Rattle.ec_check_file_scope.specs.FileScope.{after_declarator, after_more, after_declaration, after_structure}
 use Rattle.ec_check_file_scope.specs.States.{Setting, State, known_of, with_name, with_scope, broken}
 use Rattle.ec_check_meanings.proofs.Options.{clash, nothing_there}
+use Rattle.ec_check_parts.specs.Readings.{walked}
 use Rattle.ec_check_parts.specs.Laws.{outside_of, FileScopeIsJudged}
 use Rattle.ec_check_parts.specs.Linkages.{LinkagesAreFound}
 use Rattle.ec_check_parts.specs.Said.{DeclaratorsAreSaid, StructsAreDeclared}
@@ -205,7 +206,7 @@ module _ (laws : FileLaws) (r : Setting) (ss : t.Specs) where
     abbrev Found : Type 0
     Found =
         (os : List PlainObject)
-        × IsObject r (outside_of s) ss (t.init_declarator (t.declarator stars (t.identifier at n) shape) start) os
+        × IsObject walked r (outside_of s) ss (t.init_declarator (t.declarator stars (t.identifier at n) shape) start) os
 
     object_found : is_function shape ≡ false
         → (with_defined (is_defined word false) (object_as declared.ty (leaves_as declared.ty)) named).whole ≡ true → Found
@@ -248,7 +249,7 @@ module _ (laws : FileLaws) (r : Setting) (ss : t.Specs) where
   }
 
   -- a declarator adds what is said
-  object_to : (d : t.InitDeclarator) (s : State) (os : List PlainObject) → IsObject r (outside_of s) ss d os
+  object_to : (d : t.InitDeclarator) (s : State) (os : List PlainObject) → IsObject walked r (outside_of s) ss d os
       → IsFurther (objects_alone os) s (after_declarator r (specified s.tags ss) storage d s)
   object_to _ s _ (unit.a_function_name {stars = stars} {n = n} {l = l} {e = e} {ps = ps} {start = start}) =
       function_further stars n l ps e start s
@@ -281,7 +282,7 @@ module _ (laws : FileLaws) (r : Setting) (ss : t.Specs) where
       (subst (λ (z : Linkage). IsFurther (objects_alone (static_object r n z ty d.konst d.space leaves ∷ [])) s behind) links one))
 
   to_object : (d : t.InitDeclarator) (s : State) → (after_declarator r (specified s.tags ss) storage d s).whole ≡ true
-      → (os : List PlainObject) × IsObject r (outside_of s) ss d os
+      → (os : List PlainObject) × IsObject walked r (outside_of s) ss d os
   to_object (t.init_declarator (t.declarator stars (t.identifier at n) t.object) start) s h =
       object_found stars n at t.object start s refl h
   to_object (t.init_declarator (t.declarator stars (t.identifier at n) (t.array l size e)) start) s h =
@@ -290,12 +291,12 @@ module _ (laws : FileLaws) (r : Setting) (ss : t.Specs) where
 
   -- where the specifiers are read with the tags before the declaration
   object_to_at : (tags : Tags) (d : t.InitDeclarator) (s : State) (os : List PlainObject) → s.tags ≡ tags
-      → IsObject r (outside_of s) ss d os → IsFurther (objects_alone os) s (after_declarator r (specified tags ss) storage d s)
+      → IsObject walked r (outside_of s) ss d os → IsFurther (objects_alone os) s (after_declarator r (specified tags ss) storage d s)
   object_to_at tags d s os e h =
       subst (λ (z : Tags). IsFurther (objects_alone os) s (after_declarator r (specified z ss) storage d s)) e (object_to d s os h)
 
   to_object_at : (tags : Tags) (d : t.InitDeclarator) (s : State) → s.tags ≡ tags
-      → (after_declarator r (specified tags ss) storage d s).whole ≡ true → (os : List PlainObject) × IsObject r (outside_of s) ss d os
+      → (after_declarator r (specified tags ss) storage d s).whole ≡ true → (os : List PlainObject) × IsObject walked r (outside_of s) ss d os
   to_object_at tags d s e h =
       to_object d s (subst (λ (z : Tags). (after_declarator r (specified z ss) storage d s).whole ≡ true) (sym e) h)
 
@@ -305,18 +306,18 @@ module _ (laws : FileLaws) (r : Setting) (ss : t.Specs) where
   spot = record { index = 0; at = 0 }
 
   known_behind : (d : t.InitDeclarator) (s : State)
-      → outside_of (after_declarator r (specified s.tags ss) storage d s) ≡ behind_declarator r ss d (outside_of s)
+      → outside_of (after_declarator r (specified s.tags ss) storage d s) ≡ behind_declarator walked r ss d (outside_of s)
   known_behind d s = laws.judged.behind_declarations r (t.declaration ss d [] spot) s
 
-  tags_behind : (d : t.InitDeclarator) (o : Outside) → (behind_declarator r ss d o).tags ≡ o.tags
+  tags_behind : (d : t.InitDeclarator) (o : Outside) → (behind_declarator walked r ss d o).tags ≡ o.tags
   tags_behind (t.init_declarator (t.declarator stars (t.identifier at n) t.object) start) o = refl
   tags_behind (t.init_declarator (t.declarator stars (t.identifier at n) (t.array l size e)) start) o = refl
   tags_behind (t.init_declarator (t.declarator stars (t.identifier at n) (t.function_shape l ps e)) start) o = refl
 
   declarator_at : (d : t.InitDeclarator) (tags : Tags) (s : State) → s.tags ≡ tags
-      → outside_of (after_declarator r (specified tags ss) storage d s) ≡ behind_declarator r ss d (outside_of s)
+      → outside_of (after_declarator r (specified tags ss) storage d s) ≡ behind_declarator walked r ss d (outside_of s)
   declarator_at d tags s e =
-      subst (λ (z : Tags). outside_of (after_declarator r (specified z ss) storage d s) ≡ behind_declarator r ss d (outside_of s)) e
+      subst (λ (z : Tags). outside_of (after_declarator r (specified z ss) storage d s) ≡ behind_declarator walked r ss d (outside_of s)) e
       (known_behind d s)
 
   tags_at : (d : t.InitDeclarator) (tags : Tags) (s : State) → s.tags ≡ tags
@@ -326,37 +327,37 @@ module _ (laws : FileLaws) (r : Setting) (ss : t.Specs) where
   next_outside : (tags : Tags) (d : t.InitDeclarator) (s : State) (os : List PlainObject) → s.tags ≡ tags
       → IsFurther (objects_alone os) s (after_declarator r (specified tags ss) storage d s)
       → outside_of (after_declarator r (specified tags ss) storage d s)
-      ≡ record (behind_declarator r ss d (outside_of s)) { made = length s.scope.objects + length os }
+      ≡ record (behind_declarator walked r ss d (outside_of s)) { made = length s.scope.objects + length os }
   next_outside tags d s os e h =
-      counted s (after_declarator r (specified tags ss) storage d s) (behind_declarator r ss d (outside_of s)) os
+      counted s (after_declarator r (specified tags ss) storage d s) (behind_declarator walked r ss d (outside_of s)) os
       (declarator_at d tags s e) h.objects
 
-  none_in : (o : Outside) (os : List PlainObject) → AreObjects r o ss [] os → os ≡ []
+  none_in : (o : Outside) (os : List PlainObject) → AreObjects walked r o ss [] os → os ≡ []
   none_in _ _ unit.no_object = refl
 
   record IsMore (o : Outside) (d : t.InitDeclarator) (ds : List t.InitDeclarator) (os : List PlainObject) : Type 0 where
     pub first : List PlainObject
     pub rest : List PlainObject
     pub whole : os ≡ first ++ rest
-    pub one : IsObject r o ss d first
-    pub more : AreObjects r (record (behind_declarator r ss d o) { made = o.made + length first }) ss ds rest
+    pub one : IsObject walked r o ss d first
+    pub more : AreObjects walked r (record (behind_declarator walked r ss d o) { made = o.made + length first }) ss ds rest
 
-  more_in : (o : Outside) (d : t.InitDeclarator) (ds : List t.InitDeclarator) (os : List PlainObject) → AreObjects r o ss (d ∷ ds) os
+  more_in : (o : Outside) (d : t.InitDeclarator) (ds : List t.InitDeclarator) (os : List PlainObject) → AreObjects walked r o ss (d ∷ ds) os
       → IsMore o d ds os
   more_in _ _ _ _ (unit.more_objects {os = os} {us = us} h m) = record { first = os; rest = us; whole = refl; one = h; more = m }
 
   objects_to : (ds : List t.NextInitDeclarator) (tags : Tags) (s : State) (o : Outside) (os : List PlainObject) → s.tags ≡ tags
-      → outside_of s ≡ o → AreObjects r o ss (others ds) os → IsFurther (objects_alone os) s (after_more r (specified tags ss) storage ds s)
+      → outside_of s ≡ o → AreObjects walked r o ss (others ds) os → IsFurther (objects_alone os) s (after_more r (specified tags ss) storage ds s)
   objects_to [] tags s o os e q h =
       subst (λ (z : List PlainObject). IsFurther (objects_alone z) s s) (sym (none_in o os h)) (nothing_further s)
   objects_to (t.next_init_declarator comma d ∷ ds) tags s o os e q h =
       let g = more_in o d (others ds) os h in
       let next = after_declarator r (specified tags ss) storage d s in
-      let f = object_to_at tags d s g.first e (subst (λ (z : Outside). IsObject r z ss d g.first) (sym q) g.one) in
-      let m = objects_to ds tags next (record (behind_declarator r ss d o) { made = o.made + length g.first }) g.rest
+      let f = object_to_at tags d s g.first e (subst (λ (z : Outside). IsObject walked r z ss d g.first) (sym q) g.one) in
+      let m = objects_to ds tags next (record (behind_declarator walked r ss d o) { made = o.made + length g.first }) g.rest
       (tags_at d tags s e)
       (next_outside tags d s g.first e f
-      ∙ ap (λ (z : Outside). record (behind_declarator r ss d z) { made = z.made + length g.first }) q) g.more in
+      ∙ ap (λ (z : Outside). record (behind_declarator walked r ss d z) { made = z.made + length g.first }) q) g.more in
       subst (λ (z : List PlainObject). IsFurther (objects_alone z) s (after_more r (specified tags ss) storage ds next)) (sym g.whole)
       (further_then (objects_alone g.first) (objects_alone g.rest) s next (after_more r (specified tags ss) storage ds next) f m)
 
@@ -375,7 +376,7 @@ module _ (laws : FileLaws) (r : Setting) (ss : t.Specs) where
 
   to_objects : (ds : List t.NextInitDeclarator) (tags : Tags) (s : State) → s.tags ≡ tags
       → (after_more r (specified tags ss) storage ds s).whole ≡ true
-      → (os : List PlainObject) × AreObjects r (outside_of s) ss (others ds) os
+      → (os : List PlainObject) × AreObjects walked r (outside_of s) ss (others ds) os
   to_objects [] tags s e h = ([], unit.no_object)
   to_objects (t.next_init_declarator comma d ∷ ds) tags s e h =
       let next = after_declarator r (specified tags ss) storage d s in
@@ -385,7 +386,7 @@ module _ (laws : FileLaws) (r : Setting) (ss : t.Specs) where
       let m = to_objects ds tags next t' h in (
         g.0 ++ m.0,
         unit.more_objects g.1
-            (subst (λ (z : Outside). AreObjects r z ss (others ds) m.0) (next_outside tags d s g.0 e f) m.1),
+            (subst (λ (z : Outside). AreObjects walked r z ss (others ds) m.0) (next_outside tags d s g.0 e f) m.1),
       )
 
 -- ---- declarations
@@ -396,13 +397,13 @@ declaration_more : (r : Setting) (ss : t.Specs) (d : t.InitDeclarator) (ds : Lis
 declaration_more r ss d ds e s = refl
 
 module _ (laws : FileLaws) (r : Setting) where
-  declaration_added : (d : t.Declaration) (s : State) (a : Added) → Adds r (place_of s) (t.declaration_item d) a
+  declaration_added : (d : t.Declaration) (s : State) (a : Added) → Adds walked r (place_of s) (t.declaration_item d) a
       → IsFurther a s (after_declaration r d s)
   declaration_added _ s _ (unit.by_declaration {ss = ss} {d = d} {ds = ds} {e = e} {os = os} h) =
       objects_to laws r ss (t.next_init_declarator e d ∷ ds) s.tags s (outside_of s) os refl refl h
 
   declaration_there : (d : t.Declaration) (s : State) → (after_declaration r d s).whole ≡ true
-      → (a : Added) × Adds r (place_of s) (t.declaration_item d) a
+      → (a : Added) × Adds walked r (place_of s) (t.declaration_item d) a
   declaration_there (t.declaration ss d ds e) s h =
       let g = to_objects laws r ss (t.next_init_declarator e d ∷ ds) s.tags s refl h in
       (objects_alone g.0, unit.by_declaration g.1)
@@ -492,12 +493,12 @@ module _ (declarators : DeclaratorsAreSaid) (r : Setting) where
       (same_const d.konst konst (declarators.constness_of_registers k w reg_at reg ss (t.identifier at n) e) qualified)
       (register_first declarators r w reg_at reg ss at n e s first ty h g.0 g.1 ((Decides-ltb (length s.scope.objects) 65_536).1 room))
 
-  register_added : (d : t.RegisterObject) (s : State) (a : Added) → Adds r (place_of s) (t.register_item d) a
+  register_added : (d : t.RegisterObject) (s : State) (a : Added) → Adds walked r (place_of s) (t.register_item d) a
       → IsFurther a s (after_register r d s)
   register_added _ s _ (unit.by_register {d = d} {os = os} h) = register_to d s os h
 
   register_said : (d : t.RegisterObject) (s : State) → (after_register r d s).whole ≡ true
-      → (a : Added) × Adds r (place_of s) (t.register_item d) a
+      → (a : Added) × Adds walked r (place_of s) (t.register_item d) a
   register_said (t.register_object w (t.identifier reg_at reg) ss (t.identifier at n) e) s h =
       let g = register_there declarators r w reg_at reg ss at n e s h in (objects_alone g.0, unit.by_register g.1)
 
@@ -564,7 +565,7 @@ module _ (one : EqualStructsAreOne) where
       functions = sym (append-nil s.functions);
     }
 
-    structure_added : (d : t.Structure) (s : State) (a : Added) → Adds r (place_of s) (t.structure_item d) a
+    structure_added : (d : t.Structure) (s : State) (a : Added) → Adds walked r (place_of s) (t.structure_item d) a
         → IsFurther a s (after_structure r d s)
     structure_added _ s _ (unit.by_struct {d = d} {ss = ts} h) = struct_further d s ts (structs_to d s ts h)
 
@@ -581,7 +582,7 @@ module _ (one : EqualStructsAreOne) where
         by None e = ([], unit.not_defined (λ x h. nothing_there x (sym e ∙ (defined (known_of r.ports s) d x).1 h)))
         by (Some x) e = among x e (struct_place x s.structs) refl
 
-    structure_said : (d : t.Structure) (s : State) → (a : Added) × Adds r (place_of s) (t.structure_item d) a
+    structure_said : (d : t.Structure) (s : State) → (a : Added) × Adds walked r (place_of s) (t.structure_item d) a
     structure_said d s = let g = struct_said d s in (record { structs = g.0; objects = []; functions = [] }, unit.by_struct g.1)
 
 pub file_scope_is_said : FileLaws → EqualStructsAreOne → FileScopeIsSaid

@@ -5,7 +5,7 @@ use Rattle.std.proofs.lemmas.List.{append-nil, append_cancel_left}
 use Rattle.ec_grammar.specs.declared.Spot.{Spot}
 use Rattle.ec_grammar.specs.Trees as t
 use Rattle.ec_core.specs.Plain.{PlainType, PlainExpr, PlainStmt, statement, PlainKind, empty, evaluate, block, branch, while_loop, do_loop}
-use Rattle.ec_core.specs.Plain.{for_loop, break_loop, continue_loop, OptionPlainStmt, no_stmt, a_stmt, PlainStmts, last_stmt, next_stmt}
+use Rattle.ec_core.specs.Plain.{for_loop, OptionPlainStmt, no_stmt, a_stmt, PlainStmts, last_stmt, next_stmt}
 use Rattle.ec_core.specs.Plain.{PlainObject}
 use Rattle.ec_check_operands.specs.Operands.{Operand}
 use Rattle.ec_check_names.specs.Firsts.{first_specs, first_expression, first_statement}
@@ -21,7 +21,7 @@ use Rattle.ec_check_statements.specs.Kinds.{one_branch, branches, while_of, do_o
 use Rattle.ec_check_statements.specs.Locals.{local_declared, with_local, local_statement, locals_before, after_declaration}
 use Rattle.ec_check_statements.specs.Locals.{declaration_before}
 use Rattle.ec_check_statements.specs.Objects.{AreAppended}
-use Rattle.ec_check_statements.specs.Parts.{tested, optional_test, evaluated, optional_evaluation, returned}
+use Rattle.ec_check_statements.specs.Parts.{tested, optional_test, evaluated, optional_evaluation}
 use Rattle.ec_check_statements.specs.Statements.{stated, evaluation, for_of, after, after_items, kind_of, items_of, body_of}
 use Rattle.ec_check_statements.specs.Statements.{after_body}
 use Rattle.ec_check_statements.specs.Walks.{followed}
@@ -29,7 +29,7 @@ use Rattle.ec_check_statements.proofs.Growth as growth
 use Rattle.ec_check_statements.proofs.Growth.{object_appended}
 use Rattle.ec_check_meanings.specs.Means.{Means}
 use Rattle.ec_check_meanings.specs.Terms.{term_of_expression}
-use Rattle.ec_check_meanings.proofs.Options.{inside, nothing_there, given}
+use Rattle.ec_check_meanings.proofs.Options.{inside, nothing_there}
 use Rattle.ec_check_parts.specs.Laws.{inside_of}
 use Rattle.ec_check_parts.specs.Places.{Inside}
 use Rattle.ec_check_typed.specs.Laws.{around, AreAdded, StatementsAreSaid}

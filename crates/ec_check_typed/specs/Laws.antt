@@ -12,6 +12,7 @@ use Rattle.ec_check_statements.specs.Statements.{kind_of, body_of, after, after_
 use Rattle.ec_check_file_scope.specs.FileObjects.{initial_leaves, after_register}
 use Rattle.ec_check_file_scope.specs.FileScope.{after_declaration, after_structure}
 use Rattle.ec_check_file_scope.specs.States.{Setting, State}
+use Rattle.ec_check_parts.specs.Readings.{walked}
 use Rattle.ec_check_parts.specs.Laws.{inside_of, outside_of}
 use Rattle.ec_check_typed.specs.Initialisers.{Starts, StartsStatic}
 use Rattle.ec_check_typed.specs.Statements.{Enclosing, Says, IsBody}
@@ -70,8 +71,8 @@ pub record IsSaid (Said : Added → Type 0) (s behind : State) : Type 0 where
 
 pub record FileScopeIsSaid : Type 0 where
   pub declarations : (r : Setting) (d : t.Declaration) (s : State)
-      → IsSaid (Adds r (place_of s) (t.declaration_item d)) s (after_declaration r d s)
+      → IsSaid (Adds walked r (place_of s) (t.declaration_item d)) s (after_declaration r d s)
   pub registers : (r : Setting) (d : t.RegisterObject) (s : State)
-      → IsSaid (Adds r (place_of s) (t.register_item d)) s (after_register r d s)
+      → IsSaid (Adds walked r (place_of s) (t.register_item d)) s (after_register r d s)
   pub structures : (r : Setting) (d : t.Structure) (s : State)
-      → IsSaid (Adds r (place_of s) (t.structure_item d)) s (after_structure r d s)
+      → IsSaid (Adds walked r (place_of s) (t.structure_item d)) s (after_structure r d s)

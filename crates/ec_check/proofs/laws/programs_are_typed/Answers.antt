@@ -9,6 +9,7 @@ returns c =
       names = c.file_names_are_judged.ensures;
       bodies = c.bodies_are_judged.ensures;
       file = c.file_scope_is_judged.ensures;
+      one = c.there_is_one_reading.ensures;
       scopes = c.scopes_end.ensures;
       blocks = c.blocks_end.ensures;
     })
