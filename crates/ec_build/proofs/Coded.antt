@@ -14,9 +14,10 @@ use Rattle.ec_core.specs.PortTable.{PlainTable, plain_table}
 use Rattle.ec_core.specs.Valid.{Valid}
 use Rattle.ec_core.specs.Weight.{objects_weight}
 use Rattle.ec_core.specs.Words.{program_words}
-use Rattle.ec_ir.specs.Costs.{functions_words}
+use Rattle.ec_ir_shapes.specs.Costs.{functions_words_by_shapes}
 use Rattle.ec_ir.specs.Operations.{PlainIrProgram}
 use Rattle.ec_lower_code.specs.Code.{lowered, lowered_function}
+use Rattle.ec_lower_shapes.specs.Laws.{CountsByShapes}
 use Rattle.ec_lower_code.specs.Correct.{GroupsHaveBytes, IsMadeOf}
 use Rattle.ec_build_laws.specs.Laws.{LoweredProgramsHaveCode}
 use Rattle.ec_build_laws.specs.Shortened.{IsShortened, ShortenedIsValid}
@@ -41,12 +42,11 @@ coded : (p : PlainProgram) (io : IoTable) (asm : AsmProgram) → LoweredPrograms
     → IsMadeOf p io (lowered p (plain_table io)) → IsSelection (lowered p (plain_table io)) asm
     → ValidAsm (object_sizes (lowered p (plain_table io))) 64 asm
     → (AreInPlace (lowered p (plain_table io)) → code_words asm.items.items
-    ≤ program_words + objects_weight (lowered p (plain_table io)).objects + functions_words (lowered p (plain_table io)).functions)
-    → IsCodeOf p io asm
-coded p io asm have valid groups made selection valid_asm words =
+    ≤ program_words + objects_weight (lowered p (plain_table io)).objects + functions_words_by_shapes (lowered p (plain_table io)).functions)
+    → CountsByShapes p io (lowered p (plain_table io)) → IsCodeOf p io asm
+coded p io asm have valid groups made selection valid_asm words within =
     let has = have p io valid groups in
     let counted = words has.in_place in
-    let within = made.words in
     record {
       groups = groups;
       code = has.code;
@@ -59,13 +59,14 @@ coded p io asm have valid groups made selection valid_asm words =
 pub code_made : (p : PlainProgram) (io : IoTable) (asm : AsmProgram) (ir : PlainIrProgram) → ir ≡ lowered p (plain_table io)
     → LoweredProgramsHaveCode → Valid p io → GroupsHaveBytes io → IsMadeOf p io ir → IsSelection ir asm
     → ValidAsm (object_sizes ir) 64 asm
-    → (AreInPlace ir → code_words asm.items.items ≤ program_words + objects_weight ir.objects + functions_words ir.functions)
-    → IsCodeOf p io asm
-code_made p io asm ir is have valid groups made selection valid_asm words =
+    → (AreInPlace ir → code_words asm.items.items ≤ program_words + objects_weight ir.objects + functions_words_by_shapes ir.functions)
+    → CountsByShapes p io ir → IsCodeOf p io asm
+code_made p io asm ir is have valid groups made selection valid_asm words within =
     coded p io asm have valid groups (subst (λ x. IsMadeOf p io x) is made) (subst (λ x. IsSelection x asm) is selection)
     (subst (λ x. ValidAsm (object_sizes x) 64 asm) is valid_asm)
     (subst (λ x. AreInPlace x
-    → code_words asm.items.items ≤ program_words + objects_weight x.objects + functions_words x.functions) is words)
+    → code_words asm.items.items ≤ program_words + objects_weight x.objects + functions_words_by_shapes x.functions) is words)
+    (subst (λ x. CountsByShapes p io x) is within)
 
 -- shortened it is code of the program still
 pub short_code : ShortenedIsValid → (p : PlainProgram) (io : IoTable) (reaches : List Reach) (long short : AsmProgram) → IsCodeOf p io long

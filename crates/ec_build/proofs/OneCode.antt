@@ -1,8 +1,10 @@
 -- The code of operations is one, whichever least tables tell what is needed.
-use Rattle.std.proofs.Common.{◌≡◌, ℕ, zero, suc, ◌<◌, ◌≤◌, List, [], ◌∷◌, ◌++◌, length, Option, Some, None, refl, sym, ◌∙◌, arith}
+use Rattle.std.proofs.Common.{◌≡◌, ℕ, zero, suc, ◌+◌, ◌<◌, ◌≤◌, List, [], ◌∷◌, ◌++◌, length, map, Option, Some, None, refl, sym}
+use Rattle.std.proofs.Common.{◌∙◌, ap, subst, arith}
 use Rattle.std.specs.Prelude.{slice_get}
 use Rattle.std.specs.List.{AllByRecursion}
 use Rattle.std.proofs.lemmas.Bool.Decides.{nat_tests}
+use Rattle.std.proofs.lemmas.Option.{slice_get_within}
 use Rattle.ec_asm.specs.Items.{chain}
 use Rattle.ec_asm.specs.declared.items.AsmItem.{AsmItem}
 use Rattle.ec_asm.specs.declared.items.AsmItem.TheVariants.{Label}
@@ -12,15 +14,18 @@ use Rattle.ec_ir.specs.Operations.{label, jump, branch_zero}
 use Rattle.ec_ir.specs.Operations.{PlainIrFunction, PlainIrProgram, data_of}
 use Rattle.ec_ir.specs.Valid.{count, Results, ValidOperation, ValidIrFunction, ValidIr}
 use Rattle.ec_ir_known.specs.Known.{right_numbers}
-use Rattle.ec_select_operations.specs.Needs.{Need, IsLive}
+use Rattle.ec_select_operations.specs.Code.{wanted_bytes}
+use Rattle.ec_select_operations.specs.Needs.{Need, IsLive, facts_of}
 use Rattle.ec_select_operations.specs.Written.{written_function, NeededFunctionsAreWritten}
 use Rattle.ec_select_live.specs.Laws.{ValidOperationsHavePlaces}
 use Rattle.ec_select_live.specs.Least.{IsLeast}
 use Rattle.ec_select_live.specs.Tables.{AreSame}
 use Rattle.ec_select_functions.specs.Laws.{linkage_of}
-use Rattle.ec_select.specs.Labels.{entry_label, function_label}
+use Rattle.ec_select.specs.Labels.{entry_label, function_label, homes_of}
 use Rattle.ec_select.specs.Program.{made_with, code_of, functions_code, spans_of}
 use Rattle.ec_select.specs.Selected.{AreTables, IsSelection}
+use Rattle.ec_select.specs.Sharing.{function_uses, uses_from, uses_in, program_uses, rows_of, routine_among, routine_of}
+use Rattle.ec_select.specs.Sharing.{routines_among, routines_begin, routines_code}
 use Rattle.ec_select_startup.specs.Startup.{startup_code}
 use Rattle.ec_build.proofs.Viewed.{each_at}
 use Rattle.ec_build.proofs.OneNeed.{TellSame, wanted_same, rows_same}
@@ -66,19 +71,29 @@ pub record Laws : Type 0 where
   pub places : ValidOperationsHavePlaces
   pub written : NeededFunctionsAreWritten
 
-code_same : Laws → (p : PlainIrProgram) (results : Results) (f : ℕ) (g : PlainIrFunction) → ValidIrFunction p results f g
-    → (here there : ℕ → Need) → IsLive here g.code → IsLive there g.code → IsLeast g.slots here g.code
-    → IsLeast g.slots there g.code → code_of p here f (Some g) ≡ code_of p there f (Some g)
-code_same laws p results f g v here there here_live there_live here_least there_least =
-    let k = linkage_of p function_label f g.slots (made_with p here f g) in
-    let places = laws.places p results f g v in
-    let tell =
-    all_tell_same g.slots here there g.code here_live there_live here_least there_least p results f g.code
-    (λ l. omega arith) v.code in
-    sym (laws.written (data_of p) k f here g.code)
-    ∙ (λ j. written_function (data_of p) k f (wanted_same g.slots here there g.code g.code places tell j)
-    (rows_same g.slots here there g.code g.code places tell j) (right_numbers g.code) g.code)
-    ∙ laws.written (data_of p) k f there g.code
+module _ (laws : Laws) (p : PlainIrProgram) (results : ℕ → ℕ) (f : ℕ) (g : PlainIrFunction) (v : ValidIrFunction p results f g)
+    (here there : ℕ → Need) (here_live : IsLive here g.code) (there_live : IsLive there g.code)
+    (here_least : IsLeast g.slots here g.code) (there_least : IsLeast g.slots there g.code) where
+  tell : AllByRecursion (TellSame g.slots here there) g.code
+  tell =
+      all_tell_same g.slots here there g.code here_live there_live here_least there_least p results f g.code
+      (λ l. omega arith) v.code
+
+  -- what is needed of each result
+  bytes_same : wanted_bytes (facts_of here g.code) g.code ≡ wanted_bytes (facts_of there g.code) g.code
+  bytes_same = wanted_same g.slots here there g.code g.code (laws.places p results f g v) tell
+
+  uses_same : function_uses p here f g ≡ function_uses p there f g
+  uses_same = λ j. uses_in (data_of p) (homes_of f g.code) (bytes_same j) g.code
+
+  code_same : (routines : PlainIr → Option ℕ) → code_of p routines here f (Some g) ≡ code_of p routines there f (Some g)
+  code_same routines =
+      let k = linkage_of p function_label f g.slots (made_with p routines here f g) in
+      sym (laws.written (data_of p) k routines f here g.code)
+      ∙ (λ j. written_function (data_of p) k f (bytes_same j)
+      (rows_same g.slots here there g.code g.code (laws.places p results f g v) tell j) (right_numbers g.code)
+      (map routines g.code) g.code)
+      ∙ laws.written (data_of p) k routines f there g.code
 
 chain_same : (a b : ℕ → List AsmItem) (n : ℕ) → ((k : ℕ) → k < n → a k ≡ b k) → chain a n ≡ chain b n
 chain_same a b zero h = refl
@@ -88,17 +103,51 @@ chain_same a b (suc n) h =
 
 module _ (laws : Laws) (p : PlainIrProgram) (valid : ValidIr p) (here there : ℕ → ℕ → Need)
     (here_are : AreTables p here (length p.functions)) (there_are : AreTables p there (length p.functions)) where
+  valid_at : (f : ℕ) (g : PlainIrFunction) → slice_get p.functions f ≡ Some g → ValidIrFunction p valid.results f g
+  valid_at f g e = each_at (ValidIrFunction p valid.results) 0 f f p.functions g (omega arith) valid.functions e
+
+  -- ---- routines
+
+  from_same : (f : ℕ) (gs : List PlainIrFunction)
+      → ((j : ℕ) (g : PlainIrFunction) → slice_get gs j ≡ Some g → slice_get p.functions (f + j) ≡ Some g)
+      → uses_from p here f gs ≡ uses_from p there f gs
+  from_same f [] among = refl
+  from_same f (g ∷ gs) among =
+      let z : f + 0 ≡ f = omega arith in
+      let e : slice_get p.functions f ≡ Some g = subst (λ k. slice_get p.functions k ≡ Some g) z (among 0 g refl) in
+      let l = slice_get_within p.functions f g e in
+      let first = uses_same laws p valid.results f g (valid_at f g e) (here f) (there f) (here_are.live f g l e) (there_are.live f g l e)
+      (here_are.least f g l e) (there_are.least f g l e) in
+      let rest = from_same (f + 1) gs
+      (λ j x q. let n : f + suc j ≡ f + 1 + j = omega arith in subst (λ k. slice_get p.functions k ≡ Some x) n (among (suc j) x q)) in
+      λ j. first j ++ rest j
+
+  all_uses_same : program_uses p here ≡ program_uses p there
+  all_uses_same =
+      from_same 0 p.functions (λ j g e. let q : j ≡ 0 + j = omega arith in subst (λ k. slice_get p.functions k ≡ Some g) q e)
+
+  routines_same : routine_of p here ≡ routine_of p there
+  routines_same = λ j. routine_among (routines_begin p) (rows_of (all_uses_same j))
+
+  -- ---- functions
+
   function_same : (f : ℕ) → f < length p.functions → (o : Option PlainIrFunction) → slice_get p.functions f ≡ o
-      → code_of p (here f) f o ≡ code_of p (there f) f o
+      → code_of p (routine_of p here) (here f) f o ≡ code_of p (routine_of p there) (there f) f o
   function_same f l None e = refl
   function_same f l (Some g) e =
-      code_same laws p valid.results f g (each_at (ValidIrFunction p valid.results) 0 f f p.functions g (omega arith) valid.functions e)
-      (here f) (there f) (here_are.live f g l e) (there_are.live f g l e) (here_are.least f g l e) (there_are.least f g l e)
+      code_same laws p valid.results f g (valid_at f g e) (here f) (there f) (here_are.live f g l e) (there_are.live f g l e)
+      (here_are.least f g l e) (there_are.least f g l e) (routine_of p here)
+      ∙ ap (λ (r : PlainIr → Option ℕ). code_of p r (there f) f (Some g)) routines_same
 
   functions_same : functions_code p here (length p.functions) ≡ functions_code p there (length p.functions)
   functions_same =
-      chain_same (λ f. code_of p (here f) f (slice_get p.functions f)) (λ f. code_of p (there f) f (slice_get p.functions f))
-      (length p.functions) (λ f l. function_same f l (slice_get p.functions f) refl)
+      chain_same (λ f. code_of p (routine_of p here) (here f) f (slice_get p.functions f))
+      (λ f. code_of p (routine_of p there) (there f) f (slice_get p.functions f)) (length p.functions)
+      (λ f l. function_same f l (slice_get p.functions f) refl)
+
+  rest_same : functions_code p here (length p.functions) ++ routines_code p here
+      ≡ functions_code p there (length p.functions) ++ routines_code p there
+  rest_same = λ j. functions_same j ++ routines_among (routines_begin p) (rows_of (all_uses_same j))
 
 -- ---- programs
 
@@ -107,5 +156,5 @@ pub items_same : Laws → (p : PlainIrProgram) → ValidIr p → (a b : AsmProgr
 items_same laws p valid a b s t =
     s.items
     ∙ (λ j. Label entry_label ∷ (startup_code (spans_of p) (function_label p.main)
-    ++ functions_same laws p valid s.tables t.tables s.are_tables t.are_tables j))
+    ++ rest_same laws p valid s.tables t.tables s.are_tables t.are_tables j))
     ∙ sym t.items

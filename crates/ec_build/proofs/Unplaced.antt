@@ -8,7 +8,7 @@ use Rattle.ec_asm_based.specs.declared.reach.Reach.{Reach}
 use Rattle.ec_check_recursion.specs.Rows.{rows_of_program}
 use Rattle.ec_core.specs.Plain.{PlainProgram}
 use Rattle.ec_core.specs.PortTable.{plain_table}
-use Rattle.ec_core.specs.Weight.{weight}
+use Rattle.ec_core_shapes.specs.SharedWeight.{shared_weight}
 use Rattle.ec_map.specs.declared.map.Map.{Map}
 use Rattle.ec_map.specs.declared.region.Region.{Region}
 use Rattle.ec_locate.specs.Entries.{data_need}
@@ -43,7 +43,7 @@ all_fit m n a e b c d =
     rw (tables, far, vars, stack, code)
 
 pub fits_whole : (p : PlainProgram) (m : Map) (asm : AsmProgram) → Fits p m → asm.frames.items ≡ scratch_needs p
-    → code_words asm.items.items ≤ weight p (plain_table m.io) → shortage p m asm ≡ None
+    → code_words asm.items.items ≤ shared_weight p (plain_table m.io) → shortage p m asm ≡ None
 fits_whole p m asm fits frames small =
     let vars : data_need 64 (rows_of_program p) (entries_by m p) asm.frames.items ≤ m.vars.size =
     subst (λ f. data_need 64 (rows_of_program p) (entries_by m p) f ≤ m.vars.size) (sym frames) fits.vars in
@@ -55,7 +55,7 @@ nothing_there None P e h = h
 nothing_there (Some x) P e h = cc
 
 pub not_unplaced : (p : PlainProgram) (m : Map) (asm : AsmProgram) (stop : PlaceStop) → Fits p m → asm.frames.items ≡ scratch_needs p
-    → code_words asm.items.items ≤ weight p (plain_table m.io) → ¬ HasNoPlace p m asm stop
+    → code_words asm.items.items ≤ shared_weight p (plain_table m.io) → ¬ HasNoPlace p m asm stop
 not_unplaced p m asm (TooSmall region needed available) fits frames small why =
     let room = fits_whole p m asm fits frames small in
     let told = why.against in

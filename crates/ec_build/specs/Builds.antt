@@ -7,7 +7,7 @@ use Rattle.ec_asm.specs.declared.items.AsmProgram.{AsmProgram}
 use Rattle.ec_core.specs.Plain.{PlainProgram, plain_program}
 use Rattle.ec_core.specs.PortTable.{plain_table}
 use Rattle.ec_core.specs.ValueTypes.{GiveBytes}
-use Rattle.ec_core.specs.Weight.{weight}
+use Rattle.ec_core_shapes.specs.SharedWeight.{shared_weight}
 use Rattle.ec_check_recursion.specs.Recursion.{NothingRecurs}
 use Rattle.ec_check.specs.Answers.{IsTyped, IsOnlyTyped, IsWithinLimits}
 use Rattle.ec_check.specs.Broken.{NothingIsBroken}
@@ -45,11 +45,11 @@ pub record IsChecked (sources : List (List ℕ)) (text : List ℕ) (m : Map) (p 
 -- ---- what is built
 
 -- A valid program, whose code `asm` is, is placed by a map. The code has at most twice as many bytes as the program
--- weighs. From every reset state, and whatever the ports give, the machine shows what the program does
+-- weighs by shapes. From every reset state, and whatever the ports give, the machine shows what the program does
 pub record IsImageOf (p : PlainProgram) (m : Map) (asm : AsmProgram) (l : Located) : Type 0 where
   pub translated : IsTranslated p m asm l
   pub frames : asm.frames.items ≡ scratch_needs p
-  pub small : l.code_bytes ≤ 2 * weight p (plain_table m.io)
+  pub small : l.code_bytes ≤ 2 * shared_weight p (plain_table m.io)
   pub shows : (s : State) (inputs : Inputs) → IsReset l.image.core l.image.bytes.items s → GiveBytes inputs
       → ShowsWhole p m l s inputs
 

@@ -8,7 +8,7 @@ use Rattle.ec_asm_based.specs.declared.reach.Reach.{Reach}
 use Rattle.ec_build_laws.specs.Shortened.{IsShortened}
 use Rattle.ec_core.specs.Plain.{PlainProgram}
 use Rattle.ec_core.specs.PortTable.{plain_table}
-use Rattle.ec_core.specs.Weight.{weight}
+use Rattle.ec_core_shapes.specs.SharedWeight.{shared_weight}
 use Rattle.ec_check.specs.Answers.{Checked}
 use Rattle.ec_check.specs.declared.checking.CheckStop.{CheckStop}
 use Rattle.ec_check.specs.declared.checking.CheckStop.TheVariants as check_stops
@@ -44,7 +44,7 @@ pub record HasNoProgram (sources : List (List ℕ)) (text : List ℕ) (stop : Bu
   pub against : StopsChecking units map.io stop
 
 -- The program of the sources, whose code, shortened, `asm` is, has no place by the map. What the regions need follows from the
--- program and the map alone, but for the bytes of the code, which are at most twice the program's weight
+-- program and the map alone, but for the bytes of the code, which are at most twice the program's weight by shapes
 pub record IsUnplaced (sources : List (List ℕ)) (text : List ℕ) (stop : PlaceStop) : Type 0 where
   pub map : Map
   pub program : PlainProgram
@@ -55,7 +55,7 @@ pub record IsUnplaced (sources : List (List ℕ)) (text : List ℕ) (stop : Plac
   pub reaches : List Reach
   pub shortened : IsShortened reaches selected asm
   pub frames : asm.frames.items ≡ scratch_needs program
-  pub small : code_words asm.items.items ≤ weight program (plain_table map.io)
+  pub small : code_words asm.items.items ≤ shared_weight program (plain_table map.io)
   pub against : HasNoPlace program map asm stop
 
 -- the cause of each stop; out of memory has none

@@ -9,7 +9,7 @@ use Rattle.ec_asm_based.specs.declared.reach.Reach.{Reach}
 use Rattle.ec_build_laws.specs.Shortened.{reaches_of, IsShortened}
 use Rattle.ec_core.specs.Plain.{PlainProgram}
 use Rattle.ec_core.specs.PortTable.{plain_table}
-use Rattle.ec_core.specs.Weight.{weight}
+use Rattle.ec_core_shapes.specs.SharedWeight.{shared_weight}
 use Rattle.ec_lower_code.specs.Code.{lowered}
 use Rattle.ec_lower_code.specs.Correct.{GroupsHaveBytes}
 use Rattle.ec_map.specs.declared.map.Map.{Map}
@@ -17,14 +17,14 @@ use Rattle.ec_locate.specs.Placing.{object_sizes, scratch_needs, IsLocated}
 use Rattle.ec_locate.specs.declared.placing.Located.{Located}
 use Rattle.ec_select.specs.Selected.{HasCode, IsSelection}
 
--- The code of the operations of a program, which can be placed, and has at most as many words as the program weighs. The
+-- The code of the operations of a program, which can be placed, and has at most as many words as the program weighs by shapes. The
 -- groups of the ports hold bytes
 pub record IsCodeOf (p : PlainProgram) (io : IoTable) (asm : AsmProgram) : Type 0 where
   pub groups : GroupsHaveBytes io
   pub code : HasCode (lowered p (plain_table io))
   pub selection : IsSelection (lowered p (plain_table io)) asm
   pub frames : asm.frames.items ≡ scratch_needs p
-  pub small : code_words asm.items.items ≤ weight p (plain_table io)
+  pub small : code_words asm.items.items ≤ shared_weight p (plain_table io)
   pub valid : ValidAsm (object_sizes p) 64 asm
 
 -- The same with what is near in one word, for bytes that Y reaches. It has no more words
@@ -33,7 +33,7 @@ pub record IsShortCodeOf (p : PlainProgram) (io : IoTable) (reaches : List Reach
   pub code : IsCodeOf p io long
   pub shortened : IsShortened reaches long asm
   pub frames : asm.frames.items ≡ scratch_needs p
-  pub small : code_words asm.items.items ≤ weight p (plain_table io)
+  pub small : code_words asm.items.items ≤ shared_weight p (plain_table io)
   pub valid : ValidAsm (object_sizes p) 64 asm
 
 -- no more of code than the label where it begins, with its scratch memory

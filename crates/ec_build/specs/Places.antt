@@ -4,7 +4,7 @@ use Rattle.ec_asm.specs.declared.items.AsmProgram.{AsmProgram}
 use Rattle.ec_check_recursion.specs.Rows.{rows_of_program}
 use Rattle.ec_core.specs.Plain.{PlainProgram}
 use Rattle.ec_core.specs.PortTable.{plain_table}
-use Rattle.ec_core.specs.Weight.{weight}
+use Rattle.ec_core_shapes.specs.SharedWeight.{shared_weight}
 use Rattle.ec_map.specs.declared.map.Map.{Map}
 use Rattle.ec_locate.specs.Calls.{call_depth}
 use Rattle.ec_locate.specs.Entries.{table_need, far_need, data_need}
@@ -20,7 +20,7 @@ pub record Fits (p : PlainProgram) (m : Map) : Type 0 where
   pub far : far_need (entries_by m p) ≤ m.far.size
   pub vars : data_need 64 (rows_of_program p) (entries_by m p) (scratch_needs p) ≤ m.vars.size
   pub stack : stack_need (call_depth p) ≤ m.stack.size
-  pub code : 2 * weight p (plain_table m.io) ≤ m.code.size
+  pub code : 2 * shared_weight p (plain_table m.io) ≤ m.code.size
   pub there : without_object p m ≡ None
   pub free : clash p m ≡ None
 

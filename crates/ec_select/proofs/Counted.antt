@@ -28,6 +28,7 @@ use Rattle.ec_select_operations.specs.Needs.{Need, Facts, facts_of, needs}
 use Rattle.ec_select.specs.Labels.{label_count, function_label, first_label}
 use Rattle.ec_select.specs.Program.{made_with, code_of, functions_code}
 use Rattle.ec_select.specs.Selected.{HasCode}
+use Rattle.ec_select.specs.Sharing.{routine_of}
 use Rattle.ec_select.proofs.Fitting.{fits, no_label}
 use Rattle.ec_select.proofs.OneOperation.{ItemLaws, operation_passes, AcceptsLabels}
 use Rattle.ec_select.proofs.Setting.{own_sizes, has_room, objects_fit}
@@ -173,7 +174,7 @@ first_label_above functions (suc k) = let r = first_label_above functions k in o
 module _ (p : PlainIrProgram) (valid : ValidIr p) (has : HasCode p) (leaves : LeavesFillTheirTypes)
     (pieces : ItemLaws) (tables : ℕ → ℕ → Need) where
   abbrev pub link : ℕ → PlainIrFunction → Linkage
-  link f g = linkage_of p function_label f g.slots (made_with p (tables f) f g)
+  link f g = linkage_of p function_label f g.slots (made_with p (routine_of p tables) (tables f) f g)
 
   -- an item that fits is not the place of a label
   is_other : (x : ℕ) → AsmItem → Bool
@@ -193,10 +194,11 @@ module _ (p : PlainIrProgram) (valid : ValidIr p) (has : HasCode p) (leaves : Le
       (i : PlainIr)
       → IsCovered (data_of p) has.results f (called_in g.code) g.slots i → AcceptsLabels (is_other x) (link f g) i
       → count_by (is_label x) (op_code (data_of p) (home (link f g).homes) (link f g) told telling known need i) ≡ 0
+  unfolding is_other
   others_pass x f g e told telling known need i h a =
       none_there x (op_code (data_of p) (home (link f g).homes) (link f g) told telling known need i)
       (operation_passes (own_sizes p valid) (data_of p) (link f g) (has_room p valid f g e) (objects_fit p valid leaves) pieces
-      (is_other x) (fits_other x) has.results f (called_in g.code) told telling known need i h a)
+      (is_other x) (fits_other x) has.results f (called_in g.code) told telling known need i h a (λ l q. refl))
 
   operation_places : (x f : ℕ) (g : PlainIrFunction) → slice_get p.functions f ≡ Some g → (told telling : Option Told)
       (known : Option RightNumber) (need : Need)
@@ -251,7 +253,7 @@ module _ (p : PlainIrProgram) (valid : ValidIr p) (has : HasCode p) (leaves : Le
       (ops_code (data_of p) (home (link f g).homes) (link f g) at next code) ∙ rw (here, rest) refl
 
   function_places : (x f : ℕ) (g : PlainIrFunction) → slice_get p.functions f ≡ Some g
-      → count_by (is_label x) (code_of p (tables f) f (Some g))
+      → count_by (is_label x) (code_of p (routine_of p tables) (tables f) f (Some g))
       ≡ cond (1 + f == x) 1 0 + placed_in x (link f g).label_of g.code
   function_places x f g e =
       let at = facts_of (tables f) g.code in
@@ -262,7 +264,7 @@ module _ (p : PlainIrProgram) (valid : ValidIr p) (has : HasCode p) (leaves : Le
 
   -- a function has no label that is not its own
   abbrev OwnNone : (x f : ℕ) → Option PlainIrFunction → Type 0
-  OwnNone x f o = count_by (is_label x) (code_of p (tables f) f o) ≡ 0
+  OwnNone x f o = count_by (is_label x) (code_of p (routine_of p tables) (tables f) f o) ≡ 0
 
   no_start : (x f : ℕ) (g : PlainIrFunction) → slice_get p.functions f ≡ Some g → 1 + f ≢ x
       → placed_in x (link f g).label_of g.code ≡ 0 → OwnNone x f (Some g)
@@ -280,11 +282,11 @@ module _ (p : PlainIrProgram) (valid : ValidIr p) (has : HasCode p) (leaves : Le
 
   pub entry_is_apart : count_by (is_label 0) (functions_code p tables (length p.functions)) ≡ 0
   entry_is_apart =
-      none_of 0 (λ f. code_of p (tables f) f (slice_get p.functions f)) (length p.functions)
+      none_of 0 (λ f. code_of p (routine_of p tables) (tables f) f (slice_get p.functions f)) (length p.functions)
       (λ k l. none_before 0 k (omega arith) (λ q. absurd (omega arith)) (slice_get p.functions k) refl)
 
   one_start : (f : ℕ) (g : PlainIrFunction) → slice_get p.functions f ≡ Some g
-      → count_by (is_label (function_label f)) (code_of p (tables f) f (Some g)) ≡ 1
+      → count_by (is_label (function_label f)) (code_of p (routine_of p tables) (tables f) f (Some g)) ≡ 1
   one_start f g e =
       let l = slice_get_within p.functions f g e in
       let above = first_label_above p.functions f in
@@ -296,7 +298,7 @@ module _ (p : PlainIrProgram) (valid : ValidIr p) (has : HasCode p) (leaves : Le
       → count_by (is_label (function_label f)) (functions_code p tables (length p.functions)) ≡ 1
   function_stands f g e =
       let l = slice_get_within p.functions f g e in
-      one_of (1 + f) (λ k. code_of p (tables k) k (slice_get p.functions k)) (length p.functions) f l
+      one_of (1 + f) (λ k. code_of p (routine_of p tables) (tables k) k (slice_get p.functions k)) (length p.functions) f l
       (λ k m d. none_before (1 + f) k (omega arith) (λ q. d (omega arith)) (slice_get p.functions k) refl)
       (rw e (one_start f g e))
 
@@ -327,7 +329,7 @@ module _ (p : PlainIrProgram) (valid : ValidIr p) (has : HasCode p) (leaves : Le
             placed_below (first_label p.functions f + m) (first_label p.functions k) h.code (omega arith)
 
   own_label : (f m : ℕ) (g : PlainIrFunction) → slice_get p.functions f ≡ Some g → count m g.code ≡ 1
-      → count_by (is_label (first_label p.functions f + m)) (code_of p (tables f) f (Some g)) ≡ 1
+      → count_by (is_label (first_label p.functions f + m)) (code_of p (routine_of p tables) (tables f) f (Some g)) ≡ 1
   own_label f m g e one =
       let l = slice_get_within p.functions f g e in
       let above = first_label_above p.functions f in
@@ -335,7 +337,7 @@ module _ (p : PlainIrProgram) (valid : ValidIr p) (has : HasCode p) (leaves : Le
       let some = placed_is (first_label p.functions f) m g.code ∙ one in
       function_places (first_label p.functions f + m) f g e ∙ rw (q, some) refl
 
-  bounded : (m : ℕ) (code : List PlainIr) → count m code ≡ 1 → m < label_count code
+  pub bounded : (m : ℕ) (code : List PlainIr) → count m code ≡ 1 → m < label_count code
   bounded m code one = by_test (nat_lt m (label_count code)) refl where
     by_test : (less : Bool) → nat_lt m (label_count code) ≡ less → m < label_count code
     by_test true t = grind (arith, nat_tests)
@@ -347,5 +349,36 @@ module _ (p : PlainIrProgram) (valid : ValidIr p) (has : HasCode p) (leaves : Le
       → count_by (is_label (first_label p.functions f + m)) (functions_code p tables (length p.functions)) ≡ 1
   label_stands f m g e one =
       let l = slice_get_within p.functions f g e in
-      one_of (first_label p.functions f + m) (λ k. code_of p (tables k) k (slice_get p.functions k)) (length p.functions) f l
+      one_of (first_label p.functions f + m) (λ k. code_of p (routine_of p tables) (tables k) k (slice_get p.functions k))
+      (length p.functions) f l
       (λ k w d. none_beside f m k g e (bounded m g.code one) d w (slice_get p.functions k) refl) (rw e (own_label f m g e one))
+
+  -- ---- labels behind those of all functions
+
+  none_past : (x f : ℕ) → first_label p.functions (length p.functions) ≤ x → (o : Option PlainIrFunction)
+      → slice_get p.functions f ≡ o → OwnNone x f o
+  none_past x f l None e = refl
+  none_past x f l (Some g) e =
+      let within = slice_get_within p.functions f g e in
+      let above = first_label_above p.functions (length p.functions) in
+      let grows = first_label_grows p.functions f (length p.functions) g e within in
+      let n = x - first_label p.functions f in
+      let w : x ≡ first_label p.functions f + n = omega arith in
+      no_start x f g e (λ q. absurd (omega arith))
+      (subst (λ (k : ℕ). placed_in k (λ j. first_label p.functions f + j) g.code ≡ 0) (sym w)
+      (placed_is (first_label p.functions f) n g.code ∙ none_above n g.code (omega arith)))
+
+  pub routine_is_apart : (x : ℕ) → first_label p.functions (length p.functions) ≤ x
+      → count_by (is_label x) (functions_code p tables (length p.functions)) ≡ 0
+  routine_is_apart x l =
+      none_of x (λ f. code_of p (routine_of p tables) (tables f) f (slice_get p.functions f)) (length p.functions)
+      (λ k m. none_past x k l (slice_get p.functions k) refl)
+
+  -- a label of a function stands below them
+  pub label_below : (f m : ℕ) (g : PlainIrFunction) → slice_get p.functions f ≡ Some g → count m g.code ≡ 1
+      → first_label p.functions f + m < first_label p.functions (length p.functions)
+  label_below f m g e one =
+      let within = slice_get_within p.functions f g e in
+      let grows = first_label_grows p.functions f (length p.functions) g e within in
+      let few = bounded m g.code one in
+      omega (arith, grows, few)

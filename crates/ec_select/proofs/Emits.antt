@@ -2,8 +2,9 @@
 use Rattle.std.proofs.Common.{◌≡◌, ◌⊎◌, ⊎_elim, ℕ, zero, suc, ◌+◌, ◌^◌, ◌<◌, ◌≤◌, Bool, true, false, List, [], ◌∷◌}
 use Rattle.std.proofs.Common.{refl}
 use Rattle.std.proofs.Common.{ap, subst, arith, length, inl, inr}
-use Rattle.std.specs.Prelude.{◌||◌, Option, Some, None}
+use Rattle.std.specs.Prelude.{◌||◌, Option, Some, None, slice_get, slice_index}
 use Rattle.std.specs.List.{AllByRecursion}
+use Rattle.std.proofs.lemmas.Bool.{false≢true}
 use Rattle.ec_asm.specs.Pieces.{HasBytes}
 use Rattle.ec_core.specs.Layout.{size_of_type}
 use Rattle.ec_core.specs.declared.expressions.BinOp.{BinOp}
@@ -31,8 +32,9 @@ use Rattle.ec_select_operations.specs.Emitted.{IndexHasByte, CanBeEmitted}
 use Rattle.ec_select_operations.specs.Needs.{Need, Facts, wanted, wanted_result, needs, is_fixed}
 use Rattle.ec_select_operations.specs.Places.{location_in, object_location}
 use Rattle.ec_select_operations.specs.Pointers.{is_pointer}
-use Rattle.ec_select_operations.specs.Written.{CanBeWritten, kept_rows}
+use Rattle.ec_select_operations.specs.Written.{kept_rows}
 use Rattle.ec_select.specs.Labels.{label_count}
+use Rattle.ec_select.specs.Sharing.{is_shaped}
 use Rattle.ec_select.proofs.PointerTypes.{some_width, pointers_only, pointer_converted, no_pointer, none_pointed}
 use Rattle.ec_select.proofs.FixedTypes.{type_fixed, either_fixed, no_fixed, no_fixed_operand, none_converted}
 use Rattle.ec_select.proofs.Setting.{all_at, leaf_inside}
@@ -45,10 +47,10 @@ pub kept_length : (slots : ℕ) (at : Facts) (code : List PlainIr) → length (k
 kept_length slots at [] = refl
 kept_length slots at (i ∷ code) = ap suc (kept_length slots at code)
 
-of_own : (k : Bool) (F I : Type 0) → k ≡ true → F → OfKind k F I
+pub of_own : (k : Bool) (F I : Type 0) → k ≡ true → F → OfKind k F I
 of_own k F I e h = rw e h
 
-of_others : (k : Bool) (F I : Type 0) → k ≡ false → I → OfKind k F I
+pub of_others : (k : Bool) (F I : Type 0) → k ≡ false → I → OfKind k F I
 of_others k F I e h = rw e h
 
 module _ (p : PlainIrProgram) (valid : ValidIr p) (leaves : LeavesFillTheirTypes) where
@@ -214,6 +216,14 @@ module _ (p : PlainIrProgram) (valid : ValidIr p) (leaves : LeavesFillTheirTypes
         let m = h.within in let w = port_some width h.one_two_four in (omega arith, w, m, index_has index h.index_has)
     emits need (port_out from port index width) code h v l = (h.within, index_has index h.index_has)
 
+    -- whose code may stand once
+    pub shaped_emits : (need : Need) (i : PlainIr) → is_shaped i ≡ true → IsCovered (data_of p) results f (called_in all) slots i
+        → ValidOperation p valid.results f slots all i → CanBeEmitted (data_of p) k (result_wanted need i) i
+    shaped_emits need (binary_op op ty mode to a aty b bty) s h v = emits need (binary_op op ty mode to a aty b bty) [] h v (omega arith)
+    shaped_emits need (unary_op op ty mode to a) s h v = emits need (unary_op op ty mode to a) [] h v (omega arith)
+    shaped_emits need (conversion to ty mode a aty) s h v = emits need (conversion to ty mode a aty) [] h v (omega arith)
+    shaped_emits need i s h v = absurd (false≢true s)
+
     emits_behind : (labels : ℕ → Need) (need : Need) (i : PlainIr) (code : List PlainIr)
         → IsCovered (data_of p) results f (called_in all) slots i → ValidOperation p valid.results f slots all i
         → label_count (i ∷ code) ≤ bound → CanBeEmitted (data_of p) k (wanted_behind labels need i) i
@@ -222,7 +232,7 @@ module _ (p : PlainIrProgram) (valid : ValidIr p) (leaves : LeavesFillTheirTypes
 
     pub all_emitted : (at : Facts) (code : List PlainIr) → AreCovered (data_of p) results f (called_in all) slots code
         → AllByRecursion (ValidOperation p valid.results f slots all) code → label_count code ≤ bound
-        → CanBeWritten (data_of p) k (wanted_bytes at code) code
+        → (j : ℕ) (i : PlainIr) → slice_get code j ≡ Some i → CanBeEmitted (data_of p) k (slice_index (wanted_bytes at code) j) i
     all_emitted at [] h v l j i e = absurd (cc)
     all_emitted at (x ∷ code) h v l zero i e =
         let q : x ≡ i = cc in

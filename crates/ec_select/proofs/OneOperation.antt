@@ -60,7 +60,9 @@ use Rattle.ec_select_operations.specs.Code.{place_register}
 use Rattle.ec_select_operations.specs.Code.{kept_bytes, waiting_location, save_place, restore_place, register_places}
 use Rattle.ec_select_operations.specs.Code.{save_code}
 use Rattle.ec_select_operations.specs.Code.{restore_code, taken_code, call_code, result_code, return_code}
-use Rattle.ec_select_operations.specs.Code.{flag_code, operator_code, tested_code, kept_need, op_code, tells_next}
+use Rattle.ec_select_operations.specs.Code.{flag_code, operator_code, tested_code, kept_need, own_code, op_code, tells_next}
+use Rattle.ec_select_operations.specs.Code.{called_code, linked_code, result_wanted}
+use Rattle.ec_select_routines.specs.Codes.{first_place, second_place, call_with_one, call_with_two}
 use Rattle.ec_select_operations.specs.Code.{ops_code}
 use Rattle.ec_select_operations.specs.Code.{work_location, answer_location, answer_code, by_kind, fixed_binary, fixed_unary}
 use Rattle.ec_select_operations.specs.Code.{is_on_integers, is_placed, placed_whole, placed_binary, keeps_number, is_brought, brought_code}
@@ -152,9 +154,13 @@ AcceptsLabels q k (return_from from) = ⊤
 AcceptsLabels q k (port_in to port index width) = ⊤
 AcceptsLabels q k (port_out from port index width) = ⊤
 
+-- and for the call of a routine
+abbrev pub AcceptsCalls : (AsmItem → Bool) → Linkage → PlainIr → Type 0
+AcceptsCalls q k i = (l : ℕ) → k.routine_of i ≡ Some l → q (CallTo l) ≡ true
+
 abbrev pub AllAccepted : (AsmItem → Bool) → Linkage → List PlainIr → Type 0
 AllAccepted q k [] = ⊤
-AllAccepted q k (i ∷ code) = AcceptsLabels q k i × AllAccepted q k code
+AllAccepted q k (i ∷ code) = AcceptsLabels q k i × AcceptsCalls q k i × AllAccepted q k code
 
 module _ (sizes : Sizes) where
   -- ---- families
@@ -824,67 +830,141 @@ module _ (sizes : Sizes) where
       wanted_few : (need : Need) (to : Option Temp) (t : Temp) → to ≡ Some t → wanted_result need to ≤ t.bytes
       wanted_few need to t e = rw e (omega arith)
 
-      pub operation_passes : (results : ℕ → ℕ) (f : ℕ) (called : List ℕ) (told telling : Option Told) (known : Option RightNumber) (need : Need)
+      own_passes : (results : ℕ → ℕ) (f : ℕ) (called : List ℕ) (told telling : Option Told) (known : Option RightNumber) (need : Need)
           (i : PlainIr)
           → IsCovered p results f called k.slots i → AcceptsLabels q k i
-          → list_all q (op_code p (home k.homes) k told telling known need i) ≡ true
-      operation_passes results f called told telling known need (constant t n) h a =
+          → list_all q (own_code p (home k.homes) k told telling known need i) ≡ true
+      own_passes results f called told telling known need (constant t n) h a =
           by_fit (constant_code (home k.homes t) (low_bytes 16 n) (wanted need t))
           (constant_fits sizes (home k.homes t) (low_bytes 16 n) (wanted need t) (low_home t (wanted need t) h (omega arith)))
-      operation_passes results f called told telling known need (copy to from) h a =
+      own_passes results f called told telling known need (copy to from) h a =
           let e = h.2 in
           by_fit (move_code (home k.homes from) (home k.homes to) (wanted need to))
           (move_fits (home k.homes from) (home k.homes to) (wanted need to) (low_home from (wanted need to) h.1 (omega arith))
           (low_home to (wanted need to) h.0 (omega arith)))
-      operation_passes results f called told telling known need (load_object t o offset) h a =
+      own_passes results f called told telling known need (load_object t o offset) h a =
           by_fit (banked_code (home_of p o) p.objects o offset (home k.homes t) t.bytes) (bank_fits (home_of p o) o offset t h.0 h.1)
-      operation_passes results f called told telling known need (store_object o offset t) h a =
+      own_passes results f called told telling known need (store_object o offset t) h a =
           by_fit (copy_code (home k.homes t) (object_location p.objects o offset) t.bytes)
           (copy_fits sizes (home k.homes t) (object_location p.objects o offset) t.bytes (at_home t h.0)
           (objects.scalars o offset t.bytes h.1))
-      operation_passes results f called told telling known need (binary_op op ty mode to x aty y bty) h a =
-          by_fit (op_code p (home k.homes) k told telling known need (binary_op op ty mode to x aty y bty))
+      own_passes results f called told telling known need (binary_op op ty mode to x aty y bty) h a =
+          by_fit (own_code p (home k.homes) k told telling known need (binary_op op ty mode to x aty y bty))
           (of_binary known telling op ty aty bty mode to x y (wanted need to) h (omega arith))
-      operation_passes results f called told telling known need (unary_op op ty mode to x) h a =
-          by_fit (op_code p (home k.homes) k told telling known need (unary_op op ty mode to x))
+      own_passes results f called told telling known need (unary_op op ty mode to x) h a =
+          by_fit (own_code p (home k.homes) k told telling known need (unary_op op ty mode to x))
           (of_unary op ty mode to x (wanted need to) h (omega arith))
-      operation_passes results f called told telling known need (conversion to ty mode x aty) h a =
-          by_fit (op_code p (home k.homes) k told telling known need (conversion to ty mode x aty))
+      own_passes results f called told telling known need (conversion to ty mode x aty) h a =
+          by_fit (own_code p (home k.homes) k told telling known need (conversion to ty mode x aty))
           (of_conversion ty aty mode to x (wanted need to) h (omega arith))
-      operation_passes results f called told telling known need (label l) h a = rw a refl
-      operation_passes results f called told telling known need (jump l) h a = rw a refl
-      operation_passes results f called told telling known need (branch_zero t l) h a = tested_passes told t (k.label_of l) h a
-      operation_passes results f called told telling known need (call_function g to) h a =
+      own_passes results f called told telling known need (label l) h a = rw a refl
+      own_passes results f called told telling known need (jump l) h a = rw a refl
+      own_passes results f called told telling known need (branch_zero t l) h a = tested_passes told t (k.label_of l) h a
+      own_passes results f called told telling known need (call_function g to) h a =
           call_passes results g to (wanted_result need to) (kept_need need (call_function g to)) h (wanted_few need to) a
-      operation_passes results f called told telling known need (return_from from) h a = return_passes results f k.is_main from h
-      operation_passes results f called told telling known need (address t o offset) h a =
+      own_passes results f called told telling known need (return_from from) h a = return_passes results f k.is_main from h
+      own_passes results f called told telling known need (address t o offset) h a =
           by_fit (addressed_code p o offset (home k.homes t) t.bytes (wanted need t))
           (addressed_fits sizes laws.pointers p o offset (home k.homes t) t.bytes (wanted need t) h.size
           (home_leaves k.homes k.slots room t h.result) (objects.offsets o offset h.declared h.is_object h.within))
-      operation_passes results f called told telling known need (field ptr space offset) h a =
+      own_passes results f called told telling known need (field ptr space offset) h a =
           let two = some_width space in let e = h.1 in
           by_fit (field_code (home k.homes ptr) offset)
           (field_fits sizes laws.pointers (home k.homes ptr) offset (low_home ptr 2 h.0 (omega (arith, two, e))))
-      operation_passes results f called told telling known need (load_at to ptr space) h a =
+      own_passes results f called told telling known need (load_at to ptr space) h a =
           let few = h.0.most in let e = h.1.1 in
           by_fit (load_code space (home k.homes ptr) (home k.homes to) to.bytes)
           (load_fits sizes laws.pointers space (home k.homes ptr) (home k.homes to) to.bytes (omega (arith, few))
           (low_leaves ptr (width space) h.1.0 (omega (arith, e))) (home_leaves k.homes k.slots room to h.0))
-      operation_passes results f called told telling known need (store_at ptr space from) h a =
+      own_passes results f called told telling known need (store_at ptr space from) h a =
           let few = h.0.most in let two = some_width space in let e = h.1.1 in
           by_fit (store_data_code (home k.homes from) (home k.homes ptr) from.bytes)
           (store_fits sizes laws.pointers (home k.homes from) (home k.homes ptr) from.bytes (omega (arith, few))
           (low_leaves ptr 2 h.1.0 (omega (arith, two, e))) (home_leaves k.homes k.slots room from h.0))
-      operation_passes results f called told telling known need (port_in to port index width) h a =
+      own_passes results f called told telling known need (port_in to port index width) h a =
           let there = option_map (home k.homes) index in
           by_fit (in_code there (home k.homes to) port width (wanted need to))
           (in_fits sizes there (home k.homes to) port width h.address h.one_two_four (index_fits index h.index_has)
           (low_home to width h.number h.within) (wanted need to) (low_home to (wanted need to) h.number (omega arith)))
-      operation_passes results f called told telling known need (port_out from port index width) h a =
+      own_passes results f called told telling known need (port_out from port index width) h a =
           let there = option_map (home k.homes) index in
           by_fit (out_code there (home k.homes from) port width)
           (out_fits sizes there (home k.homes from) port width h.address h.one_two_four (index_fits index h.index_has)
           (low_home from width h.number h.within))
+
+      -- a call of a routine: operands are brought to the work bytes, and the result from there
+      answer_passes : (code : List AsmItem) (to : Temp) (n : ℕ) → HasHome k.slots to → n ≤ to.bytes → list_all q code ≡ true
+          → list_all q (answer_code code (home k.homes to) n) ≡ true
+      answer_passes code to n h l c = by_count (n == 0) where
+        by_count : (none : Bool) → list_all q (if none then [] else code ++ copy_code answer_location (home k.homes to) n) ≡ true
+        by_count true = refl
+        by_count false =
+            let m = h.most in
+            joined q code (copy_code answer_location (home k.homes to) n) c
+            (by_fit (copy_code answer_location (home k.homes to) n)
+            (copy_fits sizes answer_location (home k.homes to) n (λ i b. room.work (40 + i) (omega arith)) (low_home to n h l)))
+
+      operand_passes : (x : Temp) (at : ℕ) → HasHome k.slots x → at ≤ 56
+          → list_all q (copy_code (home k.homes x) (InMemory 1280 at) x.bytes) ≡ true
+      operand_passes x at h within =
+          let m = h.most in
+          by_fit (copy_code (home k.homes x) (InMemory 1280 at) x.bytes)
+          (copy_fits sizes (home k.homes x) (InMemory 1280 at) x.bytes (at_home x h) (λ i b. room.work (at + i) (omega arith)))
+
+      one_passes : (x to : Temp) (l n : ℕ) → HasHome k.slots to → HasHome k.slots x → n ≤ to.bytes → q (CallTo l) ≡ true
+          → list_all q (answer_code (call_with_one (home k.homes x) x.bytes l) (home k.homes to) n) ≡ true
+      one_passes x to l n h i few c =
+          answer_passes (call_with_one (home k.homes x) x.bytes l) to n h few
+          (joined q (copy_code (home k.homes x) first_place x.bytes) (CallTo l ∷ []) (operand_passes x 48 i (omega arith)) (rw c refl))
+
+      two_pass : (x y to : Temp) (l n : ℕ) → HasHome k.slots to → HasHome k.slots x → HasHome k.slots y → n ≤ to.bytes
+          → q (CallTo l) ≡ true
+          → list_all q (answer_code (call_with_two (home k.homes x) (home k.homes y) x.bytes y.bytes l) (home k.homes to) n) ≡ true
+      two_pass x y to l n h i j few c =
+          answer_passes (call_with_two (home k.homes x) (home k.homes y) x.bytes y.bytes l) to n h few
+          (joined q (copy_code (home k.homes x) first_place x.bytes) (copy_code (home k.homes y) second_place y.bytes ++ CallTo l ∷ [])
+          (operand_passes x 48 i (omega arith))
+          (joined q (copy_code (home k.homes y) second_place y.bytes) (CallTo l ∷ []) (operand_passes y 56 j (omega arith)) (rw c refl)))
+
+      binary_homes : (x : Family) (to a b : Temp) (ty aty bty : PlainType) → IsBinary x k.slots to a b ty aty bty
+          → HasHome k.slots to × HasHome k.slots a × HasHome k.slots b
+      binary_homes (Combined op) to a b ty aty bty i = (i.result, i.left, i.right)
+      binary_homes (Compared r exchanged) to a b ty aty bty i = (i.result, i.left, i.right)
+      binary_homes Multiplied to a b ty aty bty i = (i.result, i.left, i.right)
+      binary_homes (Shifted up) to a b ty aty bty i = (i.0.result, i.0.left, i.0.count)
+      binary_homes (Divided r) to a b ty aty bty i = (i.0.result, i.0.left, i.0.right)
+
+      called_passes : (results : ℕ → ℕ) (f : ℕ) (called : List ℕ) (l : ℕ) (need : Need) (i : PlainIr)
+          → IsCovered p results f called k.slots i → q (CallTo l) ≡ true
+          → list_all q (called_code (home k.homes) l (result_wanted need i) i) ≡ true
+      called_passes results f called l need (binary_op op ty mode to a aty b bty) (inl i) c =
+          let h = binary_homes (family_of op) to a b ty aty bty i in
+          two_pass a b to l (wanted need to) h.0 h.1 h.2 (omega arith) c
+      called_passes results f called l need (binary_op op ty mode to a aty b bty) (inr (inl i)) c =
+          two_pass a b to l (wanted need to) i.result i.left i.right (omega arith) c
+      called_passes results f called l need (binary_op op ty mode to a aty b bty) (inr (inr i)) c =
+          two_pass a b to l (wanted need to) i.result i.left i.right (omega arith) c
+      called_passes results f called l need (unary_op op ty mode to a) (inl i) c =
+          one_passes a to l (wanted need to) i.result i.operand (omega arith) c
+      called_passes results f called l need (unary_op op ty mode to a) (inr i) c =
+          one_passes a to l (wanted need to) i.result i.operand (omega arith) c
+      called_passes results f called l need (conversion to ty mode a aty) (inl i) c =
+          one_passes a to l (wanted need to) i.result i.from (omega arith) c
+      called_passes results f called l need (conversion to ty mode a aty) (inr (inl i)) c =
+          one_passes a to l (wanted need to) i.result i.from (omega arith) c
+      called_passes results f called l need (conversion to ty mode a aty) (inr (inr i)) c =
+          one_passes a to l (wanted need to) i.result i.from (omega arith) c
+      called_passes results f called l need i h c = refl
+
+      pub operation_passes : (results : ℕ → ℕ) (f : ℕ) (called : List ℕ) (told telling : Option Told) (known : Option RightNumber)
+          (need : Need) (i : PlainIr) → IsCovered p results f called k.slots i → AcceptsLabels q k i → AcceptsCalls q k i
+          → list_all q (op_code p (home k.homes) k told telling known need i) ≡ true
+      operation_passes results f called told telling known need i h a c = by_routine (k.routine_of i) refl where
+        by_routine : (r : Option ℕ) → k.routine_of i ≡ r
+            → list_all q (linked_code r (λ l. called_code (home k.homes) l (result_wanted need i) i)
+            (own_code p (home k.homes) k told telling known need i)) ≡ true
+        by_routine None e = own_passes results f called told telling known need i h a
+        by_routine (Some l) e = called_passes results f called l need i h (c l e)
 
       -- all operations
 
@@ -895,5 +975,5 @@ module _ (sizes : Sizes) where
       operations_pass results f called at told (i ∷ code) h a =
           joined q (op_code p (home k.homes) k told (tells_next at i code) (at.known (i ∷ code)) (needs at code) i)
           (ops_code p (home k.homes) k at (tells_next at i code) code)
-          (operation_passes results f called told (tells_next at i code) (at.known (i ∷ code)) (needs at code) i h.0 a.0)
-          (operations_pass results f called at (tells_next at i code) code h.1 a.1)
+          (operation_passes results f called told (tells_next at i code) (at.known (i ∷ code)) (needs at code) i h.0 a.0 a.1)
+          (operations_pass results f called at (tells_next at i code) code h.1 a.2)

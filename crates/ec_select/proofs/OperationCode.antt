@@ -50,11 +50,11 @@ use Rattle.ec_select.proofs.Setting.{all_at, function_valid}
 
 -- ---- types
 
-abbrev IsIntegerType : PlainType → Type 0
+abbrev pub IsIntegerType : PlainType → Type 0
 IsIntegerType (integer signed bytes) = ⊤
 IsIntegerType ty = ⊥
 
-as_integer : (ty : PlainType) → IsIntegerType ty → (s : Bool) × (n : ℕ) × (ty ≡ integer s n)
+pub as_integer : (ty : PlainType) → IsIntegerType ty → (s : Bool) × (n : ℕ) × (ty ≡ integer s n)
 as_integer (integer s n) h = (s, n, refl)
 as_integer void h = absurd h
 as_integer (fixed kind sat) h = absurd h
@@ -88,7 +88,7 @@ arithmetic_no_pointer (pointer s k t) P h = absurd h
 arithmetic_no_pointer (array of n) P h = absurd h
 arithmetic_no_pointer (struct n) P h = absurd h
 
-both_false : (a b : Bool) → (a || b) ≡ false → (a ≡ false) × (b ≡ false)
+pub both_false : (a b : Bool) → (a || b) ≡ false → (a ≡ false) × (b ≡ false)
 both_false false b h = (refl, h)
 both_false true b h = absurd (false≢true (sym h))
 
@@ -123,7 +123,7 @@ integer_result op (array of k) s t n m h = absurd h
 integer_result op (struct k) s t n m h = absurd h
 
 -- so the result of an operator on integers is one
-result_integer : (op : BinOp) (ty aty bty : PlainType) → IsIntegerType aty → IsIntegerType bty
+pub result_integer : (op : BinOp) (ty aty bty : PlainType) → IsIntegerType aty → IsIntegerType bty
     → HaveOperationTypes op ty aty bty → IsIntegerType ty
 result_integer op ty aty bty i j (inr h) = subst (λ (x : PlainType). IsIntegerType x) (sym h.value) i
 result_integer op ty aty bty i j (inl h) =

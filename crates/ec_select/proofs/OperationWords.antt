@@ -1,8 +1,7 @@
 -- The words of operations' code.
 use Rattle.std.proofs.Common.{◌≡◌, ◌⊎◌, ℕ, zero, suc, ◌+◌, ◌-◌, ◌*◌, ◌≤◌, ◌==◌, Bool, true, false, not, List, [], ◌∷◌, ◌++◌}
 use Rattle.std.proofs.Common.{◌%◌, refl, sym, ap, ◌∙◌, subst, arith, leb-true, eqb-true, inl, inr}
-use Rattle.std.specs.Prelude.{⊤, min, nat_le, ◌&&◌, ◌||◌, if◌then◌else◌, Option, Some, None, option_map, ℤ}
-use Rattle.std.specs.List.{AllByRecursion}
+use Rattle.std.specs.Prelude.{⊤, min, nat_le, ◌&&◌, ◌||◌, if◌then◌else◌, Option, Some, None}
 use Rattle.std.proofs.Math.Nat.{mul-le-mul_left}
 use Rattle.std.proofs.lemmas.Bool.{le-leb, false≢true, and_parts}
 use Rattle.std.proofs.lemmas.Bool.Decides.{nat_tests}
@@ -15,7 +14,7 @@ use Rattle.ec_asm.specs.declared.pieces.Operator.{Operator}
 use Rattle.ec_asm.specs.declared.pieces.Operator.TheVariants.{Sum, Difference, BitAnd, BitOr, BitXor}
 use Rattle.ec_asm.specs.declared.pieces.Operator.TheVariants.{BitAnd, BitOr, BitXor}
 use Rattle.ec_asm.specs.Items.{chain, code_words}
-use Rattle.ec_asm.specs.Pieces.{copy_code, operate_code, compare_code}
+use Rattle.ec_asm.specs.Pieces.{operate_code, compare_code}
 use Rattle.ec_asm.specs.Pieces.{is_bitwise as is_bitwise_operator}
 use Rattle.ec_core.specs.declared.expressions.BinOp.{BinOp}
 use Rattle.ec_core.specs.declared.expressions.BinOp.TheVariants.{Add, Sub, Mul, Div, Rem, And, Or, Xor, Lt, Gt, Le, Ge}
@@ -28,13 +27,9 @@ use Rattle.ec_core.specs.Operators.{same_type}
 use Rattle.ec_core.specs.Plain.{PlainType, integer, fixed, PlainObject, PlainProgram}
 use Rattle.ec_core.specs.Words.{widest, operation_words}
 use Rattle.ec_ir.specs.declared.operations.Temp.{Temp}
-use Rattle.ec_ir.specs.Costs.{op_words, index_words, is_integer, is_bitwise, binary_words, unary_words}
+use Rattle.ec_ir.specs.Costs.{is_integer, is_bitwise, binary_words, unary_words}
 use Rattle.ec_ir.specs.Costs.{conversion_words}
 use Rattle.ec_ir.specs.Costs.{temp_bytes}
-use Rattle.ec_ir.specs.Costs.{code_words as operations_words}
-use Rattle.ec_ir.specs.Operations.{PlainIr, constant, copy, address, field, load_at, store_at, load_object}
-use Rattle.ec_ir.specs.Operations.{store_object, binary_op, unary_op, conversion, label, jump, branch_zero}
-use Rattle.ec_ir.specs.Operations.{call_function, return_from, port_in, port_out}
 use Rattle.ec_ir.specs.Temporaries.{low_bytes}
 use Rattle.ec_fx.specs.declared.numbers.Mode.{Mode}
 use Rattle.ec_select_fixed.specs.Codes.{fixed_binary_code, fixed_unary_code, fixed_conversion_code}
@@ -77,8 +72,7 @@ use Rattle.ec_select_operations.specs.Code.{divided_code, binary_code, turn_code
 use Rattle.ec_select_operations.specs.Code.{place_register}
 use Rattle.ec_select_operations.specs.Code.{kept_bytes, save_place, restore_place, register_places, save_code}
 use Rattle.ec_select_operations.specs.Code.{restore_code, taken_code, call_code, result_code, return_code}
-use Rattle.ec_select_operations.specs.Code.{flag_code, operator_code, tested_code, kept_need, op_code, tells_next}
-use Rattle.ec_select_operations.specs.Code.{ops_code}
+use Rattle.ec_select_operations.specs.Code.{flag_code, operator_code, tested_code}
 use Rattle.ec_select_operations.specs.Code.{work_location, answer_location, answer_code, by_kind, fixed_binary, fixed_unary}
 use Rattle.ec_select_operations.specs.Code.{is_on_integers, has_one_format, takes_place, is_placed, placed_whole, placed_binary}
 use Rattle.ec_select_operations.specs.Code.{keeps_number, is_brought, brought_code, negated_unary}
@@ -86,7 +80,7 @@ use Rattle.ec_select_fixed.specs.Types.{format_in}
 use Rattle.ec_select_operations.specs.Code.{fixed_conversion, addressed_code, load_code, banked_code, offset_code}
 use Rattle.ec_select_operations.specs.Code.{pointers_code}
 use Rattle.ec_select_operations.specs.Code.{is_difference, pointer_binary, pointer_conversion}
-use Rattle.ec_select_functions.specs.Covered.{IsBinary, IsUnary, IsCovered, AreCovered}
+use Rattle.ec_select_functions.specs.Covered.{IsBinary, IsUnary}
 use Rattle.ec_select_functions.specs.Covered.{IsFixedBinary, IsFixedUnary, AreConverted, IsFixedConversion}
 use Rattle.ec_select_functions.specs.Covered.{IsPointerBinary, IsPointerConversion}
 use Rattle.ec_select_functions.proofs.OnIntegers.{whole_type}
@@ -99,11 +93,10 @@ use Rattle.ec_select_numbers.specs.ByNumber.{compared_code as compared_with_code
 use Rattle.ec_select_numbers.specs.Laws.{NumbersAreStraight}
 use Rattle.ec_select_operations.specs.Code.{taking_code, integer_binary, by_number_code, changed_by_code}
 use Rattle.ec_ir_known.specs.declared.known.RightNumber.{RightNumber}
-use Rattle.ec_select_operations.specs.Needs.{Need, Facts, wanted, wanted_result, needs, is_fixed, number_taken, compared_bytes as bytes_compared}
+use Rattle.ec_select_operations.specs.Needs.{Need, wanted, wanted_result, is_fixed, number_taken, compared_bytes as bytes_compared}
 use Rattle.ec_select.proofs.ByNumber.{changed_by_words, compared_with_words}
 use Rattle.ec_select_operations.specs.Places.{object_location}
 use Rattle.ec_select_operations.specs.Pointers.{is_pointer, is_into_data, home_of, tag_in, IsPointerSize}
-use Rattle.ec_select.specs.InPlace.{IsInPlace}
 use Rattle.ec_select.proofs.FixedItems.{answer_words, own_words, others_words}
 use Rattle.ec_select.proofs.Carried.{carried_words}
 use Rattle.ec_select.proofs.InPlace.{placed_words, placed_not_bitwise}
@@ -113,7 +106,6 @@ use Rattle.ec_select.proofs.Fitting.{and_first, and_second}
 use Rattle.ec_select.proofs.PointerItems.{tagged, few_compared}
 use Rattle.ec_select.proofs.PointerTypes.{two_pointers, pointers_only, pointer_converted, no_pointer, none_pointed}
 use Rattle.ec_select.proofs.Words.{joined_words, chained_words, copy_words_most, transfer_words_most, save_words_most, load_words_most}
-use Rattle.ec_select.proofs.PortItems.{point_words, in_words_most, out_words_most}
 use Rattle.ec_select.proofs.Words.{operate_words_most, quotient_words}
 
 -- the words of the pieces, by the crates below
@@ -133,7 +125,7 @@ pub record WordLaws : Type 0 where
   pub elements : ElementsAreShort
   pub numbers : NumbersAreStraight
 
-move_words : (p q : Location) (n : ℕ) → code_words (move_code p q n) ≤ 4 * n
+pub move_words : (p q : Location) (n : ℕ) → code_words (move_code p q n) ≤ 4 * n
 move_words p q n = by_place (same_location p q) where
   by_place : (same : Bool) → code_words (if same then [] else transfer_code p q n) ≤ 4 * n
   by_place true = omega arith
@@ -149,7 +141,7 @@ kept_words : (p q : Location) (n : ℕ) → p ≡ q → code_words (move_code p 
 kept_words p q n e =
     let s : same_location p q ≡ true = subst (λ r. same_location p r ≡ true) e (same_place p) in rw s refl
 
-unless_none : (n most : ℕ) (code : List AsmItem) → code_words code ≤ most → code_words (if n == 0 then [] else code) ≤ most
+pub unless_none : (n most : ℕ) (code : List AsmItem) → code_words code ≤ most → code_words (if n == 0 then [] else code) ≤ most
 unless_none n most code h = by_count (n == 0) where
   by_count : (none : Bool) → code_words (if none then [] else code) ≤ most
   by_count true = omega arith
@@ -160,7 +152,7 @@ at_least_one : (b : ℕ) → 1 ≤ b → b ≤ b * b
 at_least_one b h = let m = mul-le-mul_left b h in omega (arith, m)
 
 module _ (laws : WordLaws) where
-  convert_words : (signed : Bool) (p q : Location) (bytes n : ℕ)
+  pub convert_words : (signed : Bool) (p q : Location) (bytes n : ℕ)
       → code_words (conversion_code signed p q bytes n) ≤ 6 * n + 4
   convert_words signed p q bytes n =
       let a = move_words p q (min n bytes) in let b = (laws.values q 0 bytes n).2 signed in
@@ -183,11 +175,11 @@ module _ (laws : WordLaws) where
   turn_words_few Left (InMemory o k) n = omega arith
   turn_words_few (Right signed) (InMemory o k) n = omega arith
 
-  turn_most : (op : UnOp) (p : Location) (n : ℕ) → code_words (turn_code op p n) ≤ 1 + 10 * n
+  pub turn_most : (op : UnOp) (p : Location) (n : ℕ) → code_words (turn_code op p n) ≤ 1 + 10 * n
   turn_most Minus p n = (laws.complements p n).1
   turn_most Invert p n = let a = (laws.complements p n).0 in omega (arith, a)
 
-  shift_most : (s : Direction) (a b to : Location) (n : ℕ) → code_words (turned_code s a b to n) ≤ 11 * n + 7
+  pub shift_most : (s : Direction) (a b to : Location) (n : ℕ) → code_words (turned_code s a b to n) ≤ 11 * n + 7
   shift_most s a b to n =
       let x = move_words a to n in let y = move_words b (InRegisters 30) 1 in let z = laws.shifts s to n in
       let w = turn_words_few s to n in
@@ -224,7 +216,7 @@ module _ (laws : WordLaws) where
       let y = operate_words_most Difference a to n in let z = (laws.complements to n).1 in
       omega (arith, joined_words (operate_code Difference a to n) (negation_code to n), y, z)
 
-  combined_most : (op : Operator) (a b to : Location) (n : ℕ) → code_words (combined_code op a b to n) ≤ 17 * n + 1
+  pub combined_most : (op : Operator) (a b to : Location) (n : ℕ) → code_words (combined_code op a b to n) ≤ 17 * n + 1
   combined_most op a b to n = by_place (same_location b to) where
     by_place : (same : Bool)
         → code_words (if same then reversed_code op a to n else move_code a to n ++ operate_code op b to n) ≤ 17 * n + 1
@@ -415,7 +407,7 @@ module _ (laws : WordLaws) where
   brought_words h to a n same bytes =
       let e : home h a ≡ home h to = rw (bytes, ← same) refl in kept_words (home h a) (home h to) n e
 
-  taking_most : (known : Option RightNumber) (telling : Option Told) (op : BinOp) (slots : ℕ) (h : Homes) (to a b : Temp)
+  pub taking_most : (known : Option RightNumber) (telling : Option Told) (op : BinOp) (slots : ℕ) (h : Homes) (to a b : Temp)
       (ty aty bty : PlainType) (left right : Bool) (n : ℕ) → IsBinary (family_of op) slots to a b ty aty bty → n ≤ to.bytes
       → (is_bitwise op ≡ true → to.at ≡ a.at)
       → code_words (integer_binary known telling op left right (home h a) (home h b) (home h to) a.bytes n)
@@ -544,7 +536,7 @@ module _ (laws : WordLaws) where
 
   -- ---- other operations
 
-  unary_most : (op : UnOp) (slots : ℕ) (p q : Location) (to a : Temp) (ty : PlainType) (n : ℕ) → IsUnary slots to a ty
+  pub unary_most : (op : UnOp) (slots : ℕ) (p q : Location) (to a : Temp) (ty : PlainType) (n : ℕ) → IsUnary slots to a ty
       → n ≤ to.bytes → code_words (unary_code op p q n) ≤ unary_words ty
   unary_most op slots p q to a ty n h l =
       let x = move_words p q n in let y = turn_most op q n in
@@ -560,26 +552,26 @@ module _ (laws : WordLaws) where
 
   -- ---- operations on pointers
 
-  addressed_most : (p : PlainProgram) (o offset : ℕ) (q : Location) (bytes n : ℕ) → IsPointerSize bytes
+  pub addressed_most : (p : PlainProgram) (o offset : ℕ) (q : Location) (bytes n : ℕ) → IsPointerSize bytes
       → code_words (addressed_code p o offset q bytes n) ≤ 5 * bytes
   addressed_most p o offset q bytes n size =
       let tag = tag_in bytes (home_of p o) in
       let x = (laws.pointers o offset tag q q 0).0 in let y = (tagged bytes (home_of p o) size).bytes_are in
       unless_none n (5 * bytes) (address_code o offset tag q) (omega (arith, x, y))
 
-  load_most : (space : SpaceId) (p q : Location) (n : ℕ) → code_words (load_code space p q n) ≤ 9 + 6 * n
+  pub load_most : (space : SpaceId) (p q : Location) (n : ℕ) → code_words (load_code space p q n) ≤ 9 + 6 * n
   load_most Flash p q n = let x = (laws.pointers 0 0 None p q n).3 in omega (arith, x)
   load_most Data p q n = let x = (laws.pointers 0 0 None p q n).2 in omega (arith, x)
   load_most FarFlash p q n = let x = (laws.pointers 0 0 None p q n).3 in omega (arith, x)
   load_most Generic p q n = (laws.pointers 0 0 None p q n).4
 
-  bank_most : (bank : Bank) (objects : List PlainObject) (o offset : ℕ) (q : Location) (n : ℕ) → 1 ≤ n
+  pub bank_most : (bank : Bank) (objects : List PlainObject) (o offset : ℕ) (q : Location) (n : ℕ) → 1 ≤ n
       → code_words (banked_code bank objects o offset q n) ≤ 5 * n
   bank_most FlashBank objects o offset q n some = let x = (laws.tables o offset q n).2 in omega (arith, x, some)
   bank_most DataBank objects o offset q n some =
       let x = copy_words_most (object_location objects o offset) q n in omega (arith, x)
 
-  offset_most : (minus signed : Bool) (a b c : Location) (bytes index_bytes size n : ℕ)
+  pub offset_most : (minus signed : Bool) (a b c : Location) (bytes index_bytes size n : ℕ)
       → code_words (offset_code minus signed a b c bytes index_bytes size n) ≤ 4 * bytes + 38
   offset_most minus signed a b c bytes index_bytes size n =
       let scale = scale_index_code b signed index_bytes (size % 65536) in
@@ -596,7 +588,7 @@ module _ (laws : WordLaws) where
         z,
       ))
 
-  pointers_most : (family : Family) (a b c : Location) (bytes size n : ℕ) → 2 ≤ bytes → n ≤ 8
+  pub pointers_most : (family : Family) (a b c : Location) (bytes size n : ℕ) → 2 ≤ bytes → n ≤ 8
       → code_words (pointers_code family a b c bytes size n) ≤ 5 * bytes + 64
   pointers_most (Combined op) a b c bytes size n some l =
       let x = (laws.elements a b c size).words_are in
@@ -611,7 +603,7 @@ module _ (laws : WordLaws) where
   pointers_most (Shifted up) a b c bytes size n some l = omega arith
   pointers_most (Divided r) a b c bytes size n some l = omega arith
 
-  pointer_binary_most : (p : PlainProgram) (op : BinOp) (slots : ℕ) (h : Homes) (to a b : Temp) (ty aty bty : PlainType)
+  pub pointer_binary_most : (p : PlainProgram) (op : BinOp) (slots : ℕ) (h : Homes) (to a b : Temp) (ty aty bty : PlainType)
       (n : ℕ) → IsPointerBinary p slots op to a b ty aty bty → n ≤ to.bytes
       → code_words (pointer_binary (is_pointer aty) (is_pointer bty) p op aty bty (home h a) (home h b) (home h to)
       a.bytes b.bytes n) ≤ binary_words op ty aty bty
@@ -649,7 +641,7 @@ module _ (laws : WordLaws) where
         (let w = right_within in omega (arith, m, w))
     by_kinds false false d e = omega arith
 
-  pointer_conversion_most : (slots : ℕ) (h : Homes) (to a : Temp) (ty aty : PlainType) (n : ℕ)
+  pub pointer_conversion_most : (slots : ℕ) (h : Homes) (to a : Temp) (ty aty : PlainType) (n : ℕ)
       → IsPointerConversion slots to a ty aty → n ≤ to.bytes
       → code_words (pointer_conversion aty (home h a) (home h to) a.bytes to.bytes n) ≤ conversion_words ty aty
   pointer_conversion_most slots h to a ty aty n i l = by_bytes (a.bytes == 2 && to.bytes == 3) refl where
@@ -668,7 +660,7 @@ module _ (laws : WordLaws) where
 
   -- ---- operations with a fixed-point type
 
-  fixed_binary_most : (telling : Option Told) (op : BinOp) (ty aty bty : PlainType) (mode : Mode) (slots : ℕ) (h : Homes)
+  pub fixed_binary_most : (telling : Option Told) (op : BinOp) (ty aty bty : PlainType) (mode : Mode) (slots : ℕ) (h : Homes)
       (to a b : Temp) (n : ℕ) → IsFixedBinary slots op to a b ty aty bty → n ≤ to.bytes
       → code_words (fixed_binary telling op ty aty bty mode (home h a) (home h b) (home h to) a.bytes n)
       ≤ binary_words op ty aty bty
@@ -719,7 +711,7 @@ module _ (laws : WordLaws) where
           omega (arith, most, words)
       by_code false on = by_stop stops refl
 
-  fixed_unary_most : (op : UnOp) (ty : PlainType) (mode : Mode) (slots : ℕ) (h : Homes) (to a : Temp) (n : ℕ)
+  pub fixed_unary_most : (op : UnOp) (ty : PlainType) (mode : Mode) (slots : ℕ) (h : Homes) (to a : Temp) (n : ℕ)
       → IsFixedUnary slots op to a ty → n ≤ to.bytes
       → code_words (fixed_unary op ty mode (home h a) (home h to) n) ≤ unary_words ty
   fixed_unary_most op ty mode slots h to a n i l = by_mode mode.saturate
@@ -751,7 +743,7 @@ module _ (laws : WordLaws) where
           (record { signed = false; result_type = refl; result = i.result; operand = i.operand; same_bytes = same }) l in
           omega (arith, most, bytes)
 
-  fixed_conversion_most : (ty aty : PlainType) (mode : Mode) (slots : ℕ) (h : Homes) (to a : Temp) (n : ℕ)
+  pub fixed_conversion_most : (ty aty : PlainType) (mode : Mode) (slots : ℕ) (h : Homes) (to a : Temp) (n : ℕ)
       → IsFixedConversion slots to a ty aty → n ≤ to.bytes
       → code_words (fixed_conversion ty aty mode (home h a) (home h to) a.bytes n) ≤ conversion_words ty aty
   fixed_conversion_most ty aty mode slots h to a n i l = by_number (keeps_number ty aty mode) refl
@@ -784,7 +776,7 @@ module _ (laws : WordLaws) where
 
   -- ---- operations on integers, with a fixed-point type, or on pointers
 
-  one_binary : (p : PlainProgram) (known : Option RightNumber) (telling : Option Told) (op : BinOp) (ty aty bty : PlainType) (mode : Mode) (slots : ℕ)
+  pub one_binary : (p : PlainProgram) (known : Option RightNumber) (telling : Option Told) (op : BinOp) (ty aty bty : PlainType) (mode : Mode) (slots : ℕ)
       (h : Homes) (to a b : Temp) (n : ℕ)
       → IsBinary (family_of op) slots to a b ty aty bty
       ⊎ (IsFixedBinary slots op to a b ty aty bty ⊎ IsPointerBinary p slots op to a b ty aty bty)
@@ -825,7 +817,7 @@ module _ (laws : WordLaws) where
       (own_words (is_pointer aty || is_pointer bty) pointed usual most i.pointer
       (pointer_binary_most p op slots h to a b ty aty bty n i l))
 
-  one_unary : (op : UnOp) (ty : PlainType) (mode : Mode) (slots : ℕ) (h : Homes) (to a : Temp) (n : ℕ)
+  pub one_unary : (op : UnOp) (ty : PlainType) (mode : Mode) (slots : ℕ) (h : Homes) (to a : Temp) (n : ℕ)
       → IsUnary slots to a ty ⊎ IsFixedUnary slots op to a ty → n ≤ to.bytes
       → code_words (by_kind (is_fixed ty) (fixed_unary op ty mode (home h a) (home h to) n) (unary_code op (home h a) (home h to) n))
       ≤ unary_words ty
@@ -836,7 +828,7 @@ module _ (laws : WordLaws) where
       own_words (is_fixed ty) (fixed_unary op ty mode (home h a) (home h to) n) (unary_code op (home h a) (home h to) n)
       (unary_words ty) (type_fixed ty i.types.fixed) (fixed_unary_most op ty mode slots h to a n i l)
 
-  one_conversion : (ty aty : PlainType) (mode : Mode) (slots : ℕ) (h : Homes) (to a : Temp) (n : ℕ)
+  pub one_conversion : (ty aty : PlainType) (mode : Mode) (slots : ℕ) (h : Homes) (to a : Temp) (n : ℕ)
       → AreConverted slots to a ty aty ⊎ (IsFixedConversion slots to a ty aty ⊎ IsPointerConversion slots to a ty aty)
       → n ≤ to.bytes
       → code_words (by_kind (is_fixed ty || is_fixed aty) (fixed_conversion ty aty mode (home h a) (home h to) a.bytes n)
@@ -874,7 +866,7 @@ module _ (laws : WordLaws) where
       let x = (laws.values p 0 bytes bytes).1 in
       omega (arith, joined_words (test_code p bytes) (BranchTo true 1 l ∷ []), x)
 
-  tested_most : (told : Option Told) (p : Location) (bytes l : ℕ) → code_words (tested_code told p bytes l) ≤ 6 + 3 * bytes
+  pub tested_most : (told : Option Told) (p : Location) (bytes l : ℕ) → code_words (tested_code told p bytes l) ≤ 6 + 3 * bytes
   tested_most None p bytes l = branch_most p bytes l
   tested_most (Some told) p bytes l = omega arith
 
@@ -931,7 +923,7 @@ module _ (laws : WordLaws) where
   taken_most home (Some t) need =
       let a = move_words (result_location t.bytes) (home t) (wanted need t) in omega (arith, a)
 
-  call_most : (home : Temp → Location) (k : Linkage) (f : ℕ) (to : Option Temp) (need kept : Need)
+  pub call_most : (home : Temp → Location) (k : Linkage) (f : ℕ) (to : Option Temp) (need kept : Need)
       → (k.homes.width ≡ 2) ⊎ (k.homes.width ≡ 4)
       → code_words (call_code home k f to (wanted_result need to) kept) ≤ 60 + 5 * temp_bytes to
   call_most home k f to need kept w =
@@ -954,70 +946,8 @@ module _ (laws : WordLaws) where
   brought_most home is_main (Some t) =
       let a = move_words (home t) (result_location t.bytes) t.bytes in omega (arith, a)
 
-  return_most : (home : Temp → Location) (is_main : Bool) (from : Option Temp)
+  pub return_most : (home : Temp → Location) (is_main : Bool) (from : Option Temp)
       → code_words (return_code home is_main from) ≤ 40 + 5 * temp_bytes from
   return_most home is_main from =
       let a = brought_most home is_main from in
       omega (arith, joined_words (result_code home is_main from) (Plain Ret ∷ []), a)
-
-  -- ---- all operations of a function
-
-  module _ (p : PlainProgram) (results : ℕ → ℕ) (f : ℕ) (called : List ℕ) (k : Linkage)
-      (width : (k.homes.width ≡ 2) ⊎ (k.homes.width ≡ 4)) where
-    index_row : (h : Homes) (index : Option Temp) → point_words (option_map (home h) index) ≤ index_words index
-    index_row h None = omega arith
-    index_row h (Some t) = omega arith
-
-    operation_most : (told telling : Option Told) (known : Option RightNumber) (need : Need) (i : PlainIr) → IsCovered p results f called k.slots i
-        → IsInPlace i → code_words (op_code p (home k.homes) k told telling known need i) ≤ op_words i
-    operation_most told telling known need (constant t n) h q =
-        let a = (laws.values (home k.homes t) (low_bytes 16 n) (wanted need t) (wanted need t)).0 in omega (arith, a)
-    operation_most told telling known need (copy to from) h q =
-        let a = move_words (home k.homes from) (home k.homes to) (wanted need to) in omega (arith, a)
-    operation_most told telling known need (load_object t o offset) h q =
-        bank_most (home_of p o) p.objects o offset (home k.homes t) t.bytes h.0.some
-    operation_most told telling known need (store_object o offset t) h q =
-        let a = copy_words_most (home k.homes t) (object_location p.objects o offset) t.bytes in omega (arith, a)
-    operation_most told telling known need (binary_op op ty mode to a aty b bty) h q =
-        one_binary p known telling op ty aty bty mode k.slots k.homes to a b (wanted need to) h (omega arith) q
-    operation_most told telling known need (unary_op op ty mode to a) h q =
-        one_unary op ty mode k.slots k.homes to a (wanted need to) h (omega arith)
-    operation_most told telling known need (conversion to ty mode a aty) h q =
-        one_conversion ty aty mode k.slots k.homes to a (wanted need to) h (omega arith)
-    operation_most told telling known need (label l) h q = omega arith
-    operation_most told telling known need (jump l) h q = omega arith
-    operation_most told telling known need (branch_zero t l) h q = tested_most told (home k.homes t) t.bytes (k.label_of l)
-    operation_most told telling known need (call_function g to) h q =
-        call_most (home k.homes) k g to need (kept_need need (call_function g to)) width
-    operation_most told telling known need (return_from from) h q = return_most (home k.homes) k.is_main from
-    operation_most told telling known need (address t o offset) h q =
-        addressed_most p o offset (home k.homes t) t.bytes (wanted need t) h.size
-    operation_most told telling known need (field ptr space offset) h q =
-        let a = (laws.pointers 0 offset None (home k.homes ptr) (home k.homes ptr) 0).1 in omega (arith, a)
-    operation_most told telling known need (load_at to ptr space) h q =
-        let a = load_most space (home k.homes ptr) (home k.homes to) to.bytes in omega (arith, a)
-    operation_most told telling known need (store_at ptr space from) h q =
-        let a = (laws.pointers 0 0 None (home k.homes from) (home k.homes ptr) from.bytes).5 in omega (arith, a)
-    operation_most told telling known need (port_in to port index width) h q =
-        let x =
-        in_words_most laws.values (option_map (home k.homes) index) (home k.homes to) port width
-        (wanted need to) to.bytes h.one_two_four (omega arith) in
-        let y = index_row k.homes index in omega (arith, x, y)
-    operation_most told telling known need (port_out from port index width) h q =
-        let x = out_words_most (option_map (home k.homes) index) (home k.homes from) port width in
-        let y = index_row k.homes index in omega (arith, x, y)
-
-    pub operations_most : (at : Facts) (told : Option Told) (code : List PlainIr) → AreCovered p results f called k.slots code
-        → AllByRecursion IsInPlace code
-        → code_words (ops_code p (home k.homes) k at told code) ≤ operations_words code
-    operations_most at told [] h q = omega arith
-    operations_most at told (i ∷ code) h q =
-        let next = tells_next at i code in
-        let a = operation_most told next (at.known (i ∷ code)) (needs at code) i h.0 q.0 in let b = operations_most at next code h.1 q.1 in
-        omega (
-          arith,
-          joined_words (op_code p (home k.homes) k told next (at.known (i ∷ code)) (needs at code) i)
-              (ops_code p (home k.homes) k at next code),
-          a,
-          b,
-        )

@@ -7,32 +7,36 @@ use Rattle.std.proofs.lemmas.List.{take_all}
 use Rattle.ec_space.specs.declared.space.Home.{Home}
 use Rattle.ec_space.specs.declared.space.Home.TheVariants.{Data as DataHome, Flash as FlashHome, Far as FarHome}
 use Rattle.ec_asm.specs.declared.items.AsmItem.TheVariants.{Label}
-use Rattle.ec_asm.specs.Items.{chain, code_words}
+use Rattle.ec_asm.specs.Items.{code_words}
 use Rattle.ec_core.specs.Layout.{size_of_type}
 use Rattle.ec_core.specs.Plain.{PlainStorage, static, local, param, register, PlainObject, PlainStruct}
 use Rattle.ec_core.specs.Weight.{object_weight, objects_weight}
 use Rattle.ec_core.specs.Words.{program_words}
 use Rattle.ec_ir.specs.Costs.{functions_words}
-use Rattle.ec_ir.specs.Costs.{code_words as operations_words}
-use Rattle.ec_ir.specs.Operations.{PlainIrFunction, PlainIrProgram, data_of}
-use Rattle.ec_ir.specs.Valid.{ValidIr, called_in}
-use Rattle.ec_select_operations.specs.Code.{ops_code}
-use Rattle.ec_select_operations.specs.Homes.{home}
-use Rattle.ec_select_functions.specs.Laws.{linkage_of}
-use Rattle.ec_select_operations.specs.Needs.{Need, facts_of}
+use Rattle.ec_ir.specs.Operations.{PlainIr, PlainIrFunction, PlainIrProgram}
+use Rattle.ec_ir.specs.Valid.{ValidIr}
+use Rattle.ec_ir_shapes.specs.Costs.{functions_words_by_shapes}
+use Rattle.ec_core_shapes.specs.Shapes.{Shape}
+use Rattle.ec_select_routines.proofs.Sizes.{sizes_decide}
+use Rattle.ec_select_operations.specs.Needs.{Need}
 use Rattle.ec_select_startup.specs.Laws.{StartupHasWords}
 use Rattle.ec_select_startup.specs.Startup.{startup_code}
 use Rattle.ec_select_startup.specs.declared.spans.Span.{Span}
 use Rattle.ec_select.specs.InPlace.{IsInPlace, AreInPlace}
 use Rattle.ec_select.specs.Labels.{entry_label, function_label}
 use Rattle.ec_select.specs.Laws.{SelectionsHaveWords}
-use Rattle.ec_select.specs.Program.{has_initial_bytes, span_of, spans_from, spans_of, made_with, code_of}
+use Rattle.ec_select.specs.Program.{has_initial_bytes, span_of, spans_from, spans_of}
 use Rattle.ec_select.specs.Program.{functions_code}
 use Rattle.ec_select.specs.Program.{program_code}
 use Rattle.ec_select.specs.Selected.{HasCode}
+use Rattle.ec_select.specs.Sharing.{Use, routines_code}
 use Rattle.ec_select.proofs.Words.{joined_words}
-use Rattle.ec_select.proofs.OperationWords.{WordLaws, operations_most}
-use Rattle.ec_select.proofs.Setting.{all_at, has_room}
+use Rattle.ec_select.proofs.AlikeWords.{has_operand_types}
+use Rattle.ec_select.proofs.LinkedWords.{RoutineLaws}
+use Rattle.ec_select.proofs.OperationWords.{WordLaws}
+use Rattle.ec_select.proofs.Setting.{all_at, function_valid}
+use Rattle.ec_select.proofs.SharedProgram.{IsCounted, shared_few, shared_short}
+use Rattle.ec_select.proofs.UseWords.{has_type_bytes}
 
 -- ---- spans
 
@@ -60,69 +64,55 @@ spans_few structs o (d ∷ ds) =
     let a = span_few structs o d in let b = spans_few structs (o + 1) ds in
     omega (arith, length-append (span_of structs o d) (spans_from structs (o + 1) ds), a, b)
 
--- ---- functions
+-- ---- operations
 
--- the words of the operations of a function, if there is one
-words_at : Option PlainIrFunction → ℕ
-words_at None = 0
-words_at (Some g) = operations_words g.code
+each_of : {P Q : PlainIr → Type 0} → ((i : PlainIr) → P i → Q i) → (code : List PlainIr) → AllByRecursion P code
+    → AllByRecursion Q code
+each_of h [] all = tt
+each_of h (i ∷ code) all = (h i all.0, each_of h code all.1)
 
-one_more : (fs : List PlainIrFunction) (n : ℕ)
-    → functions_words (take (suc n) fs) ≡ functions_words (take n fs) + words_at (slice_get fs n)
-unfolding words_at
-one_more [] zero = refl
-one_more [] (suc n) = refl
-one_more (g ∷ fs) zero = omega arith
-one_more (g ∷ fs) (suc n) = let r = one_more fs n in omega (arith, r)
+-- what is known of the operations of a function
+counted : (p : PlainIrProgram) (valid : ValidIr p) (has : HasCode p) → AreInPlace p → (f : ℕ) (g : PlainIrFunction)
+    → slice_get p.functions f ≡ Some g → IsCounted p has.results f g
+counted p valid has in_place f g e =
+    let v = (function_valid p valid f g e).code in
+    record {
+      covered = has.functions f g e;
+      in_place = all_at (λ h. AllByRecursion IsInPlace h.code) p.functions f g in_place e;
+      bytes = each_of (has_type_bytes p valid.results f g.slots g.code) g.code v;
+      types = each_of (has_operand_types p valid.results f g.slots g.code) g.code v;
+    }
 
-module _ (laws : WordLaws) (startup : StartupHasWords) (p : PlainIrProgram) (valid : ValidIr p) (has : HasCode p)
-    (in_place : AreInPlace p) (tables : ℕ → ℕ → Need) where
-  function_few : (f : ℕ) (o : Option PlainIrFunction) → slice_get p.functions f ≡ o
-      → code_words (code_of p (tables f) f o) ≤ words_at o
-  unfolding words_at
-  function_few f None e = omega arith
-  function_few f (Some g) e =
-      let k = linkage_of p function_label f g.slots (made_with p (tables f) f g) in
-      let room = has_room p valid f g e in
-      let a = operations_most laws (data_of p) has.results f (called_in g.code) k room.width (facts_of (tables f) g.code) None g.code
-      (has.functions f g e)
-      (all_at (λ h. AllByRecursion IsInPlace h.code) p.functions f g in_place e) in
-      omega (
-        arith,
-        joined_words (Label (function_label f) ∷ []) (ops_code (data_of p) (home k.homes) k
-            (facts_of (tables f) g.code) None g.code),
-        a,
-      )
+-- what this rests on
+pub record ProgramWordLaws : Type 0 where
+  pub words : WordLaws
+  pub routines : RoutineLaws
+  pub startup : StartupHasWords
 
-  functions_few : (n : ℕ) → code_words (functions_code p tables n) ≤ functions_words (take n p.functions)
-  functions_few zero = omega arith
-  functions_few (suc n) =
-      let a = functions_few n in
-      let b = function_few n (slice_get p.functions n) refl in
-      let c = one_more p.functions n in
-      let body = λ (f : ℕ). code_of p (tables f) f (slice_get p.functions f) in
-      omega (arith, joined_words (chain body n) (body n), a, b, c)
-
-  pub program_few : code_words (program_code p tables)
-      ≤ program_words + objects_weight p.objects + functions_words p.functions
-  program_few =
+module _ (laws : ProgramWordLaws) (p : PlainIrProgram) (valid : ValidIr p) (has : HasCode p) (in_place : AreInPlace p)
+    (tables : ℕ → ℕ → Need) where
+  program_few : (most : ℕ) → code_words (functions_code p tables (length p.functions) ++ routines_code p tables) ≤ most
+      → code_words (program_code p tables) ≤ program_words + objects_weight p.objects + most
+  program_few most few =
       let start = startup_code (spans_of p) (function_label p.main) in
-      let n = length p.functions in
-      let a = startup (spans_of p) (function_label p.main) in
+      let rest = functions_code p tables (length p.functions) ++ routines_code p tables in
+      let a = laws.startup (spans_of p) (function_label p.main) in
       let b = spans_few p.structs 0 p.objects in
-      let c = functions_few n in
-      let d : take n p.functions ≡ p.functions = take_all n p.functions (omega arith) in
-      let e : functions_words (take n p.functions) ≡ functions_words p.functions = ap functions_words d in
-      omega (
-        arith,
-        joined_words (Label entry_label ∷ []) (start ++ functions_code p tables n),
-        joined_words start (functions_code p tables n),
-        a,
-        b,
-        c,
-        e,
-      )
+      omega (arith, joined_words (Label entry_label ∷ []) (start ++ rest), joined_words start rest, a, b, few)
 
-pub selections_have_words : WordLaws → StartupHasWords → SelectionsHaveWords
-selections_have_words laws startup p asm valid has in_place h =
-    rw h.items (program_few laws startup p valid has in_place h.tables)
+  pub few_by_shapes : code_words (program_code p tables)
+      ≤ program_words + objects_weight p.objects + functions_words_by_shapes p.functions
+  few_by_shapes =
+      program_few (functions_words_by_shapes p.functions)
+      (shared_few laws.words laws.routines p has.results (counted p valid has in_place) tables (sizes_decide Use Shape))
+
+  pub few_alone : code_words (program_code p tables) ≤ program_words + objects_weight p.objects + functions_words p.functions
+  few_alone =
+      program_few (functions_words p.functions)
+      (shared_short laws.words laws.routines p has.results (counted p valid has in_place) tables (sizes_decide Use Shape))
+
+pub selections_have_words : ProgramWordLaws → SelectionsHaveWords
+selections_have_words laws p asm valid has in_place h = record {
+  by_shapes = rw h.items (few_by_shapes laws p valid has in_place h.tables);
+  alone = rw h.items (few_alone laws p valid has in_place h.tables);
+}

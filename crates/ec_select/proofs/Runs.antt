@@ -48,7 +48,9 @@ use Rattle.ec_select.specs.Program.{has_initial_bytes, span_of, spans_from, span
 use Rattle.ec_select.specs.Program.{functions_code}
 use Rattle.ec_select.specs.Program.{program_code}
 use Rattle.ec_select.specs.Selected.{HasCode, IsSelection}
+use Rattle.ec_select.specs.Sharing.{routine_of, routines_code}
 use Rattle.ec_select.proofs.Added.{by_place}
+use Rattle.ec_select.proofs.RoutinesStand.{routine_called, routine_stands}
 use Rattle.ec_select.proofs.Setting.{all_at}
 use Rattle.ec_select.proofs.SpanLists.{the_span, IsInitial, each_from, span_holds, pairs_from}
 use Rattle.ec_select.proofs.Whole.{CodeLaws}
@@ -153,29 +155,37 @@ module _ (laws : RunLaws) (p : PlainIrProgram) (asm : AsmProgram) (e : Env) (pla
   abbrev functions : List AsmItem
   functions = functions_code p h.tables (length p.functions)
 
+  abbrev routines : List AsmItem
+  routines = routines_code p h.tables
+
   stands : HasAt e code laid.code.begin laid.code.end
   stands = subst (λ (is : List AsmItem). HasAt e is laid.code.begin laid.code.end) h.items laid.code.stands
 
-  rest_stands : HasAt e (start ++ functions) laid.code.begin laid.code.end
-  rest_stands = subst (λ (n : ℕ). HasAt e (start ++ functions) n laid.code.end) stands.1.1 stands.2
+  rest_stands : HasAt e (start ++ (functions ++ routines)) laid.code.begin laid.code.end
+  rest_stands = subst (λ (n : ℕ). HasAt e (start ++ (functions ++ routines)) n laid.code.end) stands.1.1 stands.2
 
-  both_stand : (mid : ℕ) × HasAt e start laid.code.begin mid × HasAt e functions mid laid.code.end
-  both_stand = laws.parts e start functions laid.code.begin laid.code.end rest_stands
+  both_stand : (mid : ℕ) × HasAt e start laid.code.begin mid × HasAt e (functions ++ routines) mid laid.code.end
+  both_stand = laws.parts e start (functions ++ routines) laid.code.begin laid.code.end rest_stands
+
+  parts_stand : (mid : ℕ) × HasAt e functions both_stand.0 mid × HasAt e routines mid laid.code.end
+  parts_stand = laws.parts e functions routines both_stand.0 laid.code.end both_stand.2
 
   -- ---- functions
 
   made_at : ℕ → Option PlainIrFunction → Made
-  made_at f None = made_with p (h.tables f) f (record { code = []; slots = 0 })
-  made_at f (Some g) = made_with p (h.tables f) f g
+  made_at f None = made_with p (routine_of p h.tables) (h.tables f) f (record { code = []; slots = 0 })
+  made_at f (Some g) = made_with p (routine_of p h.tables) (h.tables f) f g
 
   is_selected : (f : ℕ) (g : PlainIrFunction) → slice_get p.functions f ≡ Some g
       → IsSelected p e place function_label has.results f g (made_at f (slice_get p.functions f)) (scratch f)
   unfolding made_at
   is_selected f g q =
       let both = both_stand in
-      let piece = piece_at laws.parts e (λ k. code_of p (h.tables k) k (slice_get p.functions k)) (length p.functions) both.0
-      laid.code.end f both.2 (slice_get_within p.functions f g q) in
-      let here = subst (λ (o : Option PlainIrFunction). HasAt e (code_of p (h.tables f) f o) piece.0 piece.1) q piece.2 in
+      let two = parts_stand in
+      let piece = piece_at laws.parts e (λ k. code_of p (routine_of p h.tables) (h.tables k) k (slice_get p.functions k))
+      (length p.functions) both.0 two.0 f two.1 (slice_get_within p.functions f g q) in
+      let here = subst (λ (o : Option PlainIrFunction). HasAt e (code_of p (routine_of p h.tables) (h.tables f) f o) piece.0 piece.1) q
+      piece.2 in
       subst (λ (o : Option PlainIrFunction). IsSelected p e place function_label has.results f g (made_at f o) (scratch f)) (sym q)
       (record {
         pc = piece.0;
@@ -185,6 +195,8 @@ module _ (laws : RunLaws) (p : PlainIrProgram) (asm : AsmProgram) (e : Env) (pla
         scratch_stands = laid.memory.stands f g q;
         objects_stand = laid.memory.objects f g q;
         stands = here;
+        routines = λ i l there label. routine_stands laws.parts p valid has e h.tables f g q i l two.0 laid.code.end two.2 there label;
+        callers = λ i l there label. routine_called laws.parts p valid has e h.tables f g q i l there label;
       })
 
   are_selected : AreSelected p e place function_label

@@ -54,12 +54,12 @@ pub record InitialsStand (p : PlainIrProgram) (e : Env) (place : ℕ → ℕ) : 
       → HoldsLeaf (data_of p) place (slice_index e.flash) (initial_at e l.object + l.at) l.bytes u
 
 -- the stack, from an address up to its last byte: two bytes for each function that is called on any way from main, two
--- for main, and one more
+-- for main, and 16 more
 pub record StackStands (p : PlainIrProgram) (e : Env) (low : ℕ) : Type 0 where
   pub pointer : HasStack e
   pub high : 256 ≤ low
   pub stacked : (k : ℕ) → low ≤ k → k ≤ e.address_of 1281 0 → e.kind k ≡ Stacked
-  pub room : (fs : List ℕ) → CallsOn p p.main fs → low + 2 * length fs + 1 ≤ e.address_of 1281 0
+  pub room : (fs : List ℕ) → CallsOn p p.main fs → low + 2 * length fs + 17 ≤ e.address_of 1281 0
 
 -- the work bytes stand apart from the scratch memory of each function
 pub record WorkIsLaidOut (p : PlainIrProgram) (e : Env) (place scratch : ℕ → ℕ) : Type 0 where

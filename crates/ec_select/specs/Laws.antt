@@ -14,6 +14,7 @@ use Rattle.ec_core.specs.Words.{program_words}
 use Rattle.ec_ir.specs.Costs.{functions_words}
 use Rattle.ec_ir.specs.Operations.{PlainIrProgram}
 use Rattle.ec_ir.specs.Valid.{ValidIr}
+use Rattle.ec_ir_shapes.specs.Costs.{functions_words_by_shapes}
 use Rattle.ec_select_reset.specs.Laws.{ShowsProgram}
 use Rattle.ec_select.specs.InPlace.{AreInPlace}
 use Rattle.ec_select.specs.Suited.{AreOnPorts, AreSuited}
@@ -30,11 +31,16 @@ SelectionsAreValid =
     (p : PlainIrProgram) (asm : AsmProgram) → ValidIr p → HasCode p → IsSelection p asm
     → ValidAsm (object_sizes p) 64 asm
 
--- it has no more words than the operations may take, and the rows of the program and of its objects
+-- it has no more words than the rows of the program and of its objects and the operations: counted by shapes, and each by
+-- itself
+pub record HasWords (p : PlainIrProgram) (asm : AsmProgram) : Type 0 where
+  pub by_shapes : code_words asm.items.items
+      ≤ program_words + objects_weight p.objects + functions_words_by_shapes p.functions
+  pub alone : code_words asm.items.items ≤ program_words + objects_weight p.objects + functions_words p.functions
+
 abbrev pub SelectionsHaveWords : Type 0
 SelectionsHaveWords =
-    (p : PlainIrProgram) (asm : AsmProgram) → ValidIr p → HasCode p → AreInPlace p → IsSelection p asm
-    → code_words asm.items.items ≤ program_words + objects_weight p.objects + functions_words p.functions
+    (p : PlainIrProgram) (asm : AsmProgram) → ValidIr p → HasCode p → AreInPlace p → IsSelection p asm → HasWords p asm
 
 -- valid operations have code, where their temporaries suit it and their ports have addresses
 abbrev pub OperationsHaveCode : Type 0

@@ -1,6 +1,8 @@
 pub mod Labels
 pub mod InPlace
 pub mod Suited
+pub mod Sharing
+pub mod Seen
 pub mod Program
 pub mod Selected
 pub mod LaidOut

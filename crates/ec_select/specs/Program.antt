@@ -1,4 +1,4 @@
--- The code of a whole program: the code before main, and behind it that of each function.
+-- The code of a whole program: the code before main, behind it that of each function, and the routines that they call.
 use Rattle.std.specs.Prelude.{ℕ, ◌+◌, Bool, true, false, List, [], ◌∷◌, ◌++◌, Option, Some, None, length, slice_get}
 use Rattle.std.specs.Prelude.{if◌then◌else◌}
 use Rattle.ec_space.specs.declared.space.Home.{Home}
@@ -8,13 +8,14 @@ use Rattle.ec_asm.specs.declared.items.AsmItem.TheVariants.{Label}
 use Rattle.ec_asm.specs.Items.{chain}
 use Rattle.ec_core.specs.Layout.{size_of_type}
 use Rattle.ec_core.specs.Plain.{PlainStorage, static, PlainObject, PlainStruct}
-use Rattle.ec_ir.specs.Operations.{PlainIrFunction, PlainIrProgram, data_of}
+use Rattle.ec_ir.specs.Operations.{PlainIr, PlainIrFunction, PlainIrProgram, data_of}
 use Rattle.ec_select_operations.specs.Code.{function_code}
 use Rattle.ec_select_functions.specs.Laws.{Made, linkage_of}
 use Rattle.ec_select_operations.specs.Needs.{Need}
 use Rattle.ec_select_startup.specs.Startup.{startup_code}
 use Rattle.ec_select_startup.specs.declared.spans.Span.{Span}
 use Rattle.ec_select.specs.Labels.{homes_of, entry_label, function_label, first_label}
+use Rattle.ec_select.specs.Sharing.{routine_of, routines_code}
 
 -- ---- the code before main
 
@@ -39,26 +40,32 @@ spans_of p = spans_from p.structs 0 p.objects
 
 -- ---- functions
 
--- the function with number f, where a table tells what is needed at its labels
-abbrev pub made_with : PlainIrProgram → (ℕ → Need) → ℕ → PlainIrFunction → Made
-made_with p labels f g = record {
+-- the function with number f, where a table tells what is needed at its labels, and routines stand for some operations
+abbrev pub made_with : PlainIrProgram → (routines : PlainIr → Option ℕ) → (ℕ → Need) → ℕ → PlainIrFunction → Made
+made_with p routines labels f g = record {
   homes = homes_of f g.code;
   label_of = λ l. first_label p.functions f + l;
   labels = labels;
+  routine_of = routines;
 }
 
-abbrev pub code_of : PlainIrProgram → (ℕ → Need) → ℕ → Option PlainIrFunction → List AsmItem
-code_of p labels f None = []
-code_of p labels f (Some g) =
-    function_code (data_of p) (linkage_of p function_label f g.slots (made_with p labels f g)) f labels g.code
+abbrev pub code_of : PlainIrProgram → (routines : PlainIr → Option ℕ) → (ℕ → Need) → ℕ → Option PlainIrFunction
+    → List AsmItem
+code_of p routines labels f None = []
+code_of p routines labels f (Some g) =
+    function_code (data_of p) (linkage_of p function_label f g.slots (made_with p routines labels f g)) f labels g.code
 
 -- the code of the first n functions, for each of which a table tells what is needed at its labels
+abbrev pub functions_with : PlainIrProgram → (routines : PlainIr → Option ℕ) → (ℕ → ℕ → Need) → ℕ → List AsmItem
+functions_with p routines tables n = chain (λ f. code_of p routines (tables f) f (slice_get p.functions f)) n
+
 abbrev pub functions_code : PlainIrProgram → (ℕ → ℕ → Need) → ℕ → List AsmItem
-functions_code p tables n = chain (λ f. code_of p (tables f) f (slice_get p.functions f)) n
+functions_code p tables n = functions_with p (routine_of p tables) tables n
 
 -- ---- the program
 
+-- the routines stand behind the functions
 abbrev pub program_code : PlainIrProgram → (ℕ → ℕ → Need) → List AsmItem
 program_code p tables =
     Label entry_label ∷ (startup_code (spans_of p) (function_label p.main)
-    ++ functions_code p tables (length p.functions))
+    ++ (functions_code p tables (length p.functions) ++ routines_code p tables))

@@ -8,7 +8,8 @@ use Rattle.ec_select_live.specs.Least.{IsLeast}
 use Rattle.ec_select_functions.specs.Covered.{AreCovered}
 use Rattle.ec_select_operations.specs.Needs.{Need, IsLive}
 use Rattle.ec_select.specs.Labels.{entry_label}
-use Rattle.ec_select.specs.Program.{code_of, functions_code, program_code}
+use Rattle.ec_select.specs.Program.{functions_code, program_code}
+use Rattle.ec_select.specs.Sharing.{routines_code}
 
 -- All operations of a program have code. `results` are the bytes of the results of its functions
 pub record HasCode (p : PlainIrProgram) : Type 0 where
@@ -23,18 +24,11 @@ pub record AreTables (p : PlainIrProgram) (tables : ℕ → ℕ → Need) (n : �
   pub least : (f : ℕ) (g : PlainIrFunction) → f < n → slice_get p.functions f ≡ Some g
       → IsLeast g.slots (tables f) g.code
 
--- the items are the code of the function with number f, behind others
-pub record IsAdded (p : PlainIrProgram) (f : ℕ) (g : PlainIrFunction) (before items : List AsmItem) : Type 0 where
-  pub labels : ℕ → Need
-  pub live : IsLive labels g.code
-  pub least : IsLeast g.slots labels g.code
-  pub items_are : items ≡ before ++ code_of p labels f (Some g)
-
--- the items are the code of the first n functions, behind others
-pub record AreWritten (p : PlainIrProgram) (n : ℕ) (before : List AsmItem) (items : List AsmItem) : Type 0 where
+-- the items are the code of the functions, behind others, and the routines that they call
+pub record AreWritten (p : PlainIrProgram) (before items : List AsmItem) : Type 0 where
   pub tables : ℕ → ℕ → Need
-  pub are_tables : AreTables p tables n
-  pub items_are : items ≡ before ++ functions_code p tables n
+  pub are_tables : AreTables p tables (length p.functions)
+  pub items_are : items ≡ before ++ (functions_code p tables (length p.functions) ++ routines_code p tables)
 
 -- the items are the code of the program, by what is needed at the labels
 pub record IsSelection (p : PlainIrProgram) (asm : AsmProgram) : Type 0 where

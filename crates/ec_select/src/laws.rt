@@ -15,6 +15,7 @@ use ec_select_places::laws::{elements_are_formed, places_are_short, places_are_v
 use ec_select_pointers::laws::{pointers_are_straight, pointers_are_valid, tables_are_formed};
 use ec_select_products::laws::products_have_words;
 use ec_select_reset::programs_show_their_operations;
+use ec_select_routines::laws::routines_have_words;
 use ec_select_shifts::laws::shifts_have_words;
 use ec_select_startup::laws::{startup_has_words, startup_is_valid};
 
@@ -42,8 +43,9 @@ pub fn selections_are_valid()
     elements_are_formed();
 }
 
-/// The code of a program whose operators have their results in place has at most the words that its operations may
-/// take, and those of the rows of the program and of its objects.
+/// The code of a program whose operators have their results in place has at most the words of the rows of the program and
+/// of its objects, and those that its operations may take, counted by shapes; and never more than where each counts by
+/// itself.
 pub fn selections_have_words()
     ensures { SelectionsHaveWords }
 {
@@ -61,6 +63,7 @@ pub fn selections_have_words()
     elements_are_formed();
     numbers_are_operands();
     startup_has_words();
+    routines_have_words();
 }
 
 /// A machine that begins at the first word of a program's code shows what its operations do, wherever code, objects

@@ -7,11 +7,12 @@ ghost use Rattle.ec_core.specs.Words.{program_words};
 ghost use Rattle.ec_ir.specs.Costs.{functions_words};
 ghost use Rattle.ec_ir.specs.Operations.{plain_ir_program};
 ghost use Rattle.ec_ir.specs.Valid.{ValidIr};
+ghost use Rattle.ec_ir_shapes.specs.Costs.{functions_words_by_shapes};
 ghost use Rattle.ec_select.specs.InPlace.{AreInPlace};
 ghost use Rattle.ec_select.specs.Laws.{object_sizes};
 ghost use Rattle.ec_select.specs.Selected.{HasCode, IsSelection};
 
-use crate::functions::add_functions;
+use crate::functions::add_code;
 use crate::laws::{selections_are_valid, selections_have_words};
 use crate::spans::spans_of;
 use ec_asm::{AsmItem, AsmProgram};
@@ -31,17 +32,21 @@ fn frames_of(alloc: Global, ir: &IrProgram) -> Result<Seq<u16>, NoMemory>
     Ok(frames)
 }
 
-/// The code of a program whose operations all have code: what runs before `main`, and behind it each function.
+/// The code of a program whose operations all have code: what runs before `main`, behind it each function, and the
+/// routines that they call.
 ///
 /// It can be placed, with the sizes of the program's objects and 64 work bytes. Where operators have their results in
-/// place, it has at most the words that the operations may take and those of the rows of the program and its objects.
-/// Or the answer is that memory ran out.
+/// place, it has at most the words of the rows of the program and its objects and those that the operations may take,
+/// counted by shapes; and never more than where each counts by itself. Or the answer is that memory ran out.
 pub fn select(alloc: Global, ir: &IrProgram) -> Result<AsmProgram, NoMemory>
     requires valid { ValidIr (plain_ir_program ir.now) }
     requires code { HasCode (plain_ir_program ir.now) }
     ensures code { IfOk result (λ asm. IsSelection (plain_ir_program ir.now) asm) }
     ensures valid { IfOk result (λ asm. ValidAsm (object_sizes (plain_ir_program ir.now)) 64 asm) }
     ensures words { AreInPlace (plain_ir_program ir.now) → IfOk result (λ asm. code_words asm.items.items
+        ≤ program_words + objects_weight (plain_ir_program ir.now).objects
+        + functions_words_by_shapes (plain_ir_program ir.now).functions) }
+    ensures alone { AreInPlace (plain_ir_program ir.now) → IfOk result (λ asm. code_words asm.items.items
         ≤ program_words + objects_weight (plain_ir_program ir.now).objects
         + functions_words (plain_ir_program ir.now).functions) }
 {
@@ -51,7 +56,7 @@ pub fn select(alloc: Global, ir: &IrProgram) -> Result<AsmProgram, NoMemory>
     items.push(AsmItem::Label(0))?;
     let spans = spans_of(alloc, ir)?;
     startup(&mut items, spans.as_slice(), 1 + u64::from(ir.main))?;
-    add_functions(alloc, &mut items, ir)?;
+    add_code(alloc, &mut items, ir)?;
     let frames = frames_of(alloc, ir)?;
     Ok(AsmProgram {
         items,

@@ -1,5 +1,5 @@
 -- The function that runs, and what is set aside for those that wait for it.
-use Rattle.std.proofs.Common.{◌≡◌, ℕ, ◌+◌, ◌-◌, ◌*◌, ◌<◌, ◌≤◌, ◌⊎◌, inl, inr, ⊎_elim, Bool, true, ◌&&◌, ◌||◌, List, [], ◌∷◌}
+use Rattle.std.proofs.Common.{◌≡◌, ◌≢◌, ℕ, ◌+◌, ◌-◌, ◌*◌, ◌<◌, ◌≤◌, ◌⊎◌, inl, inr, ⊎_elim, Bool, true, ◌&&◌, ◌||◌, List, [], ◌∷◌}
 use Rattle.std.proofs.Common.{Some, length, refl, sym, ◌∙◌, subst, arith, leb-true, ltb-true, eqb-true, Contains}
 use Rattle.std.specs.Prelude.{◌==◌, nat_le, nat_lt, slice_get, slice_index}
 use Rattle.std.proofs.lemmas.Bool.{and_parts, and_from, or_cases, or_left, or_right, lt-ltb, le-leb, eq-eqb, cases_lt}
@@ -23,7 +23,7 @@ use Rattle.ec_select_operations.specs.Places.{ObjectLeaf, Chained, CanBeLiveToge
 use Rattle.ec_select_functions.specs.Relation.{AreFrames}
 use Rattle.ec_select_functions.specs.Standing.{home_address, ObjectStands}
 use Rattle.ec_select_functions.proofs.Moves.{outside_row}
-use Rattle.ec_select_functions.proofs.Setting.{Setting, FixedLaws, PointerLaws, NumberLaws}
+use Rattle.ec_select_functions.proofs.Setting.{Setting, FixedLaws, RoutineLaws, PointerLaws, NumberLaws}
 use Rattle.ec_select_functions.proofs.Standing.{InRegister, InScratch, kinds, ends_low, homes_are_laid_out}
 use Rattle.ec_select_functions.proofs.Standing.{leaf_where, lies}
 
@@ -36,6 +36,7 @@ pub record World (p : PlainIrProgram) (e : Env) (place entry_of : ℕ → ℕ) :
   pub feeds : (port k : ℕ) → slice_index (inputs port) k < 256
   pub taken : BytesAreTakenInOrder
   pub fixed : FixedLaws
+  pub routines : RoutineLaws
   pub pointers : PointerLaws
   pub numbers : NumberLaws
   pub low : ℕ
@@ -107,7 +108,7 @@ module _ (p : PlainIrProgram) (e : Env) (place entry_of : ℕ → ℕ) (w : Worl
   leaf_at l = place l.object + l.at
 
   -- The function f runs with the stack pointer s. What is set aside stands apart from its own scratch memory and that of
-  -- all which it calls, from leaves, and from the bytes that it pushes; and there are bytes enough to push
+  -- all which it calls, from leaves, and from the bytes that it pushes; and there are bytes enough to push, and 16 more
   pub record Active (f : ℕ) (g : PlainIrFunction) (s : ℕ) (aside : ℕ → Bool) (was : ℕ → ℕ) : Type 0 where
     pub is : slice_get p.functions f ≡ Some g
     -- the functions that are active: f, and others that lead to it, all on one chain of calls
@@ -125,7 +126,7 @@ module _ (p : PlainIrProgram) (e : Env) (place entry_of : ℕ → ℕ) (w : Worl
     pub pointer_low : aside 93 ≡ true
     pub pointer_high : aside 94 ≡ true
     pub pointer : pair was 93 ≡ s
-    pub room : (fs : List ℕ) → CallsOn p f fs → w.low + 2 * length fs ≤ s + 1
+    pub room : (fs : List ℕ) → CallsOn p f fs → w.low + 2 * length fs + 16 ≤ s + 1
     pub below : s + 2 ≤ w.top
 
   abbrev pub selected_of : (f : ℕ) (g : PlainIrFunction) → slice_get p.functions f ≡ Some g
@@ -257,37 +258,6 @@ module _ (p : PlainIrProgram) (e : Env) (place entry_of : ℕ → ℕ) (w : Worl
           (λ (i : is_among a.functions c ≡ true). i)
           (or_cases (b == c) (is_among a.functions c) q)
 
-  abbrev pub setting_of : (f : ℕ) (g : PlainIrFunction) (s : ℕ) (aside : ℕ → Bool) (was : ℕ → ℕ) → Active f g s aside was
-      → Setting (data_of p) e g.slots (home (homes_of f)) (base_of f) place
-  setting_of f g s aside was a = record {
-    program = p;
-    active = a.functions;
-    called = called_in g.code;
-    chained = λ fs are c d q r. frames_chained f g s aside was a fs are c d q r;
-    layout = layout_of f g a.is;
-    aside = aside;
-    was = was;
-    inputs = w.inputs;
-    feeds = w.feeds;
-    taken = w.taken;
-    work = w.selected.work;
-    work_stands = w.selected.work_stands;
-    temps_work = λ t it. temp_work f g t a.is it;
-    leaves_work = λ l j m. leaf_outside_work f g a.is l j m;
-    work_aside = a.work;
-    fixed = w.fixed;
-    pointers = w.pointers;
-    numbers = w.numbers;
-    objects_stand = (selected_of f g a.is).objects_stand.each;
-    objects_apart = (selected_of f g a.is).objects_stand.apart;
-    tables_stand = w.selected.tables;
-    valid = w.valid.objects;
-    structs = w.valid.structs;
-    high = a.high;
-    temps_aside = λ t k it q. temp_aside f g k t a.is (a.high k q) (a.own k q) it;
-    leaves_aside = a.leaves;
-  }
-
   -- ---- bytes of the stack are none of scratch memory and of leaves
 
   pub scratch_kind : (f : ℕ) (g : PlainIrFunction) → slice_get p.functions f ≡ Some g → (k : ℕ) → scratch_of f ≤ k
@@ -330,6 +300,73 @@ module _ (p : PlainIrProgram) (e : Env) (place entry_of : ℕ → ℕ) (w : Worl
       by_storage (param j) n inside x m = in_object n inside x.kind m
       by_storage (register first) n inside x m = let z = x.0 in let y = x.2 in absurd (omega arith)
 
+  -- an operation can push two bytes, which are not set aside
+  pub pushes : (f : ℕ) (g : PlainIrFunction) (s : ℕ) (aside : ℕ → Bool) (was : ℕ → ℕ) → Active f g s aside was
+      → (257 ≤ s) × (s < 65536) × (w.low + 1 ≤ s)
+  pushes f g s aside was a =
+      let r : w.low + 2 * 0 + 16 ≤ s + 1 = a.room [] tt in
+      let high = w.high in
+      let last = a.below in
+      let top = w.below in
+      (omega arith, omega arith, omega arith)
+
+  pub pushed_kind : (f : ℕ) (g : PlainIrFunction) (s : ℕ) (aside : ℕ → Bool) (was : ℕ → ℕ) → Active f g s aside was
+      → (k : ℕ) → s - 1 ≤ k → k ≤ s → e.kind k ≡ Stacked
+  pushed_kind f g s aside was a k l m =
+      let r = (pushes f g s aside was a).2 in
+      let last = a.below in
+      w.stacked k (omega arith) (omega arith)
+
+  pub pushed_free : (f : ℕ) (g : PlainIrFunction) (s : ℕ) (aside : ℕ → Bool) (was : ℕ → ℕ) → Active f g s aside was
+      → (k : ℕ) → aside k ≡ true → (k ≢ s) × (k ≢ s - 1)
+  pushed_free f g s aside was a k q =
+      let r = (pushes f g s aside was a).2 in (
+        λ i. (let z = a.free k q (omega arith) in omega arith),
+        λ i. (let z = a.free k q (omega arith) in omega arith),
+      )
+
+  abbrev pub setting_of : (f : ℕ) (g : PlainIrFunction) (s : ℕ) (aside : ℕ → Bool) (was : ℕ → ℕ) → Active f g s aside was
+      → Setting (data_of p) e g.slots (home (homes_of f)) (base_of f) place
+  setting_of f g s aside was a = record {
+    program = p;
+    active = a.functions;
+    called = called_in g.code;
+    chained = λ fs are c d q r. frames_chained f g s aside was a fs are c d q r;
+    layout = layout_of f g a.is;
+    aside = aside;
+    was = was;
+    inputs = w.inputs;
+    feeds = w.feeds;
+    taken = w.taken;
+    work = w.selected.work;
+    work_stands = w.selected.work_stands;
+    temps_work = λ t it. temp_work f g t a.is it;
+    leaves_work = λ l j m. leaf_outside_work f g a.is l j m;
+    work_aside = a.work;
+    fixed = w.fixed;
+    routines = w.routines;
+    pointers = w.pointers;
+    numbers = w.numbers;
+    objects_stand = (selected_of f g a.is).objects_stand.each;
+    objects_apart = (selected_of f g a.is).objects_stand.apart;
+    tables_stand = w.selected.tables;
+    valid = w.valid.objects;
+    structs = w.valid.structs;
+    high = a.high;
+    temps_aside = λ t k it q. temp_aside f g k t a.is (a.high k q) (a.own k q) it;
+    leaves_aside = a.leaves;
+    stack = s;
+    stack_high = (pushes f g s aside was a).0;
+    stack_below = (pushes f g s aside was a).1;
+    stacked = λ k l m. pushed_kind f g s aside was a k l m;
+    stack_free = λ k q. pushed_free f g s aside was a k q;
+    pointer_low = a.pointer_low;
+    pointer_high = a.pointer_high;
+    pointer = a.pointer;
+    temps_stack = λ t k it high stacked. temp_aside f g k t a.is (omega arith) (stack_scratch f g a.is k stacked) it;
+    leaves_stack = λ l k high stacked. stack_leaf f g a.is l k high stacked;
+  }
+
   -- no byte of a leaf is the stack's
   pub leaf_not_stacked : (f : ℕ) (g : PlainIrFunction) → slice_get p.functions f ≡ Some g → (l : ObjectLeaf (data_of p) DataBank)
       (i : ℕ) → i < l.bytes → e.kind (leaf_at l + i) ≡ Stacked → 256 ≤ leaf_at l + i → ⊥
@@ -369,7 +406,7 @@ module _ (p : PlainIrProgram) (e : Env) (place entry_of : ℕ → ℕ) (w : Worl
   pub has_room : (f : ℕ) (g : PlainIrFunction) (s : ℕ) (aside : ℕ → Bool) (was : ℕ → ℕ) → Active f g s aside was
       → (b : ℕ) → Contains (called_in g.code) b → w.low + 1 ≤ s
   has_room f g s aside was a b there =
-      let r : w.low + 2 * length (b ∷ []) ≤ s + 1 = a.room (b ∷ []) (rw (a.is) there, tt) in
+      let r : w.low + 2 * length (b ∷ []) + 16 ≤ s + 1 = a.room (b ∷ []) (rw (a.is) there, tt) in
       omega arith
 
   pub called : (f : ℕ) (g : PlainIrFunction) (s : ℕ) (aside : ℕ → Bool) (was : ℕ → ℕ) → Active f g s aside was
@@ -413,7 +450,7 @@ module _ (p : PlainIrProgram) (e : Env) (place entry_of : ℕ → ℕ) (w : Worl
         pointer_low = aside_before aside (scratch_of f) (16 * g.slots) s 93 a.pointer_low;
         pointer_high = aside_before aside (scratch_of f) (16 * g.slots) s 94 a.pointer_high;
         pointer = pointer;
-        room = λ fs on. (let r : w.low + 2 * length (b ∷ fs) ≤ s + 1 = a.room (b ∷ fs) (rw (a.is) there, on) in omega arith);
+        room = λ fs on. (let r : w.low + 2 * length (b ∷ fs) + 16 ≤ s + 1 = a.room (b ∷ fs) (rw (a.is) there, on) in omega arith);
         below = omega arith;
       }
     where

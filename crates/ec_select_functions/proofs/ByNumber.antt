@@ -1,5 +1,5 @@
 -- Operators whose second operand is a known number.
-use Rattle.std.proofs.Common.{◌≡◌, ◌≢◌, ℕ, zero, suc, ◌+◌, ◌-◌, ◌*◌, ◌/◌, ◌%◌, ◌^◌, ◌<◌, ◌≤◌, ⊎_elim, Bool, true, false, ℤ, not}
+use Rattle.std.proofs.Common.{◌≡◌, ◌≢◌, ℕ, zero, suc, ◌+◌, ◌*◌, ◌/◌, ◌%◌, ◌^◌, ◌<◌, ◌≤◌, ⊎_elim, Bool, true, false, ℤ, not}
 use Rattle.std.proofs.Common.{pos, negsuc, int_lt, nat_lt, ◌&&◌, [], ◌∷◌}
 use Rattle.std.proofs.Common.{Some, None, Option, ◌++◌, refl, sym, ap, ◌∙◌, subst, arith, bit_and, bit_or, eqb-true}
 use Rattle.std.specs.Prelude.{◌==◌, if◌then◌else◌}
@@ -8,7 +8,6 @@ use Rattle.std.proofs.lemmas.Bool.{and_parts, eq-eqb, ne_eqb, cases_eq}
 use Rattle.std.proofs.lemmas.Bool.Decides.{nat_tests}
 use Rattle.std.proofs.lemmas.Nat.{and_mod, or_mod, div-add-mod'}
 use native.Mathlib.Nat.{pow-suc}
-use Rattle.ec_asm.specs.declared.items.AsmItem.{AsmItem}
 use Rattle.ec_asm.specs.declared.pieces.Location.{Location}
 use Rattle.ec_asm.specs.declared.pieces.Operator.{Operator}
 use Rattle.ec_asm.specs.declared.pieces.Operator.TheVariants.{Sum, Difference, BitAnd, BitOr, BitXor}
@@ -23,7 +22,7 @@ use Rattle.ec_core.specs.Plain.{PlainProgram}
 use Rattle.ec_core.specs.State.{worked}
 use Rattle.ec_ir.specs.declared.operations.Temp.{Temp}
 use Rattle.ec_ir.specs.Meaning.{Mach, machine}
-use Rattle.ec_ir.specs.Temporaries.{Content, bits, points, Held, Temps, with_content, low_bytes}
+use Rattle.ec_ir.specs.Temporaries.{bits, Held, Temps, with_content, low_bytes}
 use Rattle.ec_ir_known.specs.declared.known.KnownNumber.{KnownNumber}
 use Rattle.ec_ir_known.specs.declared.known.RightNumber.{RightNumber}
 use Rattle.ec_ir_known.specs.Known.{Known, of_bytes, number_in, is_any, is_byte_of, is_byte, right_of}
@@ -33,7 +32,7 @@ use Rattle.ec_select_bytes.proofs.Constants.{constants_are_right}
 use Rattle.ec_select_numbers.specs.declared.operators.ByNumber.{ByNumber}
 use Rattle.ec_select_numbers.specs.declared.operators.ByNumber.TheVariants.{Subtract, Mask, Set}
 use Rattle.ec_select_numbers.specs.ByNumber.{as_operator, changed_code}
-use Rattle.ec_select_numbers.specs.Laws.{KeepsOthers, ComparesWith, IsShort}
+use Rattle.ec_select_numbers.specs.Laws.{KeepsOthers, ComparesWith}
 use Rattle.ec_select_operations.specs.Code.{move_code, changed_by_code}
 use Rattle.ec_select_operations.specs.Homes.{HasHome}
 use Rattle.ec_select_operations.specs.Needs.{Need, at_least, without, wanted}
@@ -48,7 +47,7 @@ use Rattle.ec_select_functions.proofs.Moves.{move_holds}
 use Rattle.ec_select_functions.proofs.Setting.{Setting, NumberLaws}
 use Rattle.ec_select_functions.proofs.Taken.{is_changed}
 use Rattle.ec_select_functions.proofs.Wrapped.{low_part, low_below, kept_below, powers, byte_of_bitwise, value_of_bytes}
-use Rattle.ec_select_functions.specs.Relation.{HoldsContent, Matches}
+use Rattle.ec_select_functions.specs.Relation.{Matches}
 
 -- ---- what is held
 

@@ -48,10 +48,10 @@ use Rattle.ec_select_functions.proofs.Moves.{narrower, stands_less, move_holds, 
 use Rattle.ec_select_functions.proofs.Resumed.{IsAt, IsElsewhere, Took, HasPlace, resumes}
 use Rattle.ec_select_functions.proofs.Returned.{HandsOn, Left, Returns, go_on, moved_row, pointer_is}
 use Rattle.ec_select_functions.proofs.Saved.{kept, are_kept, Saves, saves, save_form, restore_form}
-use Rattle.ec_select_functions.proofs.Stacked.{pushed_same, popped_same, pushed_numbers, pushed_pointer, back_is}
-use Rattle.ec_select_functions.proofs.Stacked.{popped_numbers}
+use Rattle.ec_routines.proofs.Stacked.{pushed_same, popped_same, pushed_numbers, pushed_pointer, back_is}
+use Rattle.ec_routines.proofs.Stacked.{popped_numbers}
 use Rattle.ec_select_functions.proofs.Standing.{result_bounds, result_ends}
-use Rattle.ec_select_functions.proofs.Going.{Ready}
+use Rattle.ec_select_functions.proofs.Going.{Ready, are_ready, at_use}
 use Rattle.ec_select_functions.proofs.Steps.{Onward, CallCase}
 
 module _ (p : PlainIrProgram) (e : Env) (place entry_of : ℕ → ℕ) (w : World p e place entry_of) where
@@ -96,7 +96,9 @@ module _ (p : PlainIrProgram) (e : Env) (place entry_of : ℕ → ℕ) (w : Worl
       let here : x.pc ≡ e.word_of (entry_of b) = sym (stands.1.0 word) in
       let mid : stands.0 ≡ e.word_of (entry_of b) = stands.1.1 ∙ here in
       record {
-        covered = x.covered;
+        covered = are_ready D e w.selected.results b (called_in gb.code) gb.slots
+            (linkage_of p entry_of b gb.slots (w.selected.made b)) gb.code x.covered
+            (λ i there l q. (x.routines i l there q, x.callers i l there q));
         live = x.live;
         inside = λ c q. q;
         here = record { active = a.runs; stacked = stacked };
@@ -457,7 +459,10 @@ module _ (p : PlainIrProgram) (e : Env) (place entry_of : ℕ → ℕ) (w : Worl
             let taken = taken_code hs to (wanted_result need to) in
             let restore = restore_code link need0 in
             let code = call_code hs link b to (wanted_result need to) need0 in
-            let s0 = has_parts e code (ops_code D hs link at None rest) pc x.end r.stands in
+            let s0 = has_parts e code (ops_code D hs link at None rest) pc x.end
+            (at_use D p.functions e slots hs bs place
+            (setting_of p e place entry_of w f g s aside was a) labels g.code x.end w.selected.results f link stack (call_function b to)
+            rest pc r (λ l none. none)) in
             let s1 = has_parts e save (CallTo (entry_of b) ∷ (taken ++ restore)) pc s0.0 s0.1 in
             let back = s1.2.0 in
             let s2 = has_parts e taken restore back s0.0 s1.2.2 in
@@ -480,17 +485,17 @@ module _ (p : PlainIrProgram) (e : Env) (place entry_of : ℕ → ℕ) (w : Worl
             let last = a.below in
             let top = w.below in
             let high = w.high in
-            let sp1 = pointer n below returns b gb is there to r.covered.0 rest m v z back s0.0 s2.0 room s2.1 s2.2 ready in
+            let sp1 = pointer n below returns b gb is there to r.covered.0.0 rest m v z back s0.0 s2.0 room s2.1 s2.2 ready in
             let down : lowered (sp v1) ≡ s - 1 = rw sp1 (omega arith) in
             let kind0 : e.kind (sp v1) ≡ Stacked = ap e.kind sp1 ∙ w.stacked s (omega arith) (omega arith) in
             let kind1 : e.kind (lowered (sp v1)) ≡ Stacked = ap e.kind down ∙ w.stacked (s - 1) (omega arith) (omega arith) in
             let calling = call_goes e (entry_of b) s1.0 back v1 s1.2.1 kind0 kind1 in
             let word = call_has_word e (entry_of b) s1.0 back s1.2.1 in
             let v2 = pushed back v1 in
-            let active1 = active n below returns b gb is there to r.covered.0 rest m v z back s0.0 s2.0 room s2.1 s2.2 ready in
+            let active1 = active n below returns b gb is there to r.covered.0.0 rest m v z back s0.0 s2.0 room s2.1 s2.2 ready in
             let frame : Call = record { code = g.code; rest = rest; temps = m.temps; to = to; called = b } in
-            let waiting = returns_b n below returns b gb is there to r.covered.0 rest m v z back s0.0 s2.0 room s2.1 s2.2 ready in
-            let functions = functions_are n below returns b gb is there to r.covered.0 rest m v z back s0.0 s2.0 room s2.1 s2.2 ready in
+            let waiting = returns_b n below returns b gb is there to r.covered.0.0 rest m v z back s0.0 s2.0 room s2.1 s2.2 ready in
+            let functions = functions_are n below returns b gb is there to r.covered.0.0 rest m v z back s0.0 s2.0 room s2.1 s2.2 ready in
             let stacked : active_functions D.main (frame ∷ stack) ≡ active1.functions =
             ap (λ fs. b ∷ fs) r.here.stacked ∙ sym functions in
             let start = begins b gb (s - 2) (aside_by aside scratch (16 * slots) s) v2.at active1 (frame ∷ stack) stacked word in
@@ -499,7 +504,7 @@ module _ (p : PlainIrProgram) (e : Env) (place entry_of : ℕ → ℕ) (w : Worl
             kept_matches D e w.inputs gb.slots (base_of p e place entry_of w b) place (aside_by aside scratch (16 * slots) s) v2.at
             a.functions (called_in g.code) active1.functions (called_in gb.code)
             (needs (facts_of (w.selected.made b).labels gb.code) gb.code) (b ∷ around) no_temps st v2 (inl stacked)
-            (entered n below returns b gb is there to r.covered.0 rest m v z back s0.0 s2.0 room s2.1 s2.2 ready z st refl refl) in
+            (entered n below returns b gb is there to r.covered.0.0 rest m v z back s0.0 s2.0 room s2.1 s2.2 ready z st refl refl) in
             after D place e (code_steps save + 1) n (suc n) m.state.work st.work pc (e.word_of (entry_of b)) v v2
             (enter (Some gb) (go_on p e place entry_of w n) (frame ∷ stack) (machine no_temps st1))
             (goes_on_to e (code_steps save) 1 pc s1.0 (e.word_of (entry_of b)) v v1 v2 saving calling) (omega arith) (omega (arith, most))

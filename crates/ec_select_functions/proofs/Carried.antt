@@ -1,5 +1,5 @@
 -- Conversions whose numbers are brought by registers to another number of bits behind the point.
-use Rattle.std.proofs.Common.{◌≡◌, ◌≢◌, ◌⊎◌, ℕ, ◌+◌, ◌-◌, ◌*◌, ◌/◌, ◌%◌, ◌^◌, ◌<◌, ◌≤◌, Bool, true, false, ◌&&◌, ⊎_elim, refl, sym}
+use Rattle.std.proofs.Common.{◌≡◌, ◌≢◌, ◌⊎◌, ℕ, ◌+◌, ◌*◌, ◌/◌, ◌%◌, ◌^◌, ◌<◌, ◌≤◌, Bool, true, false, ◌&&◌, ⊎_elim, refl, sym}
 use Rattle.std.proofs.Common.{ap, ◌∙◌, subst, arith, ℤ, pos, ◌*ℤ◌, Some}
 use Rattle.std.specs.Prelude.{not, int_lt, if◌then◌else◌}
 use Rattle.std.proofs.lemmas.Bool.{and_parts}

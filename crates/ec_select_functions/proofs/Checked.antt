@@ -1,5 +1,5 @@
 -- Runs that have no meaning as soon as an operand of a binary operator does not hold what is known of it.
-use Rattle.std.proofs.Common.{◌≡◌, ℕ, zero, suc, Bool, true, false, List, [], ◌∷◌, refl}
+use Rattle.std.proofs.Common.{◌≡◌, ℕ, suc, Bool, true, false, List, [], ◌∷◌, refl}
 use Rattle.std.specs.Prelude.{if◌then◌else◌}
 use Rattle.ec_asm.specs.Change.{Env}
 use Rattle.ec_asm.specs.View.{View}

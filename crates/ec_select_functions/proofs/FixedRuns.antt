@@ -1,15 +1,16 @@
 -- Code that works in the work bytes, and then brings its result to a temporary.
-use Rattle.std.proofs.Common.{◌≡◌, ◌≢◌, ℕ, ◌+◌, ◌*◌, ◌%◌, ◌^◌, ◌<◌, ◌≤◌, ◌==◌, ⊎_elim, Bool, false, List, [], ◌++◌}
+use Rattle.std.proofs.Common.{◌≡◌, ◌≢◌, ◌⊎◌, inl, inr, ℕ, ◌+◌, ◌-◌, ◌*◌, ◌%◌, ◌^◌, ◌<◌, ◌≤◌, ◌==◌, ⊎_elim, Bool, false, List, [], ◌++◌}
 use Rattle.std.proofs.Common.{refl, sym}
 use Rattle.std.proofs.Common.{ap, ◌∙◌, subst, arith, append-nil}
 use Rattle.std.specs.Prelude.{if◌then◌else◌}
 use Rattle.std.proofs.lemmas.Bool.{cases_lt}
 use Rattle.ec_space.specs.declared.space.Bank.TheVariants.{Data as DataBank}
+use Rattle.ec_avr.specs.State.{lowered}
 use Rattle.ec_asm.specs.declared.items.AsmItem.{AsmItem}
 use Rattle.ec_asm.specs.declared.pieces.Location.{Location}
 use Rattle.ec_asm.specs.declared.pieces.Operator.TheVariants.{Sum}
 use Rattle.ec_asm.specs.View.{View}
-use Rattle.ec_asm.specs.Change.{Env, Own}
+use Rattle.ec_asm.specs.Change.{Env, Own, Stacked, sp}
 use Rattle.ec_asm.specs.Items.{HasAt, block, code_steps}
 use Rattle.ec_asm.specs.Pieces.{StandsFrom, Outside, copy_code, value}
 use Rattle.ec_asm.specs.PieceLaws.{HoldsNumbers}
@@ -27,6 +28,7 @@ use Rattle.ec_fxcode.specs.ClampLaws.{IsClearOfEnds, AreApart}
 use Rattle.ec_fxcode.proofs.Moves.{part_stands, no_log}
 use Rattle.ec_fxcode_quotients.specs.QuotientLaws.{AreSlots}
 use Rattle.ec_fxcode_scales.specs.ScaleLaws.{Computes}
+use Rattle.ec_routines.specs.Routines.{ComputesByCall}
 use Rattle.ec_select_fixed.specs.FixedLaws.{AreOperandSlots}
 use Rattle.ec_select_operations.specs.Code.{work_location, answer_location, answer_code}
 use Rattle.ec_select_operations.specs.Homes.{HasHome}
@@ -40,14 +42,6 @@ use Rattle.ec_select_functions.proofs.Setting.{Setting}
 
 -- ---- places
 
--- no byte that stands apart from the work registers is R30 or R31
-off_ends : (a n j : ℕ) → IsClear a n → j < n → (a + j ≢ 30) × (a + j ≢ 31)
-off_ends a n j c l =
-    ⊎_elim
-    (λ (x : a < 26). let z = c.high.left x in (omega arith, omega arith))
-    (λ (x : 26 ≤ a). let z = c.high.right x in (omega arith, omega arith))
-    (cases_lt a 26)
-
 pub clear_of_ends : (a n : ℕ) → IsClear a n → IsClearOfEnds a n
 clear_of_ends a n c =
     ⊎_elim
@@ -59,7 +53,7 @@ apart_outside : (a n w m j : ℕ) → Apart a n w m → j < n → Outside w m (a
 apart_outside a n w m j x l q =
     ⊎_elim (λ (z : a < w). let y = x.left z in absurd (omega arith)) (λ (z : w ≤ a). let y = x.right z in omega arith) (cases_lt a w)
 
-as_apart : (a n b k : ℕ) → Apart a n b k → AreApart a n b k
+pub as_apart : (a n b k : ℕ) → Apart a n b k → AreApart a n b k
 as_apart a n b k x = record { first = x.left; second = x.right }
 
 -- from a part of the work bytes
@@ -101,10 +95,40 @@ module _ (p : PlainProgram) (e : Env) (slots : ℕ) (home : Temp → Location) (
   far_from_ends : (i n : ℕ) → IsClearOfEnds (y.work + i) n
   far_from_ends i n = let high = y.work_stands.high in record { below = λ l. absurd (omega arith); above = λ l. omega arith }
 
-  -- ---- the work bytes alone have changed
+  -- ---- the stack pointer, and the two bytes that a call pushes
+
+  pub pointer_is : (need : Need) (m : Mach) (v : View) → M need m v → sp v ≡ y.stack
+  pointer_is need m v h =
+      let low = h.kept 93 y.pointer_low in
+      let high = h.kept 94 y.pointer_high in
+      rw (low, high) y.pointer
+
+  pub below_is : (need : Need) (m : Mach) (v : View) → M need m v → lowered (sp v) ≡ y.stack - 1
+  below_is need m v h =
+      let high = y.stack_high in
+      let below = y.stack_below in
+      rw (pointer_is need m v h) (omega arith)
+
+  pushed_kind : (k : ℕ) → (k ≡ y.stack) ⊎ (k ≡ y.stack - 1) → (256 ≤ k) × (e.kind k ≡ Stacked)
+  pushed_kind k (inl q) = let high = y.stack_high in (omega arith, y.stacked k (omega arith) (omega arith))
+  pushed_kind k (inr q) = let high = y.stack_high in (omega arith, y.stacked k (omega arith) (omega arith))
+
+  -- so no byte of a row that stands apart from the stack is one of them
+  off_stack : (a n j : ℕ) → ((k : ℕ) → 256 ≤ k → e.kind k ≡ Stacked → Outside a n k) → j < n
+      → (a + j ≢ y.stack) × (a + j ≢ y.stack - 1)
+  off_stack a n j apart l = (λ q. refuse (inl q), λ q. refuse (inr q))
+    where
+      refuse : (a + j ≡ y.stack) ⊎ (a + j ≡ y.stack - 1) → ⊥
+      refuse q =
+          let z = pushed_kind (a + j) q in
+          let x = apart (a + j) z.0 z.1 (omega arith) in
+          omega arith
+
+  -- ---- the work bytes, and what a call pushes, alone have changed
 
   undisturbed : (need : Need) (m : Mach) (v v1 : View) → M need m v
-      → ((k : ℕ) → k ≢ 0 → k ≢ 1 → k ≢ 30 → k ≢ 31 → Outside y.work 64 k → v1.at k ≡ v.at k)
+      → ((k : ℕ) → k ≢ 0 → k ≢ 1 → Outside 8 6 k → Outside 26 6 k → Outside y.work 64 k → k ≢ y.stack → k ≢ y.stack - 1
+      → v1.at k ≡ v.at k)
       → HoldsNumbers v1 → v1.inputs ≡ v.inputs → v1.safe ≡ v.safe → v1.seen ≡ v.seen → M need m v1
   undisturbed need m v v1 h same numbers inputs safe seen = record {
     temps_hold = λ t c it q w. (let most = wanted_most need t in same_content p place v.at v1.at (base t) (wanted need t) t.bytes
@@ -113,7 +137,9 @@ module _ (p : PlainProgram) (e : Env) (slots : ℕ) (home : Temp → Location) (
         (h.leaves_hold l x u q w);
     tables_hold = h.tables_hold;
     frames = h.frames;
-    kept = λ k q. (let high = y.high k q in same k (omega arith) (omega arith) (omega arith) (omega arith) (y.work_aside k q)) ∙ h.kept k q;
+    kept = λ k q. (let high = y.high k q in
+        let free = y.stack_free k q in
+        same k (omega arith) (omega arith) (λ l. omega arith) (λ l. omega arith) (y.work_aside k q) free.0 free.1) ∙ h.kept k q;
     bytes = numbers;
     left = λ port. kept_left y.inputs m.state v v1 inputs h.left port;
     seen = seen ∙ h.seen;
@@ -123,14 +149,19 @@ module _ (p : PlainProgram) (e : Env) (slots : ℕ) (home : Temp → Location) (
       temp_row : (t : Temp) → HasHome slots t → (j : ℕ) → j < t.bytes → v1.at (base t + j) ≡ v.at (base t + j)
       temp_row t it j l =
           let two = (y.layout.temps_at t it).clear in
-          let ends = off_ends (base t) t.bytes j (y.layout.temps_work t it) l in
-          same (base t + j) (omega arith) (omega arith) ends.0 ends.1 (apart_outside (base t) t.bytes y.work 64 j (y.temps_work t it) l)
+          let clear = y.layout.temps_work t it in
+          let free = off_stack (base t) t.bytes j (λ k high stacked. y.temps_stack t k it high stacked) l in
+          same (base t + j) (omega arith) (omega arith) (apart_outside (base t) t.bytes 8 6 j clear.low l)
+          (apart_outside (base t) t.bytes 26 6 j clear.high l) (apart_outside (base t) t.bytes y.work 64 j (y.temps_work t it) l)
+          free.0 free.1
 
       leaf_row : (l : ObjectLeaf p DataBank) (j : ℕ) → j < l.bytes → v1.at (place l.object + l.at + j) ≡ v.at (place l.object + l.at + j)
       leaf_row l j m =
           let two = (y.layout.leaves_at l).clear in
-          let ends = off_ends (place l.object + l.at) l.bytes j (y.layout.leaves_work l) m in
-          same (place l.object + l.at + j) (omega arith) (omega arith) ends.0 ends.1 (y.leaves_work l j m)
+          let clear = y.layout.leaves_work l in
+          let free = off_stack (place l.object + l.at) l.bytes j (λ k high stacked. y.leaves_stack l k high stacked) m in
+          same (place l.object + l.at + j) (omega arith) (omega arith) (apart_outside (place l.object + l.at) l.bytes 8 6 j clear.low m)
+          (apart_outside (place l.object + l.at) l.bytes 26 6 j clear.high m) (y.leaves_work l j m) free.0 free.1
 
   -- ---- the result is brought to its place
 
@@ -173,18 +204,37 @@ module _ (p : PlainProgram) (e : Env) (slots : ℕ) (home : Temp → Location) (
 
   -- ---- the run
 
-  -- all but the work bytes is kept by code that computes there
-  kept_by : (most pc mid size : ℕ) (v : View) (Holds : ℕ → Type 0) → size ≤ 24
-      → (r : Computes e most pc v mid (y.work + 40) size y.work Holds)
-      → (k : ℕ) → k ≢ 0 → k ≢ 1 → k ≢ 30 → k ≢ 31 → Outside y.work 64 k → r.last.at k ≡ v.at k
-  kept_by most pc mid size v Holds l r k a b c d o =
-      r.same k a b c d (λ q. let w = o (omega arith) in omega arith) (λ q. let w = o q in omega arith)
+  -- code that computes in the work bytes does no more than a call of it
+  pub by_itself : (most pc mid size : ℕ) (v : View) (Holds : ℕ → Type 0) → size ≤ 24
+      → Computes e most pc v mid (y.work + 40) size y.work Holds → ComputesByCall e most pc v mid (y.work + 40) size y.work Holds
+  by_itself most pc mid size v Holds l r = record {
+    steps = r.steps;
+    at_most = r.at_most;
+    last = r.last;
+    goes = r.goes;
+    holds = r.holds;
+    numbers = r.numbers;
+    same = λ k a b low high o s t. r.same k a b (λ q. let z = high (omega arith) in omega arith)
+        (λ q. let z = high (omega arith) in omega arith) (λ q. let w = o (omega arith) in omega arith)
+        (λ q. let w = o q in omega arith);
+    inputs = r.inputs;
+    safe = r.safe;
+    seen = r.seen;
+  }
+
+  -- all but the work bytes, and what a call pushes, is kept by code that computes there
+  kept_by : (most pc mid size : ℕ) (need : Need) (m : Mach) (v : View) (Holds : ℕ → Type 0) → M need m v
+      → (r : ComputesByCall e most pc v mid (y.work + 40) size y.work Holds)
+      → (k : ℕ) → k ≢ 0 → k ≢ 1 → Outside 8 6 k → Outside 26 6 k → Outside y.work 64 k → k ≢ y.stack → k ≢ y.stack - 1
+      → r.last.at k ≡ v.at k
+  kept_by most pc mid size need m v Holds h r k a b low high o s t =
+      r.same k a b low high o (λ q. s (q ∙ pointer_is need m v h)) (λ q. t (q ∙ below_is need m v h))
 
   pub answer_passes : (code : List AsmItem) (most size c n pc end : ℕ) (t : Temp) (need need0 : Need) (m : Mach) (v : View)
       (o : Outcome Value) (Holds : ℕ → Type 0)
       → HasHome slots t → size ≡ t.bytes → M need0 m v → ((u : ℕ) → u ≢ t.at → need u ≤ need0 u) → (wanted need t == 0) ≡ false
       → HasAt e (answer_code code (home t) (wanted need t)) pc end
-      → ((mid : ℕ) → HasAt e code pc mid → Computes e most pc v mid (y.work + 40) size y.work Holds)
+      → ((mid : ℕ) → HasAt e code pc mid → ComputesByCall e most pc v mid (y.work + 40) size y.work Holds)
       → most + 2 * t.bytes ≤ c
       →
       ((z : ℕ) (v2 : View) → Holds z → M need (machine (with_content t (bits z) m.temps) (worked c m.state)) v2
@@ -200,7 +250,7 @@ module _ (p : PlainProgram) (e : Env) (slots : ℕ) (home : Temp → Location) (
       let r = run parts.0 parts.1 in
       let few = r.at_most in
       let v1 = r.last in
-      let after_run = undisturbed need0 m v v1 h (kept_by most pc parts.0 size v Holds (omega arith) r) r.numbers r.inputs r.safe r.seen in
+      let after_run = undisturbed need0 m v v1 h (kept_by most pc parts.0 size need0 m v Holds h r) r.numbers r.inputs r.safe r.seen in
       let z = value v1.at (y.work + 40) size in
       let matches = answer_matches t size z c need need0 m v1 it same after_run more refl in
       let second = block_goes e copy parts.0 end v1 (pieces_are_straight Sum answer_location (home t) k).0 parts.2 in

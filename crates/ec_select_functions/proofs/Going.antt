@@ -1,6 +1,7 @@
 -- Operations that are left, and what is shown of a run of them.
-use Rattle.std.proofs.Common.{◌≡◌, ℕ, ◌+◌, ◌≤◌, true, List, ◌++◌, None, Option}
-use Rattle.std.specs.Prelude.{Contains}
+use Rattle.std.proofs.Common.{◌≡◌, ℕ, ◌+◌, ◌≤◌, true, List, [], ◌∷◌, ◌++◌, None, Some, Option, refl, subst, arith}
+use Rattle.std.specs.Prelude.{Contains, ⊤}
+use Rattle.std.proofs.lemmas.List.Elements.{Contains-append_right}
 use Rattle.ec_asm.specs.declared.items.AsmItem.{AsmItem}
 use Rattle.ec_asm.specs.declared.pieces.Location.{Location}
 use Rattle.ec_asm.specs.View.{View}
@@ -16,13 +17,41 @@ use Rattle.ec_ir.specs.Meaning.{Mach, Frame as Call, is_among, active as active_
 use Rattle.ec_ir.specs.Operations.{PlainIr, PlainIrFunction}
 use Rattle.ec_ir.specs.Valid.{called_in}
 use Rattle.ec_select_operations.specs.declared.families.Told.{Told}
-use Rattle.ec_select_operations.specs.Code.{Linkage, op_code, ops_code}
-use Rattle.ec_select_functions.specs.Covered.{AreCovered}
+use Rattle.ec_select_operations.specs.Code.{Linkage, own_code, called_code, linked_code, result_wanted, tells_next, ops_code}
+use Rattle.ec_select_operations.specs.Routines.{HasRoutineOf}
+use Rattle.ec_select_functions.specs.Covered.{IsCovered, AreCovered}
+use Rattle.ec_select_functions.specs.Laws.{CanCall}
 use Rattle.ec_select_operations.specs.Needs.{Need, Facts, facts_of, needs, IsLiveBy}
 use Rattle.ec_select_functions.specs.Relation.{Matches}
 use Rattle.ec_select_functions.proofs.Checked.{checked_on, performed}
 use Rattle.ec_select_functions.proofs.Follow.{Follows, after}
 use Rattle.ec_select_functions.proofs.Setting.{Setting}
+
+-- code at its use, where no routine is called
+pub own_is : (routine : Option ℕ) (called : ℕ → List AsmItem) (own : List AsmItem) → ((l : ℕ) → routine ≡ Some l → ⊥)
+    → linked_code routine called own ≡ own
+own_is None called own none = refl
+own_is (Some l) called own none = absurd (none l refl)
+
+-- the routine that an operation calls stands, and can be called
+abbrev pub IsLinked : Env → Linkage → PlainIr → Type 0
+IsLinked e link i = (l : ℕ) → link.routine_of i ≡ Some l → HasRoutineOf e l i × CanCall i
+
+-- operations that are covered, and whose routines stand
+abbrev pub AreReady : (p : PlainProgram) (e : Env) (results : ℕ → ℕ) (f : ℕ) (called : List ℕ) (slots : ℕ) → Linkage → List PlainIr
+    → Type 0
+AreReady p e results f called slots link [] = ⊤
+AreReady p e results f called slots link (i ∷ code) =
+    (IsCovered p results f called slots i × IsLinked e link i) × AreReady p e results f called slots link code
+
+pub are_ready : (p : PlainProgram) (e : Env) (results : ℕ → ℕ) (f : ℕ) (called : List ℕ) (slots : ℕ) (link : Linkage)
+    (code : List PlainIr) → AreCovered p results f called slots code → ((i : PlainIr) → Contains code i → IsLinked e link i)
+    → AreReady p e results f called slots link code
+are_ready p e results f called slots link [] covered linked = tt
+are_ready p e results f called slots link (i ∷ code) covered linked = (
+  (covered.0, linked i (0, omega arith, refl)),
+  are_ready p e results f called slots link code covered.1 (λ j there. linked j (Contains-append_right (i ∷ []) code j there)),
+)
 
 module _ (p : PlainProgram) (functions : List PlainIrFunction) (e : Env) (slots : ℕ) (home : Temp → Location)
     (base : Temp → ℕ) (place : ℕ → ℕ) (y : Setting p e slots home base place) (labels : ℕ → Need) (all : List PlainIr)
@@ -44,9 +73,26 @@ module _ (p : PlainProgram) (functions : List PlainIrFunction) (e : Env) (slots 
   abbrev pub items : List PlainIr → List AsmItem
   items code = items_told None code
 
-  -- that of one which has been told nothing, tells nothing, and takes no number
+  -- that of one at its use, which has been told nothing, tells nothing, and takes no number
   abbrev pub code_of : PlainIr → List PlainIr → List AsmItem
-  code_of i rest = op_code p home link None None None (needs at rest) i
+  code_of i rest = own_code p home link None None None (needs at rest) i
+
+  -- an operation whose code stands at its use and which has been told so much, and those behind it
+  abbrev pub own_told : Option Told → PlainIr → List PlainIr → List AsmItem
+  own_told told i rest =
+      own_code p home link told (tells_next at i rest) (at.known (i ∷ rest)) (needs at rest) i ++ items_told (tells_next at i rest) rest
+
+  abbrev pub own_items : PlainIr → List PlainIr → List AsmItem
+  own_items i rest = own_told None i rest
+
+  -- one that can have no routine is such an operation, also behind other code
+  pub at_use_behind : (first : List AsmItem) (told : Option Told) (i : PlainIr) (rest : List PlainIr) (pc : ℕ) → IsLinked e link i
+      → ((l : ℕ) → HasRoutineOf e l i → ⊥) → HasAt e (first ++ items_told told (i ∷ rest)) pc end
+      → HasAt e (first ++ own_told told i rest) pc end
+  at_use_behind first told i rest pc linked none stands =
+      subst (λ x. HasAt e (first ++ (x ++ items_told (tells_next at i rest) rest)) pc end)
+      (own_is (link.routine_of i) (λ l. called_code home l (result_wanted (needs at rest) i) i)
+      (own_code p home link told (tells_next at i rest) (at.known (i ∷ rest)) (needs at rest) i) (λ l q. none l (linked l q).0)) stands
 
   -- the function runs: it is one of those that are active, which are main and those that were called
   pub record IsRunning : Type 0 where
@@ -55,11 +101,15 @@ module _ (p : PlainProgram) (functions : List PlainIrFunction) (e : Env) (slots 
 
   -- the operations that are left have their code from this word on
   pub record Ready (pc : ℕ) (rest : List PlainIr) : Type 0 where
-    pub covered : AreCovered p results me y.called slots rest
+    pub covered : AreReady p e results me y.called slots link rest
     pub live : IsLiveBy at rest
     pub inside : (b : ℕ) → Contains (called_in rest) b → Contains (called_in all) b
     pub here : IsRunning
     pub stands : HasAt e (items rest) pc end
+
+  pub at_use : (i : PlainIr) (rest : List PlainIr) (pc : ℕ) → Ready pc (i ∷ rest) → ((l : ℕ) → HasRoutineOf e l i → ⊥)
+      → HasAt e (own_items i rest) pc end
+  at_use i rest pc r none = at_use_behind [] None i rest pc r.covered.0.1 none r.stands
 
   -- the run of operations from here on
   abbrev pub R : ℕ → List PlainIr → Mach → Outcome Value

@@ -1,5 +1,4 @@
 -- For the crates of the family.
-pub mod Stacked
 pub mod OnIntegers
 pub mod OnWholes
 pub mod Taken
@@ -34,6 +33,7 @@ mod Reached
 mod PointerNumbers
 mod MemorySteps
 mod PointerSteps
+mod ByRoutine
 mod Steps
 mod Extended
 mod Standing

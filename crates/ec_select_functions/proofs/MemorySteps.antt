@@ -53,7 +53,7 @@ use Rattle.ec_select_functions.proofs.Accesses.{leaf_with, home_is, recorded_wor
 use Rattle.ec_select_functions.proofs.Accesses.{after_read, after_write, load_matches, load_brings, store_matches}
 use Rattle.ec_select_functions.proofs.Accesses.{store_brings}
 use Rattle.ec_select_functions.proofs.Follow.{Follows, after}
-use Rattle.ec_select_functions.proofs.Going.{passes as passes_of, items as items_of, code_of as code_from, R as run_of}
+use Rattle.ec_select_functions.proofs.Going.{passes as passes_of, items as items_of, own_items as own_items_of, code_of as code_from, R as run_of}
 use Rattle.ec_select_functions.proofs.Going.{P as operation_of}
 use Rattle.ec_select_functions.proofs.Going.{Rest as ShownOf, begun as begun_of, IsRunning}
 use Rattle.ec_select_functions.proofs.Match.{wanted_most, whole, at_width, least_here, least_other, without_other}
@@ -127,6 +127,9 @@ module _ (p : PlainProgram) (functions : List PlainIrFunction) (e : Env) (slots 
   abbrev items : List PlainIr → List AsmItem
   items code = items_of p functions e slots home base place y labels all end results me link stack code
 
+  abbrev own_items : PlainIr → List PlainIr → List AsmItem
+  own_items i rest = own_items_of p functions e slots home base place y labels all end results me link stack i rest
+
   abbrev code_of : PlainIr → List PlainIr → List AsmItem
   code_of i rest = code_from p functions e slots home base place y labels all end results me link stack i rest
 
@@ -151,7 +154,7 @@ module _ (p : PlainProgram) (functions : List PlainIrFunction) (e : Env) (slots 
   -- ---- addresses
 
   pub address_follows : (t : Temp) (o offset : ℕ) (rest : List PlainIr) (n pc : ℕ) (m : Mach) (v : View)
-      → IsAddress p slots t o offset → HasAt e (items (address t o offset ∷ rest)) pc end
+      → IsAddress p slots t o offset → HasAt e (own_items (address t o offset) rest) pc end
       → M (needs at (address t o offset ∷ rest)) m v → Rest (suc n) rest
       → G (suc n) m.state.work pc v (P n (address t o offset) rest m)
   address_follows t o offset rest n pc m v is stands h f =
@@ -286,7 +289,7 @@ module _ (p : PlainProgram) (functions : List PlainIrFunction) (e : Env) (slots 
       at_object (Some x) h = by_live (is_live_in q x) h
 
   pub field_follows : (ptr : Temp) (space : SpaceId) (offset : ℕ) (rest : List PlainIr) (n pc : ℕ) (m : Mach) (v : View)
-      → IsInto slots space ptr → HasAt e (items (field ptr space offset ∷ rest)) pc end
+      → IsInto slots space ptr → HasAt e (own_items (field ptr space offset) rest) pc end
       → M (needs at (field ptr space offset ∷ rest)) m v → Rest (suc n) rest
       → G (suc n) m.state.work pc v (P n (field ptr space offset) rest m)
   field_follows ptr space offset rest n pc m v into stands h f =
@@ -391,7 +394,7 @@ module _ (p : PlainProgram) (functions : List PlainIrFunction) (e : Env) (slots 
   store_on n rest m x s1 = R n rest (machine m.temps s1)
 
   pub load_at_follows : (to ptr : Temp) (space : SpaceId) (rest : List PlainIr) (n pc : ℕ) (m : Mach) (v : View)
-      → HasHome slots to → IsInto slots space ptr → HasAt e (items (load_at to ptr space ∷ rest)) pc end
+      → HasHome slots to → IsInto slots space ptr → HasAt e (own_items (load_at to ptr space) rest) pc end
       → M (needs at (load_at to ptr space ∷ rest)) m v → Rest n rest
       → G (suc n) m.state.work pc v (P n (load_at to ptr space) rest m)
   load_at_follows to ptr space rest n pc m v it into stands h f =
@@ -443,7 +446,7 @@ module _ (p : PlainProgram) (functions : List PlainIrFunction) (e : Env) (slots 
           (f parts.0 m1 run.last parts.2 matches)
 
   pub store_at_follows : (ptr : Temp) (space : SpaceId) (from : Temp) (rest : List PlainIr) (n pc : ℕ) (m : Mach) (v : View)
-      → HasHome slots from → IsInto slots space ptr → HasAt e (items (store_at ptr space from ∷ rest)) pc end
+      → HasHome slots from → IsInto slots space ptr → HasAt e (own_items (store_at ptr space from) rest) pc end
       → M (needs at (store_at ptr space from ∷ rest)) m v → Rest n rest
       → G (suc n) m.state.work pc v (P n (store_at ptr space from) rest m)
   store_at_follows ptr space from rest n pc m v it into stands h f =
@@ -534,7 +537,7 @@ module _ (p : PlainProgram) (functions : List PlainIrFunction) (e : Env) (slots 
   kind_addressable (register first) q = absurd (cc)
 
   pub load_follows : (t : Temp) (o offset : ℕ) (rest : List PlainIr) (n pc : ℕ) (m : Mach) (v : View) → HasHome slots t
-      → HasScalarAt p o offset t.bytes → HasAt e (items (load_object t o offset ∷ rest)) pc end
+      → HasScalarAt p o offset t.bytes → HasAt e (own_items (load_object t o offset) rest) pc end
       → M (needs at (load_object t o offset ∷ rest)) m v → Rest n rest
       → G (suc n) m.state.work pc v (P n (load_object t o offset) rest m)
   load_follows t o offset rest n pc m v it has stands h f = at_object (slice_get m.state.objects o) refl
@@ -615,7 +618,7 @@ module _ (p : PlainProgram) (functions : List PlainIrFunction) (e : Env) (slots 
 
   -- where what is kept has been settled
   store_named : (o offset : ℕ) (t : Temp) (rest : List PlainIr) (n pc : ℕ) (m : Mach) (v : View) → HasHome slots t
-      → (has : HasScalarAt p o offset t.bytes) → HasAt e (items (store_object o offset t ∷ rest)) pc end
+      → (has : HasScalarAt p o offset t.bytes) → HasAt e (own_items (store_object o offset t) rest) pc end
       → (h : M (needs at (store_object o offset t ∷ rest)) m v) → is_kept h.frames.functions has.declared.storage ≡ true
       → Rest n rest
       → G (suc n) m.state.work pc v (next (put_named p o offset t m.temps (begun (store_object o offset t) m)) (store_on n rest m))
@@ -678,7 +681,7 @@ module _ (p : PlainProgram) (functions : List PlainIrFunction) (e : Env) (slots 
   pub store_follows : (o offset : ℕ) (t : Temp) (rest : List PlainIr) (n pc : ℕ) (m : Mach) (v : View) → HasHome slots t
       → HasScalarAt p o offset t.bytes → IsSomeAnd (slice_get p.objects o) (λ d. IsStoredIn me y.called d.storage)
       → IsRunning p functions e slots home base place y labels all end results me link stack
-      → HasAt e (items (store_object o offset t ∷ rest)) pc end
+      → HasAt e (own_items (store_object o offset t) rest) pc end
       → M (needs at (store_object o offset t ∷ rest)) m v → Rest n rest
       → G (suc n) m.state.work pc v (P n (store_object o offset t) rest m)
   store_follows o offset t rest n pc m v it has named running stands h f =

@@ -64,7 +64,7 @@ use Rattle.ec_select_operations.specs.declared.families.Told.{Told}
 use Rattle.ec_select_operations.specs.declared.families.Family.{Family}
 use Rattle.ec_select_operations.specs.declared.families.Family.TheVariants.{Compared}
 use Rattle.ec_select_operations.specs.Code.{is_apart}
-use Rattle.ec_select_operations.specs.Code.{Linkage, op_code, ops_code, told_by, tells, family_of, is_signed}
+use Rattle.ec_select_operations.specs.Code.{Linkage, own_code, tells_next, ops_code, told_by, tells, family_of, is_signed}
 use Rattle.ec_select_operations.specs.Code.{is_only_tested}
 use Rattle.ec_select_operations.specs.Code.{wanted_bytes}
 use Rattle.ec_select_operations.specs.Code.{move_code, conversion_code, offset_code, is_difference}
@@ -561,7 +561,7 @@ resized p bytes other None s i = tt
 resized p bytes other (Some q) s i = record { pointed = i.pointed; size = s }
 
 -- what is no integer is no number of elements
-no_count : (op : BinOp) (count : PlainType) → (IsIntegerType count → ⊥) → HaveOffsetTypes op count → ⊥
+pub no_count : (op : BinOp) (count : PlainType) → (IsIntegerType count → ⊥) → HaveOffsetTypes op count → ⊥
 no_count Add count none h = none h
 no_count Sub count none h = none h
 no_count op count none h = h
@@ -582,9 +582,15 @@ module _ (p : PlainProgram) (functions : List PlainIrFunction) (e : Env) (slots 
   abbrev items : List PlainIr → List AsmItem
   items code = ops_code p home link at None code
 
-  -- the code of an operation that has been told nothing, tells nothing, and takes no number
+  -- an operation whose code stands at its use, and those behind it
+  abbrev own_items : PlainIr → List PlainIr → List AsmItem
+  own_items i rest =
+      own_code p home link None (tells_next at i rest) (at.known (i ∷ rest)) (needs at rest) i
+      ++ ops_code p home link at (tells_next at i rest) rest
+
+  -- its code, where it has been told nothing, tells nothing, and takes no number
   abbrev code_of : PlainIr → List PlainIr → List AsmItem
-  code_of i rest = op_code p home link None None None (needs at rest) i
+  code_of i rest = own_code p home link None None None (needs at rest) i
 
   -- an operation that takes no number, and those behind it
   abbrev plain_told : PlainIr → List PlainIr → Option Told
@@ -592,7 +598,7 @@ module _ (p : PlainProgram) (functions : List PlainIrFunction) (e : Env) (slots 
 
   abbrev plain_items : PlainIr → List PlainIr → List AsmItem
   plain_items i rest =
-      op_code p home link None (plain_told i rest) None (needs at rest) i ++ ops_code p home link at (plain_told i rest) rest
+      own_code p home link None (plain_told i rest) None (needs at rest) i ++ ops_code p home link at (plain_told i rest) rest
 
   -- what is needed before it
   abbrev plain_needs : PlainIr → List PlainIr → Need
@@ -1139,7 +1145,7 @@ module _ (p : PlainProgram) (functions : List PlainIrFunction) (e : Env) (slots 
       → is_apart (family_of op) mode ty aty bty ≡ true → HasAt e (plain_items (binary_op op ty mode t a aty b bty) rest) pc end
       → HasAt e (code_of (binary_op op ty mode t a aty b bty) rest ++ items rest) pc end
   untold op ty mode t a aty b bty rest pc apart stands =
-      subst (λ (x : Option Told). HasAt e (op_code p home link None x None (needs at rest)
+      subst (λ (x : Option Told). HasAt e (own_code p home link None x None (needs at rest)
       (binary_op op ty mode t a aty b bty) ++ ops_code p home link at x rest) pc end)
       (none (is_only_tested t (slice_get rest 0) (slice_index (wanted_bytes at rest) 0))) stands
     where
@@ -1189,7 +1195,7 @@ module _ (p : PlainProgram) (functions : List PlainIrFunction) (e : Env) (slots 
       (from : SpaceId) (const2 : Bool) (to2 : PlainType)
       (rest : List PlainIr) (n pc : ℕ) (m : Mach) (v : View)
       → IsPointerConversion slots t a (pointer space const to) (pointer from const2 to2)
-      → HasAt e (items (conversion t (pointer space const to) mode a (pointer from const2 to2) ∷ rest)) pc end
+      → HasAt e (own_items (conversion t (pointer space const to) mode a (pointer from const2 to2)) rest) pc end
       → M (at_least a.at (all_or_none a.bytes (wanted (needs at rest) t)) (without t.at (needs at rest))) m v
       → Rest (suc n) rest → G (suc n) m.state.work pc v
       (P n (conversion t (pointer space const to) mode a (pointer from const2 to2)) rest m)
@@ -1302,7 +1308,7 @@ module _ (p : PlainProgram) (functions : List PlainIrFunction) (e : Env) (slots 
 
   pub pointer_conversion_follows : (t : Temp) (ty : PlainType) (mode : Mode) (a : Temp) (aty : PlainType) (rest : List PlainIr)
       (n pc : ℕ) (m : Mach) (v : View) → IsPointerConversion slots t a ty aty
-      → HasAt e (items (conversion t ty mode a aty ∷ rest)) pc end → M (needs at (conversion t ty mode a aty ∷ rest)) m v
+      → HasAt e (own_items (conversion t ty mode a aty) rest) pc end → M (needs at (conversion t ty mode a aty ∷ rest)) m v
       → Rest (suc n) rest → G (suc n) m.state.work pc v (P n (conversion t ty mode a aty) rest m)
   pointer_conversion_follows t (pointer space const to) mode a (pointer from const2 to2) rest n pc m v k stands h f =
       pointer_converted t space const to mode a from const2 to2 rest n pc m v k stands h f

@@ -35,7 +35,7 @@ use Rattle.ec_core.specs.State.{Inputs, Event, State, ObjectState, Outcome, got,
 use Rattle.ec_core.specs.TypeLaws.{LeavesFillTheirTypes}
 use Rattle.ec_ir.specs.Meaning.{is_among, start, start_state, enter, leave, run as ir_run}
 use Rattle.ec_ir.specs.Operations.{PlainIrFunction, PlainIrProgram, data_of}
-use Rattle.ec_ir.specs.Temporaries.{Content, bits, points, Held, no_temps}
+use Rattle.ec_ir.specs.Temporaries.{Content, bits, points, Held}
 use Rattle.ec_ir.specs.Valid.{ValidIr, called_in}
 use Rattle.ec_ir_known.specs.Laws.{checked, KnownNumbersAreHeld}
 use Rattle.ec_select_operations.specs.Code.{ops_code}
@@ -46,7 +46,7 @@ use Rattle.ec_select_functions.specs.Kept.{are_on_ports, on_ports, meaning_on}
 use Rattle.ec_select_operations.specs.Needs.{facts_of, needs}
 use Rattle.ec_select_operations.specs.Places.{ObjectLeaf}
 use Rattle.ec_select_functions.specs.Relation.{accesses, HoldsContent, Matches}
-use Rattle.ec_select_functions.proofs.Setting.{FixedLaws, PointerLaws, NumberLaws}
+use Rattle.ec_select_functions.proofs.Setting.{FixedLaws, RoutineLaws, PointerLaws, NumberLaws}
 use Rattle.ec_select_functions.proofs.Active.{World, Active, in_row, row_parts, row_from, homes_of, scratch_of}
 use Rattle.ec_select_functions.proofs.Active.{stack_work}
 use Rattle.ec_select_functions.proofs.Active.{base_of, leaf_at, leaf_is, setting_of, selected_of, stack_scratch}
@@ -58,7 +58,7 @@ use Rattle.ec_select_functions.proofs.Match.{HadValue, had_value, kept_frames}
 use Rattle.ec_select_functions.proofs.Numbers.{signed_word}
 use Rattle.ec_select_functions.proofs.Returned.{HandsOn, Left, Returns, go_on, pointer_is, return_follows}
 use Rattle.ec_select_functions.proofs.Safe.{safe_earlier}
-use Rattle.ec_select_functions.proofs.Going.{Ready}
+use Rattle.ec_select_functions.proofs.Going.{Ready, are_ready}
 use Rattle.ec_select_functions.proofs.Steps.{follows}
 
 -- what this rests on of the layers below
@@ -68,6 +68,7 @@ pub record CodeLaws : Type 0 where
   pub fill : LeavesFillTheirTypes
   pub taken : BytesAreTakenInOrder
   pub fixed : FixedLaws
+  pub routines : RoutineLaws
   pub pointers : PointerLaws
   pub numbers : NumberLaws
   pub known : KnownNumbersAreHeld
@@ -92,7 +93,8 @@ module _ (p : PlainIrProgram) (e : Env) (place entry_of : ℕ → ℕ) (w : Worl
       let stands = x.stands in
       let ready : Ready D p.functions e g.slots hs bs place setting labels g.code x.end w.selected.results f link stack stands.0 g.code =
       record {
-        covered = x.covered;
+        covered = are_ready D e w.selected.results f (called_in g.code) g.slots link g.code x.covered
+            (λ i there l q. (x.routines i l there q, x.callers i l there q));
         live = x.live;
         inside = λ b q. q;
         here = record { active = a.runs; stacked = stacked };
@@ -142,6 +144,7 @@ module _ (laws : CodeLaws) (p : PlainIrProgram) (place entry_of : ℕ → ℕ) (
     feeds = λ port k. subst (λ (bytes : List ℕ). slice_index bytes k < 256) (feeds port) (shows.feeds port k);
     taken = laws.taken;
     fixed = laws.fixed;
+    routines = laws.routines;
     pointers = laws.pointers;
     numbers = laws.numbers;
     low = low;
@@ -155,7 +158,7 @@ module _ (laws : CodeLaws) (p : PlainIrProgram) (place entry_of : ℕ → ℕ) (
   program_data = data_of p
 
   low_room : low ≤ sp v + 1
-  low_room = let r : low + 2 * 0 ≤ sp v + 1 = enters.room [] tt in omega arith
+  low_room = let r : low + 2 * 0 + 16 ≤ sp v + 1 = enters.room [] tt in omega arith
 
   active : (g : PlainIrFunction) → slice_get p.functions p.main ≡ Some g
       → Active p e place entry_of w p.main g (sp v) (first_aside (sp v)) v.at
@@ -323,7 +326,8 @@ module _ (laws : CodeLaws) (p : PlainIrProgram) (place entry_of : ℕ → ℕ) (
           let ready : Ready program_data p.functions e g.slots hs (base_of p e place entry_of w p.main) place
           (setting_of p e place entry_of w p.main g (sp v) (first_aside (sp v)) v.at a) labels g.code x.end selected.results p.main
           link [] s.pc g.code = record {
-            covered = x.covered;
+            covered = are_ready program_data e selected.results p.main (called_in g.code) g.slots link g.code x.covered
+                (λ i there l q. (x.routines i l there q, x.callers i l there q));
             live = x.live;
             inside = λ b q. q;
             here = record { active = a.runs; stacked = refl };

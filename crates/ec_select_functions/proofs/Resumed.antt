@@ -33,7 +33,7 @@ use Rattle.ec_select_functions.proofs.Match.{kept_left, same_content, same_leaf,
 use Rattle.ec_select_functions.proofs.Moves.{Quiet, outside_row}
 use Rattle.ec_select_functions.proofs.Saved.{Saves, Restores, restores, kept, register, are_kept, register_ends}
 use Rattle.ec_select_functions.proofs.Saved.{register_apart}
-use Rattle.ec_select_functions.proofs.Stacked.{pushed_same, popped_same, popped_pointer, pointer_low, pointer_high}
+use Rattle.ec_routines.proofs.Stacked.{pushed_same, popped_same, popped_pointer, pointer_low, pointer_high}
 use Rattle.ec_select_functions.proofs.Standing.{InRegister, InScratch, kinds, ends_low}
 
 -- whether a temporary is at the place of a call's result

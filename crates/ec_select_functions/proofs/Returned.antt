@@ -45,6 +45,7 @@ use Rattle.ec_select_functions.proofs.Follow.{Follows, after, from_held, next_ne
 use Rattle.ec_select_functions.proofs.Match.{kept_left, same_leaf, whole}
 use Rattle.ec_select_functions.proofs.Moves.{Quiet, move_holds, move_straight, move_steps, row_value}
 use Rattle.ec_select_functions.proofs.Standing.{result_bounds, result_ends}
+use Rattle.ec_select_functions.proofs.Going.{at_use}
 use Rattle.ec_select_functions.proofs.Steps.{ReturnCase}
 
 module _ (p : PlainIrProgram) (e : Env) (place entry_of : ℕ → ℕ) (w : World p e place entry_of) where
@@ -147,7 +148,7 @@ module _ (p : PlainIrProgram) (e : Env) (place entry_of : ℕ → ℕ) (w : Worl
     back_goes pc end v stands q =
         let last = a.below in
         let top = w.below in
-        let room : w.low + 2 * 0 ≤ s + 1 = a.room [] tt in
+        let room : w.low + 2 * 0 + 16 ≤ s + 1 = a.room [] tt in
         let one : raised (sp v) ≡ s + 1 = rw q (omega arith) in
         let two : raised (raised (sp v)) ≡ s + 2 = rw q (omega arith) in
         return_goes e pc v stands.1.is
@@ -182,7 +183,10 @@ module _ (p : PlainIrProgram) (e : Env) (place entry_of : ℕ → ℕ) (w : Worl
         → ReturnCase D p.functions e slots hs bs place
         (setting_of p e place entry_of w f g s aside was a) labels g.code x.end w.selected.results f
         (linkage_of p entry_of f slots (w.selected.made f)) stack n
-    return_follows n returns None pc rest m v r h = by_flag (f == p.main) refl r.stands
+    return_follows n returns None pc rest m v r h = by_flag (f == p.main) refl
+        (at_use D p.functions e slots hs bs place
+        (setting_of p e place entry_of w f g s aside was a) labels g.code x.end w.selected.results f
+        (linkage_of p entry_of f slots (w.selected.made f)) stack (return_from None) rest pc r (λ l none. none))
       where
         left_over : List AsmItem
         left_over = ops_code D hs (linkage_of p entry_of f slots (w.selected.made f)) at None rest
@@ -244,7 +248,7 @@ module _ (p : PlainIrProgram) (e : Env) (place entry_of : ℕ → ℕ) (w : Worl
         leaves result u = leave D stack result (go_on n) u
 
         it : HasHome slots t
-        it = r.covered.0.0
+        it = r.covered.0.0.0
 
         left_over : List AsmItem
         left_over = ops_code D hs (linkage_of p entry_of f slots (w.selected.made f)) at None rest
@@ -270,6 +274,10 @@ module _ (p : PlainIrProgram) (e : Env) (place entry_of : ℕ → ℕ) (w : Worl
             left_by (returned_need (Some t)) m st v v1 to t.bytes (result_bounds t.bytes).0
             (result_ends t.bytes most) h refl refl k.frame numbers k.quiet in
             handed n pc x.end code left_over (Some (record { bytes = t.bytes; content = c })) m.state.work
-            (op_steps (return_from (Some t))) st v r.stands (move_straight (hs t) (result_location t.bytes) t.bytes)
-            (omega (arith, take, most)) (omega arith) (omega arith) (r.covered.0.1, most, moved) left
+            (op_steps (return_from (Some t))) st v
+            (at_use D p.functions e slots hs bs place
+            (setting_of p e place entry_of w f g s aside was a) labels g.code x.end w.selected.results f
+            (linkage_of p entry_of f slots (w.selected.made f)) stack (return_from (Some t)) rest pc r (λ l none. none))
+            (move_straight (hs t) (result_location t.bytes) t.bytes)
+            (omega (arith, take, most)) (omega arith) (omega arith) (r.covered.0.0.1, most, moved) left
             (pointer_is nothing (machine no_temps st) v1 left) returns

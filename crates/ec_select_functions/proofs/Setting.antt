@@ -1,5 +1,5 @@
 -- A layout, the bytes that are set aside for functions that wait, and the inputs, which are bytes.
-use Rattle.std.proofs.Common.{◌≡◌, ◌≢◌, ℕ, ◌+◌, ◌<◌, ◌≤◌, Bool, true, List, ◌∷◌, Some, slice_index, sym, subst}
+use Rattle.std.proofs.Common.{◌≡◌, ◌≢◌, ℕ, ◌+◌, ◌-◌, ◌<◌, ◌≤◌, Bool, true, List, ◌∷◌, Some, slice_index, sym, subst}
 use Rattle.std.proofs.Common.{◌⊎◌, ⊎_elim, Contains}
 use Rattle.std.specs.Prelude.{◌==◌, slice_get}
 use Rattle.std.proofs.lemmas.Bool.{or_right}
@@ -7,7 +7,8 @@ use Rattle.std.specs.List.{AllByRecursion}
 use Rattle.ec_space.specs.declared.space.Bank.TheVariants.{Data as DataBank}
 use Rattle.ec_space.specs.Spaces.{bank_of}
 use Rattle.ec_asm.specs.declared.pieces.Location.{Location}
-use Rattle.ec_asm.specs.Change.{Env}
+use Rattle.ec_asm.specs.View.{pair}
+use Rattle.ec_asm.specs.Change.{Env, Stacked}
 use Rattle.ec_asm.specs.Pieces.{Outside}
 use Rattle.ec_core.specs.Laws.{BytesAreTakenInOrder}
 use Rattle.ec_core.specs.Layout.{AreStructs, size_of_type}
@@ -30,6 +31,8 @@ use Rattle.ec_select_pointers.specs.AccessLaws.{TableIsLoaded, DataIsStored}
 use Rattle.ec_select_pointers.specs.AddressLaws.{AddressesAreRight, FieldsAreRight}
 use Rattle.ec_select_pointers.specs.Form.{PointersAreStraight, PointersTake, TablesAreShort}
 use Rattle.ec_select_operations.specs.Places.{ObjectLeaf, owner_of, Chained, CanBeLiveTogether, Apart, Layout}
+use Rattle.ec_select_routines.specs.Laws.{BinaryRoutinesAreRight, UnaryRoutinesAreRight, ConversionRoutinesAreRight}
+use Rattle.ec_select_routines.specs.Laws.{QuotientRoutinesAreRight}
 use Rattle.ec_select_functions.specs.Relation.{AreFrames}
 use Rattle.ec_select_functions.specs.Standing.{ObjectStands, TablesStand, WorkStands}
 
@@ -38,6 +41,13 @@ pub record FixedLaws : Type 0 where
   pub binaries : FixedBinariesAreRight
   pub unaries : FixedUnariesAreRight
   pub conversions : FixedConversionsAreRight
+
+-- what calls of routines do
+pub record RoutineLaws : Type 0 where
+  pub binaries : BinaryRoutinesAreRight
+  pub unaries : UnaryRoutinesAreRight
+  pub conversions : ConversionRoutinesAreRight
+  pub quotients : QuotientRoutinesAreRight
 
 -- what the code of operations with pointers does
 pub record PointerLaws : Type 0 where
@@ -69,7 +79,7 @@ pub record NumberLaws : Type 0 where
   pub compared : NumbersAreCompared
   pub straight : NumbersAreStraight
 
--- the bytes that are set aside are no registers, and none of a temporary's or a leaf's
+-- the bytes that are set aside are no registers, and none of a temporary's or a leaf's, and neither are those of the stack
 pub record Setting (p : PlainProgram) (e : Env) (slots : ℕ) (home : Temp → Location) (base : Temp → ℕ) (place : ℕ → ℕ) : Type 0 where
   -- the functions that are active, and those that the one calls which runs. All for which frames can stand are on one chain of calls
   pub program : PlainIrProgram
@@ -91,6 +101,7 @@ pub record Setting (p : PlainProgram) (e : Env) (slots : ℕ) (home : Temp → L
   pub leaves_work : (l : ObjectLeaf p DataBank) (j : ℕ) → j < l.bytes → Outside work 64 (place l.object + l.at + j)
   pub work_aside : (k : ℕ) → aside k ≡ true → Outside work 64 k
   pub fixed : FixedLaws
+  pub routines : RoutineLaws
   pub pointers : PointerLaws
   pub numbers : NumberLaws
   -- the objects, which have at least one byte, and stand apart where they can be live together
@@ -103,6 +114,18 @@ pub record Setting (p : PlainProgram) (e : Env) (slots : ℕ) (home : Temp → L
   pub valid : AllByRecursion (IsObject p) p.objects
   pub structs : AreStructs p.structs
   pub leaves_aside : (l : ObjectLeaf p DataBank) (k : ℕ) → aside k ≡ true → Outside (place l.object + l.at) l.bytes k
+  -- the stack pointer, which is set aside, and two bytes to push, which are not
+  pub stack : ℕ
+  pub stack_high : 257 ≤ stack
+  pub stack_below : stack < 65536
+  pub stacked : (k : ℕ) → stack - 1 ≤ k → k ≤ stack → e.kind k ≡ Stacked
+  pub stack_free : (k : ℕ) → aside k ≡ true → (k ≢ stack) × (k ≢ stack - 1)
+  pub pointer_low : aside 93 ≡ true
+  pub pointer_high : aside 94 ≡ true
+  pub pointer : pair was 93 ≡ stack
+  pub temps_stack : (t : Temp) (k : ℕ) → HasHome slots t → 256 ≤ k → e.kind k ≡ Stacked → Outside (base t) t.bytes k
+  pub leaves_stack : (l : ObjectLeaf p DataBank) (k : ℕ) → 256 ≤ k → e.kind k ≡ Stacked
+      → Outside (place l.object + l.at) l.bytes k
 
 -- frames stand for all active functions
 pub frames_active : (active called fs : List ℕ) (g : ℕ) → AreFrames active called fs → is_among active g ≡ true → is_among fs g ≡ true

@@ -1,8 +1,8 @@
 -- One operation after another: what the code of each operation does for it.
 use Rattle.std.proofs.Common.{◌≡◌, ◌≢◌, ℕ, zero, suc, ◌+◌, ◌-◌, ◌*◌, ◌%◌, ◌^◌, ◌<◌, ◌≤◌, min, Bool, true, false, not, ℤ}
 use Rattle.std.proofs.Common.{pos, ◌*ℤ◌, unsigned_abs, Ok, Err, List, [], ◌∷◌, ◌++◌, ◌&&◌, ◌||◌, ⊎_elim, refl, sym}
-use Rattle.std.proofs.Common.{ap, ◌∙◌, subst, arith, inl, inr, ◌/◌, Some, None, Option, append_assoc}
-use Rattle.std.specs.Prelude.{max, Result, ◌==◌, nat_le, if◌then◌else◌, option_map, slice_get, slice_index, Contains, ◌⊎◌}
+use Rattle.std.proofs.Common.{ap, ◌∙◌, subst, arith, ◌/◌, Some, None, Option, append_assoc}
+use Rattle.std.specs.Prelude.{max, Result, ◌==◌, nat_le, if◌then◌else◌, option_map, slice_get, slice_index, Contains, IsSomeAnd, ◌⊎◌}
 use Rattle.std.proofs.lemmas.List.Elements.{Contains-append_right}
 use Rattle.ec_ir.specs.Valid.{called_in}
 use Rattle.std.specs.Int.{from_bool}
@@ -87,11 +87,11 @@ use Rattle.ec_select_operations.specs.declared.families.Family.TheVariants.{Comb
 use Rattle.ec_select_operations.specs.declared.families.Family.TheVariants.{Divided}
 use Rattle.ec_select_operations.specs.declared.families.Told.{Told}
 use Rattle.ec_select_operations.specs.Code.{Linkage, told_of, is_only_tested, tells, tells_next, flag_code, is_signed, compared_signed}
-use Rattle.ec_select_operations.specs.Code.{op_code, ops_code, family_of, same_location, reversed_code}
+use Rattle.ec_select_operations.specs.Code.{op_code, own_code, called_code, linked_code, result_wanted, ops_code, family_of, same_location, reversed_code}
 use Rattle.ec_select_operations.specs.Code.{combined_code, binary_code, turn_code, unary_code, move_code}
 use Rattle.ec_select_operations.specs.Code.{compared_code, counted_code, taking_code, changed_by_code}
 use Rattle.ec_select_operations.specs.Code.{conversion_code, turned_code, shift_of, shifted_bytes, long_code}
-use Rattle.ec_select_functions.specs.Covered.{IsCovered, IsBinary, IsUnary, AreConverted, IsPort, AreCovered}
+use Rattle.ec_select_functions.specs.Covered.{IsCovered, IsBinary, IsUnary, AreConverted, IsPort}
 use Rattle.ec_select_functions.specs.Covered.{AreIntegers, AreCompared}
 use Rattle.ec_select_functions.specs.Covered.{IsFixedBinary, IsFixedUnary, IsFixedConversion}
 use Rattle.ec_select_functions.specs.Covered.{IsPointerBinary, IsPointerConversion}
@@ -124,7 +124,14 @@ use Rattle.ec_select_operations.specs.Needs.{index_needed, all_or_none, operand_
 use Rattle.ec_select_operations.specs.Places.{IsClear}
 use Rattle.ec_select_functions.proofs.Setting.{Setting}
 use Rattle.ec_select_functions.specs.Relation.{Matches, HoldsContent}
+use Rattle.ec_select_operations.specs.Routines.{HasRoutineOf, body_by, division_body}
+use Rattle.ec_select_routines.specs.Codes.{binary_body, unary_body, conversion_body, quotient_body, call_with_one, call_with_two}
+use Rattle.ec_select_routines.specs.Laws.{HasRoutine}
+use Rattle.ec_select_functions.proofs.ByRoutine.{pointers_have_none, converted_pointers_have_none, conversions_have_none}
+use Rattle.ec_select_functions.proofs.ByRoutine.{unaries_have_none, divided_number, divided_untold, untold_by, has_work, operand_at}
+use Rattle.ec_select_functions.proofs.ByRoutine.{can_push}
 use Rattle.ec_select_functions.proofs.Going.{Ready as IsReady, IsRunning, passes as code_passes, goes_past as code_goes_past}
+use Rattle.ec_select_functions.proofs.Going.{IsLinked, AreReady, at_use as used, at_use_behind as used_behind}
 use Rattle.ec_select_functions.proofs.MemorySteps.{address_follows, field_follows, load_at_follows, store_at_follows}
 use Rattle.ec_select_functions.proofs.MemorySteps.{load_follows, store_follows}
 use Rattle.ec_select_functions.proofs.PointerNumbers.{place_of, objects_have_places, address_is, address_low}
@@ -136,7 +143,7 @@ use Rattle.ec_select_functions.proofs.Taken.{is_changed, TakesSum, TakesOrder, T
 use Rattle.ec_select_functions.proofs.ByNumber.{changed_form, right_held, ByteNumber, byte_value, byte_bytes, number_low, number_matches, number_put}
 use Rattle.ec_select_functions.proofs.ByNumber.{fails_by_number, holds_by_number}
 use Rattle.ec_select_functions.proofs.Extended.{conversion_matches}
-use Rattle.ec_select_functions.proofs.FixedRuns.{answer_passes, slots_of, operand_slots_of}
+use Rattle.ec_select_functions.proofs.FixedRuns.{answer_passes, by_itself, slots_of, operand_slots_of}
 use Rattle.ec_select_functions.proofs.Carried.{brought_passes}
 use Rattle.ec_select_functions.proofs.Checked.{is_known, checked_on, performed, checked}
 use Rattle.ec_select_functions.proofs.Negated.{negated_passes}
@@ -189,9 +196,23 @@ module _ (p : PlainProgram) (functions : List PlainIrFunction) (e : Env) (slots 
   abbrev pub items : List PlainIr → List AsmItem
   items code = items_told None code
 
-  -- that of one which has been told nothing, tells nothing, and takes no number
+  -- that of one at its use, which has been told nothing, tells nothing, and takes no number
   abbrev pub code_of : PlainIr → List PlainIr → List AsmItem
-  code_of i rest = op_code p home link None None None (needs at rest) i
+  code_of i rest = own_code p home link None None None (needs at rest) i
+
+  -- an operation whose code stands at its use and which has been told so much, and those behind it
+  abbrev own_told : Option Told → PlainIr → List PlainIr → List AsmItem
+  own_told told i rest =
+      own_code p home link told (tells_next at i rest) (at.known (i ∷ rest)) (needs at rest) i ++ items_told (tells_next at i rest) rest
+
+  abbrev own_items : PlainIr → List PlainIr → List AsmItem
+  own_items i rest = own_told None i rest
+
+  -- one that calls a routine with a label, if there is one, and those behind it
+  abbrev linked_items : Option ℕ → PlainIr → List PlainIr → List AsmItem
+  linked_items routine i rest =
+      linked_code routine (λ l. called_code home l (result_wanted (needs at rest) i) i)
+      (own_code p home link None (tells_next at i rest) (at.known (i ∷ rest)) (needs at rest) i) ++ items_told (tells_next at i rest) rest
 
   -- an operation that takes no number, and those behind it
   abbrev plain_told : PlainIr → List PlainIr → Option Told
@@ -199,7 +220,7 @@ module _ (p : PlainProgram) (functions : List PlainIrFunction) (e : Env) (slots 
 
   abbrev plain_items : PlainIr → List PlainIr → List AsmItem
   plain_items i rest =
-      op_code p home link None (plain_told i rest) None (needs at rest) i ++ items_told (plain_told i rest) rest
+      own_code p home link None (plain_told i rest) None (needs at rest) i ++ items_told (plain_told i rest) rest
 
   -- what is needed before it
   abbrev plain_needs : PlainIr → List PlainIr → Need
@@ -239,7 +260,7 @@ module _ (p : PlainProgram) (functions : List PlainIrFunction) (e : Env) (slots 
   goes_past = code_goes_past p functions e slots home base place y labels all end results me link stack
 
   pub constant_follows : (t : Temp) (k : ℤ) (rest : List PlainIr) (n pc : ℕ) (m : Mach) (v : View) → HasHome slots t
-      → HasAt e (items (constant t k ∷ rest)) pc end → M (without t.at (needs at rest)) m v → Rest (suc n) rest
+      → HasAt e (own_items (constant t k) rest) pc end → M (without t.at (needs at rest)) m v → Rest (suc n) rest
       → G (suc n) m.state.work pc v (P n (constant t k) rest m)
   constant_follows t k rest n pc m v it stands h f =
       let need = needs at rest in
@@ -254,7 +275,7 @@ module _ (p : PlainProgram) (functions : List PlainIrFunction) (e : Env) (slots 
       (λ mid s. f mid m1 _ s (constant_matches p e slots home base place y t need m v k c it h))
 
   pub copy_follows : (t u : Temp) (rest : List PlainIr) (n pc : ℕ) (m : Mach) (v : View) → HasHome slots t → HasHome slots u
-      → t.bytes ≡ u.bytes → HasAt e (items (copy t u ∷ rest)) pc end
+      → t.bytes ≡ u.bytes → HasAt e (own_items (copy t u) rest) pc end
       → M (at_least u.at (wanted (needs at rest) t) (without t.at (needs at rest))) m v → Rest (suc n) rest
       → G (suc n) m.state.work pc v (P n (copy t u) rest m)
   copy_follows t u rest n pc m v it iu same stands h f =
@@ -517,17 +538,24 @@ module _ (p : PlainProgram) (functions : List PlainIrFunction) (e : Env) (slots 
       (subst (λ j. value v.at (base t) j ≡ low % 256 ^ j) (sym none) empty, below) h.bytes refl h.seen h.left h.safe
 
   -- nor is there code
+  no_code_passes : (code : List AsmItem) (t : Temp) (low c : ℕ) (rest : List PlainIr) (n pc : ℕ) (need0 : Need) (m : Mach) (v : View)
+      → HasHome slots t → code ≡ [] → wanted (needs at rest) t ≡ 0 → low < 256 ^ t.bytes
+      → HasAt e (code ++ items rest) pc end → ((u : ℕ) → u ≢ t.at → needs at rest u ≤ need0 u) → M need0 m v
+      → Rest (suc n) rest → G (suc n) m.state.work pc v (R (suc n) rest (after_operator t low c m))
+  no_code_passes code t low c rest n pc need0 m v it empty none below stands more h f =
+      let matches = not_needed t low c (needs at rest) need0 m v it none below more h in
+      let m1 = after_operator t low c m in
+      let steps : code_steps code ≡ 0 = ap code_steps empty in
+      goes_past code (items rest) (suc n) (suc n) m.state.work m1.state.work pc v (R (suc n) rest m1) stands (ap all_straight empty)
+      (omega arith) (omega (arith, steps))
+      (λ mid u. f mid m1 _ u (subst (λ w. M (needs at rest) m1 (block e w v)) (sym empty) matches))
+
   nothing_passes : (i : PlainIr) (t : Temp) (low c : ℕ) (rest : List PlainIr) (n pc : ℕ) (need0 : Need) (m : Mach) (v : View)
       → HasHome slots t → code_of i rest ≡ [] → wanted (needs at rest) t ≡ 0 → low < 256 ^ t.bytes
       → HasAt e (code_of i rest ++ items rest) pc end → ((u : ℕ) → u ≢ t.at → needs at rest u ≤ need0 u) → M need0 m v
       → Rest (suc n) rest → G (suc n) m.state.work pc v (R (suc n) rest (after_operator t low c m))
   nothing_passes i t low c rest n pc need0 m v it empty none below stands more h f =
-      let matches = not_needed t low c (needs at rest) need0 m v it none below more h in
-      let m1 = after_operator t low c m in
-      let steps : code_steps (code_of i rest) ≡ 0 = ap code_steps empty in
-      passes i rest (suc n) (suc n) m.state.work m1.state.work pc v (R (suc n) rest m1) stands (ap all_straight empty) (omega arith)
-      (omega (arith, steps))
-      (λ mid u. f mid m1 _ u (subst (λ w. M (needs at rest) m1 (block e w v)) (sym empty) matches))
+      no_code_passes (code_of i rest) t low c rest n pc need0 m v it empty none below stands more h f
 
   -- of other places no less is needed before an operator
   other_needed : (op : BinOp) (t a b : Temp) (ka kb : ℕ) (need : Need) (u : ℕ) → u ≢ t.at
@@ -1485,15 +1513,27 @@ module _ (p : PlainProgram) (functions : List PlainIrFunction) (e : Env) (slots 
       (goes_on_to e (code_steps first) g.steps pc s2.0 s1.0 v v1 g.last go g.goes) (omega arith) (omega (arith, take1, take2, big, most))
       (f s1.0 m1 g.last s1.2 matches)
 
-  pub divided_follows : (op : BinOp) (r : Bool) → family_of op ≡ Divided r → (s : Bool) (mode : Mode)
-      (t a b : Temp) (top : ℕ) (rest : List PlainIr) (n pc : ℕ) (m : Mach) (v : View) → HasHome slots t → HasHome slots a
-      → HasHome slots b → t.bytes ≡ suc top → a.bytes ≡ suc top → b.bytes ≡ suc top → suc top ≤ 4 → t.at ≢ b.at
-      → HasAt e (code_of (binary_op op (integer s (suc top)) mode t a (integer s a.bytes) b (integer s b.bytes)) rest ++ items rest) pc end
+  -- what is shown of code for a quotient or a remainder of numbers, of which the second one is not 0
+  abbrev DividedRuns : BinOp → (r s : Bool) → Mode → (t a b : Temp) → (top : ℕ) → List PlainIr → (n pc : ℕ) → Mach → View → Type 0
+  DividedRuns op r s mode t a b top rest n pc m v =
+      (low1 low2 : ℕ) → (wanted (needs at rest) t == 0) ≡ false → value v.at (base a) (suc top) ≡ low1
+      → value v.at (base b) (suc top) ≡ low2 → 1 ≤ low2 → quotient_of r s top low1 low2 < 256 ^ t.bytes
+      → M (operands_needed op t a b a.bytes b.bytes (needs at rest)) m v
+      → G (suc n) m.state.work pc v
+      (R (suc n) rest
+      (after_operator t (quotient_of r s top low1 low2)
+      (op_steps (binary_op op (integer s (suc top)) mode t a (integer s a.bytes) b (integer s b.bytes))) m))
+
+  -- such code, which is none where no byte of the result is needed, does what the operator does
+  divided_by : (op : BinOp) (r : Bool) → family_of op ≡ Divided r → (s : Bool) (mode : Mode)
+      (t a b : Temp) (top : ℕ) (rest : List PlainIr) (n pc : ℕ) (m : Mach) (v : View) (code : List AsmItem) → HasHome slots t
+      → HasHome slots a → HasHome slots b → t.bytes ≡ suc top → a.bytes ≡ suc top → b.bytes ≡ suc top
+      → ((wanted (needs at rest) t == 0) ≡ true → code ≡ []) → HasAt e (code ++ items rest) pc end
       → M (plain_needs (binary_op op (integer s (suc top)) mode t a (integer s a.bytes) b (integer s b.bytes)) rest) m v
-      → Rest (suc n) rest
+      → DividedRuns op r s mode t a b top rest n pc m v → Rest (suc n) rest
       → G (suc n) m.state.work pc v
       (P n (binary_op op (integer s (suc top)) mode t a (integer s a.bytes) b (integer s b.bytes)) rest m)
-  divided_follows op r is s mode t a b top rest n pc m v it ia ib qt qa qb most other stands h f =
+  divided_by op r is s mode t a b top rest n pc m v code it ia ib qt qa qb none stands h runs f =
       from_number p place e s a m.temps
       (worked (op_steps (binary_op op (integer s (suc top)) mode t a (integer s a.bytes) b (integer s b.bytes))) m.state) _
       (suc n) m.state.work pc v
@@ -1537,12 +1577,9 @@ module _ (p : PlainProgram) (functions : List PlainIrFunction) (e : Env) (slots 
           (after_operator t (quotient_of r s top low1 low2)
           (op_steps (binary_op op (integer s (suc top)) mode t a (integer s a.bytes) b (integer s b.bytes))) m))
       dead q low1 low2 l k some =
-          let empty : code_of (binary_op op (integer s (suc top)) mode t a (integer s a.bytes) b (integer s b.bytes)) rest ≡ [] =
-          ap (λ x. binary_code x s s (home a) (home b) (home t) a.bytes (wanted (needs at rest) t)) is ∙ rw q refl in
-          nothing_passes (binary_op op (integer s (suc top)) mode t a (integer s a.bytes) b (integer s b.bytes)) t
-          (quotient_of r s top low1 low2)
+          no_code_passes code t (quotient_of r s top low1 low2)
           (op_steps (binary_op op (integer s (suc top)) mode t a (integer s a.bytes) b (integer s b.bytes))) rest n pc
-          (plain_needs (binary_op op (integer s (suc top)) mode t a (integer s a.bytes) b (integer s b.bytes)) rest) m v it empty
+          (plain_needs (binary_op op (integer s (suc top)) mode t a (integer s a.bytes) b (integer s b.bytes)) rest) m v it (none q)
           (eqb-true (wanted (needs at rest) t) 0 q) (below_result low1 low2 l k some) stands
           (other_needed op t a b (operand_wanted op a.bytes (wanted (needs at rest) t))
           (right_wanted op b.bytes (wanted (needs at rest) t)) (needs at rest)) h f
@@ -1560,23 +1597,13 @@ module _ (p : PlainProgram) (functions : List PlainIrFunction) (e : Env) (slots 
           (divided_wanted op r is a.bytes (wanted (needs at rest) t) q).0
           (subst (λ x. M (operands_needed op t a b (operand_wanted op a.bytes (wanted (needs at rest) t)) x (needs at rest)) m v)
           (divided_wanted op r is b.bytes (wanted (needs at rest) t) q).1 h) in
-          let size : a.bytes - 1 ≡ top = omega (arith, qa) in
-          let code : code_of (binary_op op (integer s (suc top)) mode t a (integer s a.bytes) b (integer s b.bytes)) rest
-          ≡ long_code r s (home a) (home b) (home t) top = ap
-          (λ x. binary_code x s s (home a) (home b) (home t) a.bytes (wanted (needs at rest) t)) is ∙ rw q refl
-          ∙ ap (long_code r s (home a) (home b) (home t)) size in
-          let stand = subst (λ x. HasAt e (x ++ items rest) pc end) code stands in
           let x1 : value v.at (base a) (suc top) ≡ low1 =
           subst (λ j. value v.at (base a) j ≡ low1 % 256 ^ j) qa
           (left_holds op t a b a.bytes b.bytes low1 (needs at rest) m v ia (omega arith) ha h1) ∙ kept_below low1 (256 ^ suc top) l in
           let x2 : value v.at (base b) (suc top) ≡ low2 =
           subst (λ j. value v.at (base b) j ≡ low2 % 256 ^ j) qb
           (right_holds op t a b a.bytes b.bytes low2 (needs at rest) m v ib (omega arith) hb h1) ∙ kept_below low2 (256 ^ suc top) k in
-          divided_passes r s t a b top low1 low2
-          (op_steps (binary_op op (integer s (suc top)) mode t a (integer s a.bytes) b (integer s b.bytes))) rest n pc
-          (operands_needed op t a b a.bytes b.bytes (needs at rest)) m v it ia ib qt qa qb most other x1 x2 some
-          (below_result low1 low2 l k some) (divided_big op r is (integer s (suc top)) (integer s a.bytes) (integer s b.bytes)) stand
-          (other_needed op t a b a.bytes b.bytes (needs at rest)) h1 f
+          runs low1 low2 q x1 x2 some (below_result low1 low2 l k some) h1
 
       by_divisor : (low1 low2 : ℕ) → m.temps a.at ≡ Some (record { bytes = a.bytes; content = bits low1 })
           → m.temps b.at ≡ Some (record { bytes = b.bytes; content = bits low2 }) → low1 < 256 ^ suc top → low2 < 256 ^ suc top
@@ -1604,6 +1631,83 @@ module _ (p : PlainProgram) (functions : List PlainIrFunction) (e : Env) (slots 
           (after_operator t x (op_steps (binary_op op (integer s (suc top)) mode t a (integer s a.bytes) b (integer s b.bytes))) m)))
           (sym number)
           (⊎_elim (λ u. dead u low1 low2 l k some) (λ u. alive u low1 low2 ha hb l k some) (cases_Bool (wanted (needs at rest) t == 0)))
+
+  pub divided_follows : (op : BinOp) (r : Bool) → family_of op ≡ Divided r → (s : Bool) (mode : Mode)
+      (t a b : Temp) (top : ℕ) (rest : List PlainIr) (n pc : ℕ) (m : Mach) (v : View) → HasHome slots t → HasHome slots a
+      → HasHome slots b → t.bytes ≡ suc top → a.bytes ≡ suc top → b.bytes ≡ suc top → suc top ≤ 4 → t.at ≢ b.at
+      → HasAt e (code_of (binary_op op (integer s (suc top)) mode t a (integer s a.bytes) b (integer s b.bytes)) rest ++ items rest) pc end
+      → M (plain_needs (binary_op op (integer s (suc top)) mode t a (integer s a.bytes) b (integer s b.bytes)) rest) m v
+      → Rest (suc n) rest
+      → G (suc n) m.state.work pc v
+      (P n (binary_op op (integer s (suc top)) mode t a (integer s a.bytes) b (integer s b.bytes)) rest m)
+  divided_follows op r is s mode t a b top rest n pc m v it ia ib qt qa qb most other stands h f =
+      divided_by op r is s mode t a b top rest n pc m v (code_of i rest) it ia ib qt qa qb
+      (λ q. ap (λ x. binary_code x s s (home a) (home b) (home t) a.bytes (wanted (needs at rest) t)) is ∙ rw q refl) stands h runs f
+    where
+      i : PlainIr
+      i = binary_op op (integer s (suc top)) mode t a (integer s a.bytes) b (integer s b.bytes)
+
+      runs : DividedRuns op r s mode t a b top rest n pc m v
+      runs low1 low2 q x1 x2 some below h1 =
+          let size : a.bytes - 1 ≡ top = omega (arith, qa) in
+          let code : code_of i rest ≡ long_code r s (home a) (home b) (home t) top = ap
+          (λ x. binary_code x s s (home a) (home b) (home t) a.bytes (wanted (needs at rest) t)) is ∙ rw q refl
+          ∙ ap (long_code r s (home a) (home b) (home t)) size in
+          let stand = subst (λ x. HasAt e (x ++ items rest) pc end) code stands in
+          divided_passes r s t a b top low1 low2 (op_steps i) rest n pc
+          (operands_needed op t a b a.bytes b.bytes (needs at rest)) m v it ia ib qt qa qb most other x1 x2 some
+          below (divided_big op r is (integer s (suc top)) (integer s a.bytes) (integer s b.bytes)) stand
+          (other_needed op t a b a.bytes b.bytes (needs at rest)) h1 f
+
+  -- a call of its routine
+  divided_called : (l : ℕ) (op : BinOp) (r : Bool) → family_of op ≡ Divided r → (s : Bool) (mode : Mode)
+      (t a b : Temp) (top : ℕ) (rest : List PlainIr) (n pc : ℕ) (m : Mach) (v : View) → HasHome slots t → HasHome slots a
+      → HasHome slots b → t.bytes ≡ suc top → a.bytes ≡ suc top → b.bytes ≡ suc top → suc top ≤ 4
+      → HasRoutine e l (quotient_body r s top)
+      → HasAt e (answer_code (call_with_two (home a) (home b) a.bytes b.bytes l) (home t) (wanted (needs at rest) t) ++ items rest) pc end
+      → M (plain_needs (binary_op op (integer s (suc top)) mode t a (integer s a.bytes) b (integer s b.bytes)) rest) m v
+      → Rest (suc n) rest
+      → G (suc n) m.state.work pc v
+      (P n (binary_op op (integer s (suc top)) mode t a (integer s a.bytes) b (integer s b.bytes)) rest m)
+  divided_called l op r is s mode t a b top rest n pc m v it ia ib qt qa qb most routine stands h f =
+      divided_by op r is s mode t a b top rest n pc m v (answer_code code (home t) w) it ia ib qt qa qb
+      (λ z. ap (λ (q : Bool). if q then [] else code ++ copy_code answer_location (home t) w) z) stands h runs f
+    where
+      i : PlainIr
+      i = binary_op op (integer s (suc top)) mode t a (integer s a.bytes) b (integer s b.bytes)
+
+      c : ℕ
+      c = op_steps i
+
+      w : ℕ
+      w = wanted (needs at rest) t
+
+      code : List AsmItem
+      code = call_with_two (home a) (home b) a.bytes b.bytes l
+
+      runs : DividedRuns op r s mode t a b top rest n pc m v
+      runs low1 low2 z x1 x2 some below h1 =
+          let need0 = operands_needed op t a b a.bytes b.bytes (needs at rest) in
+          let parts = has_parts e (answer_code code (home t) w) (items rest) pc end stands in
+          let number = quotient_of r s top low1 low2 in
+          let m1 = after_operator t number c m in
+          let result : quotient_of r s top (value v.at (base a) (suc top)) (value v.at (base b) (suc top)) ≡ number =
+          ap (λ x. quotient_of r s top x (value v.at (base b) (suc top))) x1 ∙ ap (λ x. quotient_of r s top low1 x) x2 in
+          let holds =
+          λ (x : ℕ). x ≡ quotient_of r s top (value v.at (base a) (suc top)) (value v.at (base b) (suc top)) in
+          let run =
+          λ (end1 : ℕ) (u : HasAt e code pc end1). y.routines.quotients r s e l (home a) (home b) top (base a) (base b) y.work pc end1 v
+          most (has_work p e slots home base place y) routine (operand_at p e slots home base place y a (suc top) ia qa)
+          (operand_at p e slots home base place y b (suc top) ib qb) (can_push p e slots home base place y need0 m v h1) h1.bytes
+          (subst (λ (x : ℕ). 1 ≤ x) (sym x2) some)
+          (subst (λ (x : ℕ). HasAt e (call_with_two (home a) (home b) (suc top) x l) pc end1) qb
+          (subst (λ (x : ℕ). HasAt e (call_with_two (home a) (home b) x b.bytes l) pc end1) qa u)) in
+          let big : 9600 ≤ c = divided_big op r is (integer s (suc top)) (integer s a.bytes) (integer s b.bytes) in
+          answer_passes p e slots home base place y code 1242 (suc top) c (suc n) pc parts.0 t (needs at rest) need0 m v
+          (R (suc n) rest m1) holds it (sym qt) h1 (other_needed op t a b a.bytes b.bytes (needs at rest)) z parts.1 run
+          (omega (arith, big, most, qt))
+          (λ x v2 g matches. f parts.0 m1 v2 parts.2
+          (subst (λ (k : ℕ). M (needs at rest) (machine (with_content t (bits k) m.temps) (worked c m.state)) v2) (g ∙ result) matches))
 
   -- ---- all operators
 
@@ -1724,13 +1828,32 @@ module _ (p : PlainProgram) (functions : List PlainIrFunction) (e : Env) (slots 
       let w = at_width p e slots home base place y need m v a _ a.bytes h ia q refl (omega (arith, least, all)) in
       subst (λ (x : ℕ). value v.at (base a) x ≡ low) same (w.0 ∙ kept_below low (256 ^ a.bytes) w.1)
 
-  pub fixed_binary_follows : (op : BinOp) (ty : PlainType) (mode : Mode) (t a : Temp) (aty : PlainType) (b : Temp) (bty : PlainType)
-      (rest : List PlainIr) (n pc : ℕ) (m : Mach) (v : View) → IsFixedBinary slots op t a b ty aty bty
-      → is_on_integers (family_of op) mode ty aty bty ≡ false
-      → HasAt e (plain_items (binary_op op ty mode t a aty b bty) rest) pc end → M
-      (plain_needs (binary_op op ty mode t a aty b bty) rest) m v
+  -- what is shown of code for an operator on operands of which one is fixed-point at least, where their bytes have a result
+  abbrev FixedBinaryRuns : BinOp → PlainType → Mode → (t a : Temp) → PlainType → Temp → PlainType → List PlainIr → (n pc : ℕ) → Mach → View
+      → List AsmItem → Type 0
+  FixedBinaryRuns op ty mode t a aty b bty rest n pc m v code =
+      (r : Value)
+      → IsNumber
+      (arithmetic_value op (number_type ty) mode
+      (fixed_operand_in (format_in aty) (scalar_size aty) (value v.at (base a) (scalar_size aty)))
+      (fixed_operand_in (format_in bty) (scalar_size bty) (value v.at (base b) (scalar_size bty)))) r
+      → (wanted (needs at rest) t == 0) ≡ false → (mid : ℕ) → HasAt e code pc mid
+      → ((number : ℕ) (v2 : View)
+      → IsBinaryResult op ty mode aty bty (value v.at (base a) (scalar_size aty)) (value v.at (base b) (scalar_size bty)) number
+      → M (needs at rest)
+      (machine (with_content t (bits number) m.temps) (worked (op_steps (binary_op op ty mode t a aty b bty)) m.state)) v2
+      → G (suc n) (m.state.work + op_steps (binary_op op ty mode t a aty b bty)) mid v2
+      (R (suc n) rest (machine (with_temp t r m.temps) (worked (op_steps (binary_op op ty mode t a aty b bty)) m.state))))
+      → G (suc n) m.state.work pc v
+      (R (suc n) rest (machine (with_temp t r m.temps) (worked (op_steps (binary_op op ty mode t a aty b bty)) m.state)))
+
+  -- such code, which is none where no byte of the result is needed, does what the operator does
+  fixed_binary_passes : (op : BinOp) (ty : PlainType) (mode : Mode) (t a : Temp) (aty : PlainType) (b : Temp) (bty : PlainType)
+      (rest : List PlainIr) (n pc : ℕ) (m : Mach) (v : View) (code : List AsmItem) → IsFixedBinary slots op t a b ty aty bty
+      → ((wanted (needs at rest) t == 0) ≡ true → code ≡ []) → HasAt e (code ++ items rest) pc end
+      → M (plain_needs (binary_op op ty mode t a aty b bty) rest) m v → FixedBinaryRuns op ty mode t a aty b bty rest n pc m v code
       → Rest (suc n) rest → G (suc n) m.state.work pc v (P n (binary_op op ty mode t a aty b bty) rest m)
-  fixed_binary_follows op ty mode t a aty b bty rest n pc m v k apart stands h f =
+  fixed_binary_passes op ty mode t a aty b bty rest n pc m v code k none stands h runs f =
       from_typed p place e aty a m.temps st _ (suc n) m.state.work pc v (fixed_numeric aty suited.first)
       (λ low1 qa. from_typed p place e bty b m.temps st _ (suc n) m.state.work pc v (fixed_numeric bty suited.second)
       (λ low2 qb. by_result low1 low2 qa qb (binary_result op ty mode (left low1) (right low2)) refl))
@@ -1772,42 +1895,8 @@ module _ (p : PlainProgram) (functions : List PlainIrFunction) (e : Env) (slots 
           kb : ℕ
           kb = second_wanted (is_whole aty || is_whole bty) op b.bytes w
 
-          fx : (is_fixed aty || is_fixed bty) ≡ true
-          fx = either_fixed is_fixed type_fixed aty bty k.types.fixed
-
           wx : (is_whole aty || is_whole bty) ≡ true
           wx = either_fixed is_whole type_whole aty bty k.types.fixed
-
-          is_apart_so : is_apart (family_of op) mode ty aty bty ≡ true
-          is_apart_so = ap (λ z. z && not (is_on_integers (family_of op) mode ty aty bty)) wx ∙ ap not apart
-
-          none_told : (x : Bool)
-              → (if x then told_by (is_apart (family_of op) mode ty aty bty) (family_of op) (is_signed aty) else None) ≡ None
-          none_told true = ap (λ z. told_by z (family_of op) (is_signed aty)) is_apart_so
-          none_told false = refl
-
-          code : List AsmItem
-          code = fixed_binary_code op ty aty bty mode (home a) (home b) answer_location work_location
-
-          stops : Bool
-          stops = is_placed op mode ty aty bty && not (same_location (home b) (home t))
-
-          stopped : List AsmItem
-          stopped = placed_binary op (is_signed aty) (home a) (home b) (home t) a.bytes w
-
-          code_is : code_of i rest ≡ (if stops then stopped else answer_code code (home t) w)
-          code_is =
-              ap (λ z. code_by_kind z (fixed_binary None op ty aty bty mode (home a) (home b) (home t) a.bytes w)
-              (code_by_kind (is_pointer aty || is_pointer bty)
-              (pointer_binary (is_pointer aty) (is_pointer bty) p op aty bty (home a) (home b) (home t) a.bytes b.bytes w)
-              (binary_code (family_of op) (is_signed aty) (is_signed bty) (home a) (home b) (home t) a.bytes w))) fx
-              ∙ ap
-              (λ z. if z then binary_code (family_of op) (is_signed aty) (is_signed bty) (home a) (home b) (home t) a.bytes w
-              else (if stops then stopped else answer_code code (home t) w)) apart
-
-          stand : HasAt e (code_of i rest ++ items rest) pc end
-          stand = subst (λ x. HasAt e (op_code p home link None x None need i ++ items_told x rest) pc end)
-              (none_told (is_only_tested t (slice_get rest 0) (slice_index (wanted_bytes at rest) 0))) stands
 
           more : (u : ℕ) → u ≢ t.at → need u ≤ plain_needs i rest u
           more u d = other_needed op t a b ka kb need u d
@@ -1821,10 +1910,6 @@ module _ (p : PlainProgram) (functions : List PlainIrFunction) (e : Env) (slots 
           number = binary_told op ty aty bty mode low1 low2 (left low1) (right low2) r suited.first suited.second
               (record { type_is = refl; value_is = value_is aty low1 (fixed_numeric aty suited.first) })
               (record { type_is = refl; value_is = value_is bty low2 (fixed_numeric bty suited.second) }) q
-
-          cases_of : (x : Bool) {own other : List AsmItem} → own ≡ [] → other ≡ [] → (if x then own else other) ≡ []
-          cases_of true q1 q2 = q1
-          cases_of false q1 q2 = q2
 
           -- bytes that hold the result of the operands' bytes are those of r
           reached : (mid number : ℕ) (v2 : View) → HasAt e (items rest) mid end
@@ -1847,23 +1932,127 @@ module _ (p : PlainProgram) (functions : List PlainIrFunction) (e : Env) (slots 
               }) q in
               f mid m1 v2 onward (subst (λ (x : Content). M need (machine (with_content t x m.temps) st) v2) (sym content) matches)
 
-          by_code : (x : Bool) → stops ≡ x → (w == 0) ≡ false → (mid : ℕ)
-              → HasAt e (if x then stopped else answer_code code (home t) w) pc mid → HasAt e (items rest) mid end
-              → value v.at (base a) (scalar_size aty) ≡ low1 → value v.at (base b) (scalar_size bty) ≡ low2
-              → G (suc n) m.state.work pc v (R (suc n) rest m1)
-          by_code true s z mid there onward x_is y_is =
-              let known = and_parts (is_placed op mode ty aty bty) (not (same_location (home b) (home t))) s in
-              let whole = placed_whole op (is_signed aty) (home a) (home b) (home t) (a.bytes - 1) in
-              let code_there : HasAt e whole pc mid = subst (λ (x : Bool). HasAt e (if x then [] else whole) pc mid) z there in
+          by_need : (x : Bool) → (w == 0) ≡ x → G (suc n) m.state.work pc v (R (suc n) rest m1)
+          by_need true z =
+              let go =
+              no_code_passes code t (low_bytes t.bytes number.number) c rest n pc (plain_needs i rest) m v k.result (none z)
+              (eqb-true w 0 z) (low_below t.bytes number.number) stands more h f in
+              subst (λ (x : Value). G (suc n) m.state.work pc v (R (suc n) rest (machine (with_temp t x m.temps) st)))
+              (sym number.result) go
+          by_need false z =
+              let parts = has_parts e code (items rest) pc end stands in
+              let need0 = plain_needs i rest in
+              let least_a : all_or_none a.bytes w ≤ need0 a.at = subst (λ (x : Bool). first_wanted x op a.bytes w ≤ need0 a.at) wx
+              (least_here a.at ka (at_least b.at kb (without t.at need))) in
+              let inner = least_here b.at kb (without t.at need) in
+              let outer = least_other a.at ka b.at (at_least b.at kb (without t.at need)) in
+              let least_b : all_or_none b.bytes w ≤ need0 b.at = subst (λ (x : Bool). second_wanted x op b.bytes w ≤ need0 b.at) wx
+              (omega arith) in
+              let x_is : value v.at (base a) (scalar_size aty) ≡ low1 =
+              all_there a w low1 (scalar_size aty) need0 m v k.left k.left_bytes z least_a qa h in
+              let y_is : value v.at (base b) (scalar_size bty) ≡ low2 =
+              all_there b w low2 (scalar_size bty) need0 m v k.right k.right_bytes z least_b qb h in
               let given =
               λ (x1 x2 : ℕ). IsNumber
               (arithmetic_value op (number_type ty) mode (fixed_operand_in (format_in aty) (scalar_size aty) x1)
               (fixed_operand_in (format_in bty) (scalar_size bty) x2)) r in
-              placed_passes p e slots home base place y op ty aty bty mode c (suc n) pc mid t a b need (plain_needs i rest) m v
-              (R (suc n) rest m1) r k known.0 known.1
+              runs r
               (subst (λ x1. given x1 (value v.at (base b) (scalar_size bty))) (sym x_is) (subst (λ x2. given low1 x2) (sym y_is) number))
-              h more code_there (omega arith) (λ number v2 g matches. reached mid number v2 onward x_is y_is g matches)
-          by_code false s z mid there onward x_is y_is =
+              z parts.0 parts.1 (λ number v2 g matches. reached parts.0 number v2 parts.2 x_is y_is g matches)
+
+  pub fixed_binary_follows : (op : BinOp) (ty : PlainType) (mode : Mode) (t a : Temp) (aty : PlainType) (b : Temp) (bty : PlainType)
+      (rest : List PlainIr) (n pc : ℕ) (m : Mach) (v : View) → IsFixedBinary slots op t a b ty aty bty
+      → is_on_integers (family_of op) mode ty aty bty ≡ false
+      → HasAt e (plain_items (binary_op op ty mode t a aty b bty) rest) pc end → M
+      (plain_needs (binary_op op ty mode t a aty b bty) rest) m v
+      → Rest (suc n) rest → G (suc n) m.state.work pc v (P n (binary_op op ty mode t a aty b bty) rest m)
+  fixed_binary_follows op ty mode t a aty b bty rest n pc m v k apart stands h f =
+      fixed_binary_passes op ty mode t a aty b bty rest n pc m v (code_of i rest) k none stand h runs f
+    where
+      i : PlainIr
+      i = binary_op op ty mode t a aty b bty
+
+      c : ℕ
+      c = op_steps i
+
+      need : Need
+      need = needs at rest
+
+      w : ℕ
+      w = wanted need t
+
+      ka : ℕ
+      ka = first_wanted (is_whole aty || is_whole bty) op a.bytes w
+
+      kb : ℕ
+      kb = second_wanted (is_whole aty || is_whole bty) op b.bytes w
+
+      fx : (is_fixed aty || is_fixed bty) ≡ true
+      fx = either_fixed is_fixed type_fixed aty bty k.types.fixed
+
+      wx : (is_whole aty || is_whole bty) ≡ true
+      wx = either_fixed is_whole type_whole aty bty k.types.fixed
+
+      is_apart_so : is_apart (family_of op) mode ty aty bty ≡ true
+      is_apart_so = ap (λ z. z && not (is_on_integers (family_of op) mode ty aty bty)) wx ∙ ap not apart
+
+      none_told : (x : Bool)
+          → (if x then told_by (is_apart (family_of op) mode ty aty bty) (family_of op) (is_signed aty) else None) ≡ None
+      none_told true = ap (λ z. told_by z (family_of op) (is_signed aty)) is_apart_so
+      none_told false = refl
+
+      code : List AsmItem
+      code = fixed_binary_code op ty aty bty mode (home a) (home b) answer_location work_location
+
+      whole : List AsmItem
+      whole = placed_whole op (is_signed aty) (home a) (home b) (home t) (a.bytes - 1)
+
+      stops : Bool
+      stops = is_placed op mode ty aty bty && not (same_location (home b) (home t))
+
+      stopped : List AsmItem
+      stopped = placed_binary op (is_signed aty) (home a) (home b) (home t) a.bytes w
+
+      code_is : code_of i rest ≡ (if stops then stopped else answer_code code (home t) w)
+      code_is =
+          ap (λ z. code_by_kind z (fixed_binary None op ty aty bty mode (home a) (home b) (home t) a.bytes w)
+          (code_by_kind (is_pointer aty || is_pointer bty)
+          (pointer_binary (is_pointer aty) (is_pointer bty) p op aty bty (home a) (home b) (home t) a.bytes b.bytes w)
+          (binary_code (family_of op) (is_signed aty) (is_signed bty) (home a) (home b) (home t) a.bytes w))) fx
+          ∙ ap
+          (λ z. if z then binary_code (family_of op) (is_signed aty) (is_signed bty) (home a) (home b) (home t) a.bytes w
+          else (if stops then stopped else answer_code code (home t) w)) apart
+
+      stand : HasAt e (code_of i rest ++ items rest) pc end
+      stand = subst (λ x. HasAt e (own_code p home link None x None need i ++ items_told x rest) pc end)
+          (none_told (is_only_tested t (slice_get rest 0) (slice_index (wanted_bytes at rest) 0))) stands
+
+      more : (u : ℕ) → u ≢ t.at → need u ≤ plain_needs i rest u
+      more u d = other_needed op t a b ka kb need u d
+
+      cases_of : (x : Bool) {own other : List AsmItem} → own ≡ [] → other ≡ [] → (if x then own else other) ≡ []
+      cases_of true q1 q2 = q1
+      cases_of false q1 q2 = q2
+
+      none : (w == 0) ≡ true → code_of i rest ≡ []
+      none z =
+          let no = λ (x : List AsmItem). ap (λ (q : Bool). if q then [] else x) z in
+          code_is ∙ cases_of stops (no whole) (no (code ++ copy_code answer_location (home t) w))
+
+      runs : FixedBinaryRuns op ty mode t a aty b bty rest n pc m v (code_of i rest)
+      runs r number z mid there onward = by_code stops refl (subst (λ x. HasAt e x pc mid) code_is there)
+        where
+          m1 : Mach
+          m1 = machine (with_temp t r m.temps) (worked c m.state)
+
+          by_code : (x : Bool) → stops ≡ x → HasAt e (if x then stopped else answer_code code (home t) w) pc mid
+              → G (suc n) m.state.work pc v (R (suc n) rest m1)
+          by_code true s there =
+              let known = and_parts (is_placed op mode ty aty bty) (not (same_location (home b) (home t))) s in
+              let code_there : HasAt e whole pc mid = subst (λ (x : Bool). HasAt e (if x then [] else whole) pc mid) z there in
+              placed_passes p e slots home base place y op ty aty bty mode c (suc n) pc mid t a b need (plain_needs i rest) m v
+              (R (suc n) rest m1) r k known.0 known.1 number h more code_there (omega arith) onward
+          by_code false s there =
               let size = scalar_size ty in
               let same : size ≡ t.bytes = sym k.result_bytes in
               let some = k.result.some in
@@ -1880,46 +2069,86 @@ module _ (p : PlainProgram) (functions : List PlainIrFunction) (e : Env) (slots 
               let holds =
               IsBinaryResult op ty mode aty bty (value v.at (base a) (scalar_size aty)) (value v.at (base b) (scalar_size bty)) in
               let run =
-              λ (end1 : ℕ) (u : HasAt e code pc end1). y.fixed.binaries op ty aty bty mode e (home a)
-              (home b) answer_location work_location (base a) (base b) (y.work + 40) y.work pc end1 v k.types slots2 h.bytes u in
+              λ (end1 : ℕ) (u : HasAt e code pc end1). by_itself p e slots home base place y (64 * binary_room op ty aty bty) pc end1 size
+              v holds (omega arith) (y.fixed.binaries op ty aty bty mode e (home a) (home b) answer_location work_location (base a)
+              (base b) (y.work + 40) y.work pc end1 v k.types slots2 h.bytes u) in
               let room = binary_roomy op ty aty bty in
               answer_passes p e slots home base place y code (64 * binary_room op ty aty bty) size c (suc n) pc mid t need
-              (plain_needs i rest) m v (R (suc n) rest m1) holds k.result same h more z there run (omega (arith, room, same))
-              (λ number v2 g matches. reached mid number v2 onward x_is y_is g matches)
+              (plain_needs i rest) m v (R (suc n) rest m1) holds k.result same h more z there run (omega (arith, room, same)) onward
 
-          by_need : (x : Bool) → (w == 0) ≡ x → G (suc n) m.state.work pc v (R (suc n) rest m1)
-          by_need true z =
-              let none = λ (x : List AsmItem). ap (λ (q : Bool). if q then [] else x) z in
-              let both = λ (q : Bool). cases_of q (none (placed_whole op (is_signed aty) (home a) (home b) (home t) (a.bytes - 1)))
-              (none (code ++ copy_code answer_location (home t) w)) in
-              let empty : code_of i rest ≡ [] = code_is ∙ both stops in
-              let go =
-              nothing_passes i t (low_bytes t.bytes number.number) c rest n pc (plain_needs i rest) m v k.result empty
-              (eqb-true w 0 z) (low_below t.bytes number.number) stand more h f in
-              subst (λ (x : Value). G (suc n) m.state.work pc v (R (suc n) rest (machine (with_temp t x m.temps) st)))
-              (sym number.result) go
-          by_need false z =
-              let parts = has_parts e (code_of i rest) (items rest) pc end stand in
-              let there : HasAt e (if stops then stopped else answer_code code (home t) w) pc parts.0 =
-              subst (λ x. HasAt e x pc parts.0) code_is parts.1 in
-              let need0 = plain_needs i rest in
-              let least_a : all_or_none a.bytes w ≤ need0 a.at = subst (λ (x : Bool). first_wanted x op a.bytes w ≤ need0 a.at) wx
-              (least_here a.at ka (at_least b.at kb (without t.at need))) in
-              let inner = least_here b.at kb (without t.at need) in
-              let outer = least_other a.at ka b.at (at_least b.at kb (without t.at need)) in
-              let least_b : all_or_none b.bytes w ≤ need0 b.at = subst (λ (x : Bool). second_wanted x op b.bytes w ≤ need0 b.at) wx
-              (omega arith) in
-              let x_is : value v.at (base a) (scalar_size aty) ≡ low1 =
-              all_there a w low1 (scalar_size aty) need0 m v k.left k.left_bytes z least_a qa h in
-              let y_is : value v.at (base b) (scalar_size bty) ≡ low2 =
-              all_there b w low2 (scalar_size bty) need0 m v k.right k.right_bytes z least_b qb h in
-              by_code stops refl z parts.0 there parts.2 x_is y_is
+  -- a call of its routine
+  fixed_binary_called : (l : ℕ) (op : BinOp) (ty : PlainType) (mode : Mode) (t a : Temp) (aty : PlainType) (b : Temp) (bty : PlainType)
+      (rest : List PlainIr) (n pc : ℕ) (m : Mach) (v : View) → IsFixedBinary slots op t a b ty aty bty
+      → HasRoutine e l (binary_body op ty aty bty mode)
+      → HasAt e (called_code home l (wanted (needs at rest) t) (binary_op op ty mode t a aty b bty) ++ items rest) pc end
+      → M (plain_needs (binary_op op ty mode t a aty b bty) rest) m v
+      → Rest (suc n) rest → G (suc n) m.state.work pc v (P n (binary_op op ty mode t a aty b bty) rest m)
+  fixed_binary_called l op ty mode t a aty b bty rest n pc m v k routine stands h f =
+      fixed_binary_passes op ty mode t a aty b bty rest n pc m v (answer_code code (home t) w) k
+      (λ z. ap (λ (q : Bool). if q then [] else code ++ copy_code answer_location (home t) w) z) stands h runs f
+    where
+      i : PlainIr
+      i = binary_op op ty mode t a aty b bty
 
-  pub fixed_unary_follows : (op : UnOp) (ty : PlainType) (mode : Mode) (t a : Temp) (rest : List PlainIr) (n pc : ℕ) (m : Mach) (v : View)
-      → IsFixedUnary slots op t a ty → mode.saturate ≡ true → HasAt e (items (unary_op op ty mode t a ∷ rest)) pc end
-      → M (needs at (unary_op op ty mode t a ∷ rest)) m v
+      c : ℕ
+      c = op_steps i
+
+      need : Need
+      need = needs at rest
+
+      w : ℕ
+      w = wanted need t
+
+      ka : ℕ
+      ka = first_wanted (is_whole aty || is_whole bty) op a.bytes w
+
+      kb : ℕ
+      kb = second_wanted (is_whole aty || is_whole bty) op b.bytes w
+
+      more : (u : ℕ) → u ≢ t.at → need u ≤ plain_needs i rest u
+      more u d = other_needed op t a b ka kb need u d
+
+      code : List AsmItem
+      code = call_with_two (home a) (home b) a.bytes b.bytes l
+
+      runs : FixedBinaryRuns op ty mode t a aty b bty rest n pc m v (answer_code code (home t) w)
+      runs r number z mid there onward =
+          let size = scalar_size ty in
+          let same : size ≡ t.bytes = sym k.result_bytes in
+          let some = k.result.some in
+          let most = k.result.most in
+          let holds =
+          IsBinaryResult op ty mode aty bty (value v.at (base a) (scalar_size aty)) (value v.at (base b) (scalar_size bty)) in
+          let run =
+          λ (end1 : ℕ) (u : HasAt e code pc end1). y.routines.binaries op ty aty bty mode e l (home a) (home b) (base a) (base b) y.work
+          pc end1 v k.types (has_work p e slots home base place y) routine
+          (operand_at p e slots home base place y a (scalar_size aty) k.left k.left_bytes)
+          (operand_at p e slots home base place y b (scalar_size bty) k.right k.right_bytes) (omega arith) (omega arith)
+          (can_push p e slots home base place y (plain_needs i rest) m v h) h.bytes
+          (subst (λ (x : ℕ). HasAt e (call_with_two (home a) (home b) (scalar_size aty) x l) pc end1) k.right_bytes
+          (subst (λ (x : ℕ). HasAt e (call_with_two (home a) (home b) x b.bytes l) pc end1) k.left_bytes u)) in
+          let room = binary_roomy op ty aty bty in
+          answer_passes p e slots home base place y code (64 * binary_room op ty aty bty + 34) size c (suc n) pc mid t need
+          (plain_needs i rest) m v (R (suc n) rest (machine (with_temp t r m.temps) (worked c m.state))) holds k.result same h more z there
+          run (omega (arith, room, same, some)) onward
+
+  -- what is shown of code for a negation of a fixed-point number, where its bytes have a result
+  abbrev UnaryRuns : UnOp → PlainType → Mode → (t a : Temp) → List PlainIr → (n pc : ℕ) → Mach → View → List AsmItem → Type 0
+  UnaryRuns op ty mode t a rest n pc m v code =
+      (r : Value) → (wanted (needs at rest) t == 0) ≡ false → (mid : ℕ) → HasAt e code pc mid
+      → ((number : ℕ) (v2 : View) → IsUnaryResult op ty mode (value v.at (base a) (scalar_size ty)) number
+      → M (needs at rest) (machine (with_content t (bits number) m.temps) (worked (op_steps (unary_op op ty mode t a)) m.state)) v2
+      → G (suc n) (m.state.work + op_steps (unary_op op ty mode t a)) mid v2
+      (R (suc n) rest (machine (with_temp t r m.temps) (worked (op_steps (unary_op op ty mode t a)) m.state))))
+      → G (suc n) m.state.work pc v
+      (R (suc n) rest (machine (with_temp t r m.temps) (worked (op_steps (unary_op op ty mode t a)) m.state)))
+
+  fixed_unary_passes : (op : UnOp) (ty : PlainType) (mode : Mode) (t a : Temp) (rest : List PlainIr) (n pc : ℕ) (m : Mach) (v : View)
+      (code : List AsmItem) → IsFixedUnary slots op t a ty → ((wanted (needs at rest) t == 0) ≡ true → code ≡ [])
+      → HasAt e (code ++ items rest) pc end → M (needs at (unary_op op ty mode t a ∷ rest)) m v
+      → UnaryRuns op ty mode t a rest n pc m v code
       → Rest (suc n) rest → G (suc n) m.state.work pc v (P n (unary_op op ty mode t a) rest m)
-  fixed_unary_follows op ty mode t a rest n pc m v k saturates stands h f =
+  fixed_unary_passes op ty mode t a rest n pc m v code k none stands h runs f =
       from_typed p place e ty a m.temps st _ (suc n) m.state.work pc v (fixed_numeric ty known)
       (λ low q. by_result low q (unary_result op ty mode (number_in ty low)) refl)
     where
@@ -1950,29 +2179,8 @@ module _ (p : PlainProgram) (functions : List PlainIrFunction) (e : Env) (slots 
           ka : ℕ
           ka = only_wanted (is_whole ty) a.bytes w
 
-          fx : is_fixed ty ≡ true
-          fx = type_fixed ty k.types.fixed
-
           wx : is_whole ty ≡ true
           wx = type_whole ty k.types.fixed
-
-          code : List AsmItem
-          code = fixed_unary_code op ty mode (home a) answer_location work_location
-
-          whole : List AsmItem
-          whole = negated_code (is_signed ty) (home a) (home t) (scalar_size ty)
-
-          stopped : List AsmItem
-          stopped = negated_unary (is_signed ty) (home a) (home t) (scalar_size ty) w
-
-          stops : Bool
-          stops = nat_le (scalar_size ty) 6
-
-          code_is : code_of i rest ≡ (if stops then stopped else answer_code code (home t) w)
-          code_is =
-              ap (λ z. code_by_kind z (fixed_unary op ty mode (home a) (home t) w) (unary_code op (home a) (home t) w)) fx
-              ∙ ap (λ z. if z then (if stops then stopped else answer_code code (home t) w) else unary_code op (home a)
-              (home t) w) saturates
 
           more : (u : ℕ) → u ≢ t.at → need u ≤ plain_needs i rest u
           more u d = let x = without_other t.at u need d in let z = least_other a.at ka u (without t.at need) in omega arith
@@ -1982,10 +2190,6 @@ module _ (p : PlainProgram) (functions : List PlainIrFunction) (e : Env) (slots 
 
           number : IsNumber (unary_value op (number_type ty) mode (number_of_bytes (sign_in ty) (scalar_size ty) low)) r
           number = as_told (unary_value op (number_type ty) mode (number_of_bytes (sign_in ty) (scalar_size ty) low)) r q
-
-          cases_of : (x : Bool) {own others : List AsmItem} → own ≡ [] → others ≡ [] → (if x then own else others) ≡ []
-          cases_of true q1 q2 = q1
-          cases_of false q1 q2 = q2
 
           -- bytes that hold the result of the operand's bytes are those of r
           reached : (mid result : ℕ) (v2 : View) → HasAt e (items rest) mid end → value v.at (base a) (scalar_size ty) ≡ low
@@ -1998,17 +2202,92 @@ module _ (p : PlainProgram) (functions : List PlainIrFunction) (e : Env) (slots 
               ∙ g (number_in ty low) r (ap (λ x. value_in ty (bits x)) x_is ∙ value_is ty low (fixed_numeric ty known)) q in
               f mid m1 v2 onward (subst (λ (x : Content). M need (machine (with_content t x m.temps) st) v2) (sym content) matches)
 
-          by_code : (x : Bool) → stops ≡ x → (w == 0) ≡ false → (mid : ℕ)
-              → HasAt e (if x then stopped else answer_code code (home t) w) pc mid → HasAt e (items rest) mid end
-              → value v.at (base a) (scalar_size ty) ≡ low → G (suc n) m.state.work pc v (R (suc n) rest m1)
-          by_code true s z mid there onward x_is =
+          by_need : (x : Bool) → (w == 0) ≡ x → G (suc n) m.state.work pc v (R (suc n) rest m1)
+          by_need true z =
+              let go =
+              no_code_passes code t (low_bytes t.bytes number.number) c rest n pc (plain_needs i rest) m v k.result (none z)
+              (eqb-true w 0 z) (low_below t.bytes number.number) stands more h f in
+              subst (λ (x : Value). G (suc n) m.state.work pc v (R (suc n) rest (machine (with_temp t x m.temps) st)))
+              (sym number.result) go
+          by_need false z =
+              let parts = has_parts e code (items rest) pc end stands in
+              let size = scalar_size ty in
+              let need0 = plain_needs i rest in
+              let least_a : all_or_none a.bytes w ≤ need0 a.at = subst (λ (x : Bool). only_wanted x a.bytes w ≤ need0 a.at) wx
+              (least_here a.at ka (without t.at need)) in
+              let x_is : value v.at (base a) size ≡ low = all_there a w low size need0 m v k.operand k.operand_bytes z least_a qa h in
+              runs r z parts.0 parts.1 (λ result v2 g matches. reached parts.0 result v2 parts.2 x_is g matches)
+
+  pub fixed_unary_follows : (op : UnOp) (ty : PlainType) (mode : Mode) (t a : Temp) (rest : List PlainIr) (n pc : ℕ) (m : Mach) (v : View)
+      → IsFixedUnary slots op t a ty → mode.saturate ≡ true → HasAt e (own_items (unary_op op ty mode t a) rest) pc end
+      → M (needs at (unary_op op ty mode t a ∷ rest)) m v
+      → Rest (suc n) rest → G (suc n) m.state.work pc v (P n (unary_op op ty mode t a) rest m)
+  fixed_unary_follows op ty mode t a rest n pc m v k saturates stands h f =
+      fixed_unary_passes op ty mode t a rest n pc m v (code_of i rest) k none stands h runs f
+    where
+      i : PlainIr
+      i = unary_op op ty mode t a
+
+      c : ℕ
+      c = op_steps i
+
+      need : Need
+      need = needs at rest
+
+      w : ℕ
+      w = wanted need t
+
+      ka : ℕ
+      ka = only_wanted (is_whole ty) a.bytes w
+
+      fx : is_fixed ty ≡ true
+      fx = type_fixed ty k.types.fixed
+
+      code : List AsmItem
+      code = fixed_unary_code op ty mode (home a) answer_location work_location
+
+      whole : List AsmItem
+      whole = negated_code (is_signed ty) (home a) (home t) (scalar_size ty)
+
+      stopped : List AsmItem
+      stopped = negated_unary (is_signed ty) (home a) (home t) (scalar_size ty) w
+
+      stops : Bool
+      stops = nat_le (scalar_size ty) 6
+
+      code_is : code_of i rest ≡ (if stops then stopped else answer_code code (home t) w)
+      code_is =
+          ap (λ z. code_by_kind z (fixed_unary op ty mode (home a) (home t) w) (unary_code op (home a) (home t) w)) fx
+          ∙ ap (λ z. if z then (if stops then stopped else answer_code code (home t) w) else unary_code op (home a)
+          (home t) w) saturates
+
+      more : (u : ℕ) → u ≢ t.at → need u ≤ plain_needs i rest u
+      more u d = let x = without_other t.at u need d in let z = least_other a.at ka u (without t.at need) in omega arith
+
+      cases_of : (x : Bool) {own others : List AsmItem} → own ≡ [] → others ≡ [] → (if x then own else others) ≡ []
+      cases_of true q1 q2 = q1
+      cases_of false q1 q2 = q2
+
+      none : (w == 0) ≡ true → code_of i rest ≡ []
+      none z =
+          let no = λ (x : List AsmItem). ap (λ (q : Bool). if q then [] else x) z in
+          code_is ∙ cases_of stops (no whole) (no (code ++ copy_code answer_location (home t) w))
+
+      runs : UnaryRuns op ty mode t a rest n pc m v (code_of i rest)
+      runs r z mid there onward = by_code stops refl (subst (λ x. HasAt e x pc mid) code_is there)
+        where
+          m1 : Mach
+          m1 = machine (with_temp t r m.temps) (worked c m.state)
+
+          by_code : (x : Bool) → stops ≡ x → HasAt e (if x then stopped else answer_code code (home t) w) pc mid
+              → G (suc n) m.state.work pc v (R (suc n) rest m1)
+          by_code true s there =
               let code_there : HasAt e whole pc mid = subst (λ (x : Bool). HasAt e (if x then [] else whole) pc mid) z there in
               let some = k.result.some in
               let same = k.result_bytes in
               negated_passes p e slots home base place y op ty mode c (suc n) pc mid t a need (plain_needs i rest) m v (R (suc n) rest m1) k
-              saturates (leb-true (scalar_size ty) 6 s) h more code_there (omega (arith, some, same))
-              (λ result v2 g matches. reached mid result v2 onward x_is g matches)
-          by_code false s z mid there onward x_is =
+              saturates (leb-true (scalar_size ty) 6 s) h more code_there (omega (arith, some, same)) onward
+          by_code false s there =
               let size = scalar_size ty in
               let same : size ≡ t.bytes = sym k.result_bytes in
               let some = k.result.some in
@@ -2020,39 +2299,75 @@ module _ (p : PlainProgram) (functions : List PlainIrFunction) (e : Env) (slots 
               (operand_slots_of p e slots home base place y a size k.operand (omega arith) (omega arith)) in
               let holds = IsUnaryResult op ty mode (value v.at (base a) size) in
               let run =
-              λ (end1 : ℕ) (u : HasAt e code pc end1). y.fixed.unaries op ty mode e (home a) answer_location work_location (base a)
-              (y.work + 40) y.work pc end1 v k.types slots1 h.bytes u in
+              λ (end1 : ℕ) (u : HasAt e code pc end1). by_itself p e slots home base place y (64 * unary_room ty) pc end1 size v holds
+              (omega arith) (y.fixed.unaries op ty mode e (home a) answer_location work_location (base a)
+              (y.work + 40) y.work pc end1 v k.types slots1 h.bytes u) in
               answer_passes p e slots home base place y code (64 * unary_room ty) size c (suc n) pc mid t need (plain_needs i rest) m v
-              (R (suc n) rest m1) holds k.result same h more z there run (omega (arith, same))
-              (λ result v2 g matches. reached mid result v2 onward x_is g matches)
+              (R (suc n) rest m1) holds k.result same h more z there run (omega (arith, same)) onward
 
-          by_need : (x : Bool) → (w == 0) ≡ x → G (suc n) m.state.work pc v (R (suc n) rest m1)
-          by_need true z =
-              let none = λ (x : List AsmItem). ap (λ (q : Bool). if q then [] else x) z in
-              let empty : code_of i rest ≡ [] = code_is ∙ cases_of stops (none whole) (none (code ++ copy_code answer_location
-              (home t) w)) in
-              let go =
-              nothing_passes i t (low_bytes t.bytes number.number) c rest n pc (plain_needs i rest) m v k.result empty
-              (eqb-true w 0 z) (low_below t.bytes number.number) stands more h f in
-              subst (λ (x : Value). G (suc n) m.state.work pc v (R (suc n) rest (machine (with_temp t x m.temps) st)))
-              (sym number.result) go
-          by_need false z =
-              let parts = has_parts e (code_of i rest) (items rest) pc end stands in
-              let there : HasAt e (if stops then stopped else answer_code code (home t) w) pc parts.0 =
-              subst (λ x. HasAt e x pc parts.0) code_is parts.1 in
-              let size = scalar_size ty in
-              let need0 = plain_needs i rest in
-              let least_a : all_or_none a.bytes w ≤ need0 a.at = subst (λ (x : Bool). only_wanted x a.bytes w ≤ need0 a.at) wx
-              (least_here a.at ka (without t.at need)) in
-              let x_is : value v.at (base a) size ≡ low = all_there a w low size need0 m v k.operand k.operand_bytes z least_a qa h in
-              by_code stops refl z parts.0 there parts.2 x_is
+  fixed_unary_called : (l : ℕ) (op : UnOp) (ty : PlainType) (mode : Mode) (t a : Temp) (rest : List PlainIr) (n pc : ℕ) (m : Mach)
+      (v : View) → IsFixedUnary slots op t a ty → HasRoutine e l (unary_body op ty mode)
+      → HasAt e (called_code home l (wanted (needs at rest) t) (unary_op op ty mode t a) ++ items rest) pc end
+      → M (needs at (unary_op op ty mode t a ∷ rest)) m v
+      → Rest (suc n) rest → G (suc n) m.state.work pc v (P n (unary_op op ty mode t a) rest m)
+  fixed_unary_called l op ty mode t a rest n pc m v k routine stands h f =
+      fixed_unary_passes op ty mode t a rest n pc m v (answer_code code (home t) w) k
+      (λ z. ap (λ (q : Bool). if q then [] else code ++ copy_code answer_location (home t) w) z) stands h runs f
+    where
+      i : PlainIr
+      i = unary_op op ty mode t a
 
-  pub fixed_conversion_follows : (t : Temp) (ty : PlainType) (mode : Mode) (a : Temp) (aty : PlainType) (rest : List PlainIr) (n pc : ℕ)
-      (m : Mach) (v : View)
-      → IsFixedConversion slots t a ty aty → keeps_number ty aty mode ≡ false → HasAt e (items (conversion t ty mode a aty ∷ rest)) pc end
-      → M (needs at (conversion t ty mode a aty ∷ rest)) m v
+      c : ℕ
+      c = op_steps i
+
+      need : Need
+      need = needs at rest
+
+      w : ℕ
+      w = wanted need t
+
+      ka : ℕ
+      ka = only_wanted (is_whole ty) a.bytes w
+
+      more : (u : ℕ) → u ≢ t.at → need u ≤ plain_needs i rest u
+      more u d = let x = without_other t.at u need d in let z = least_other a.at ka u (without t.at need) in omega arith
+
+      code : List AsmItem
+      code = call_with_one (home a) a.bytes l
+
+      runs : UnaryRuns op ty mode t a rest n pc m v (answer_code code (home t) w)
+      runs r z mid there onward =
+          let size = scalar_size ty in
+          let same : size ≡ t.bytes = sym k.result_bytes in
+          let some = k.result.some in
+          let holds = IsUnaryResult op ty mode (value v.at (base a) size) in
+          let run =
+          λ (end1 : ℕ) (u : HasAt e code pc end1). y.routines.unaries op ty mode e l (home a) (base a) y.work pc end1 v k.types
+          (has_work p e slots home base place y) routine (operand_at p e slots home base place y a size k.operand k.operand_bytes)
+          (can_push p e slots home base place y (plain_needs i rest) m v h) h.bytes
+          (subst (λ (x : ℕ). HasAt e (call_with_one (home a) x l) pc end1) k.operand_bytes u) in
+          answer_passes p e slots home base place y code (64 * unary_room ty + 18) size c (suc n) pc mid t need (plain_needs i rest) m v
+          (R (suc n) rest (machine (with_temp t r m.temps) (worked c m.state))) holds k.result same h more z there run
+          (omega (arith, same, some)) onward
+
+  -- what is shown of code for a conversion from or to a fixed-point type, where the operand's bytes have a result
+  abbrev ConversionRuns : (t : Temp) → PlainType → Mode → Temp → PlainType → List PlainIr → (n pc : ℕ) → Mach → View → List AsmItem
+      → Type 0
+  ConversionRuns t ty mode a aty rest n pc m v code =
+      (r : Value) → (wanted (needs at rest) t == 0) ≡ false → (mid : ℕ) → HasAt e code pc mid
+      → ((number : ℕ) (v2 : View) → IsConversionResult ty mode aty (value v.at (base a) (scalar_size aty)) number
+      → M (needs at rest) (machine (with_content t (bits number) m.temps) (worked (op_steps (conversion t ty mode a aty)) m.state)) v2
+      → G (suc n) (m.state.work + op_steps (conversion t ty mode a aty)) mid v2
+      (R (suc n) rest (machine (with_temp t r m.temps) (worked (op_steps (conversion t ty mode a aty)) m.state))))
+      → G (suc n) m.state.work pc v
+      (R (suc n) rest (machine (with_temp t r m.temps) (worked (op_steps (conversion t ty mode a aty)) m.state)))
+
+  fixed_conversion_passes : (t : Temp) (ty : PlainType) (mode : Mode) (a : Temp) (aty : PlainType) (rest : List PlainIr) (n pc : ℕ)
+      (m : Mach) (v : View) (code : List AsmItem) → IsFixedConversion slots t a ty aty
+      → ((wanted (needs at rest) t == 0) ≡ true → code ≡ []) → HasAt e (code ++ items rest) pc end
+      → M (needs at (conversion t ty mode a aty ∷ rest)) m v → ConversionRuns t ty mode a aty rest n pc m v code
       → Rest (suc n) rest → G (suc n) m.state.work pc v (P n (conversion t ty mode a aty) rest m)
-  fixed_conversion_follows t ty mode a aty rest n pc m v k other stands h f =
+  fixed_conversion_passes t ty mode a aty rest n pc m v code k none stands h runs f =
       from_typed p place e aty a m.temps st _ (suc n) m.state.work pc v (fixed_numeric aty known.operand)
       (λ low q. by_result low q (conversion_result ty mode (operand low)) refl)
     where
@@ -2086,33 +2401,8 @@ module _ (p : PlainProgram) (functions : List PlainIrFunction) (e : Env) (slots 
           ka : ℕ
           ka = only_wanted (is_whole ty || is_whole aty) a.bytes w
 
-          fx : (is_fixed ty || is_fixed aty) ≡ true
-          fx = either_fixed is_fixed type_fixed ty aty k.types.fixed
-
           wx : (is_whole ty || is_whole aty) ≡ true
           wx = either_fixed is_whole type_whole ty aty k.types.fixed
-
-          code : List AsmItem
-          code = fixed_conversion_code ty aty mode (home a) answer_location work_location
-
-          bring : List AsmItem
-          bring = bring_code (is_signed aty) (home a) (home t) (scalar_size aty) (scalar_size ty) (format_in aty).frac (format_in ty).frac
-
-          brought : List AsmItem
-          brought =
-              brought_code (is_signed aty) (home a) (home t) (scalar_size aty) (scalar_size ty) (format_in aty).frac (format_in ty).frac w
-
-          brings : Bool
-          brings = is_brought ty aty mode
-
-          code_is : code_of i rest ≡ (if brings then brought else answer_code code (home t) w)
-          code_is =
-              ap (λ z. code_by_kind z (fixed_conversion ty aty mode (home a) (home t) a.bytes w) (code_by_kind (is_pointer aty)
-              (pointer_conversion aty (home a) (home t) a.bytes t.bytes w)
-              (conversion_code (is_signed aty) (home a) (home t) a.bytes w))) fx
-              ∙ ap
-              (λ z. if z then conversion_code (is_signed aty) (home a) (home t) a.bytes w
-              else (if brings then brought else answer_code code (home t) w)) other
 
           more : (u : ℕ) → u ≢ t.at → need u ≤ plain_needs i rest u
           more u d = let x = without_other t.at u need d in let z = least_other a.at ka u (without t.at need) in omega arith
@@ -2125,10 +2415,6 @@ module _ (p : PlainProgram) (functions : List PlainIrFunction) (e : Env) (slots 
 
           number : IsNumber (conversion_value (number_type ty) mode (fixed_operand_in (format_in aty) (scalar_size aty) low)) r
           number = conversion_told ty aty mode low (operand low) r known.result known.operand is_operand q
-
-          cases_of : (x : Bool) {own others : List AsmItem} → own ≡ [] → others ≡ [] → (if x then own else others) ≡ []
-          cases_of true q1 q2 = q1
-          cases_of false q1 q2 = q2
 
           -- bytes that hold the result of the operand's bytes are those of r
           reached : (mid result : ℕ) (v2 : View) → HasAt e (items rest) mid end → value v.at (base a) (scalar_size aty) ≡ low
@@ -2146,17 +2432,98 @@ module _ (p : PlainProgram) (functions : List PlainIrFunction) (e : Env) (slots 
               }) q in
               f mid m1 v2 onward (subst (λ (x : Content). M need (machine (with_content t x m.temps) st) v2) (sym content) matches)
 
-          by_code : (x : Bool) → brings ≡ x → (w == 0) ≡ false → (mid : ℕ)
-              → HasAt e (if x then brought else answer_code code (home t) w) pc mid → HasAt e (items rest) mid end
-              → value v.at (base a) (scalar_size aty) ≡ low → G (suc n) m.state.work pc v (R (suc n) rest m1)
-          by_code true s z mid there onward x_is =
+          by_need : (x : Bool) → (w == 0) ≡ x → G (suc n) m.state.work pc v (R (suc n) rest m1)
+          by_need true z =
+              let go =
+              no_code_passes code t (low_bytes t.bytes number.number) c rest n pc (plain_needs i rest) m v k.result (none z)
+              (eqb-true w 0 z) (low_below t.bytes number.number) stands more h f in
+              subst (λ (x : Value). G (suc n) m.state.work pc v (R (suc n) rest (machine (with_temp t x m.temps) st)))
+              (sym number.result) go
+          by_need false z =
+              let parts = has_parts e code (items rest) pc end stands in
+              let need0 = plain_needs i rest in
+              let least_a : all_or_none a.bytes w ≤ need0 a.at = subst (λ (x : Bool). only_wanted x a.bytes w ≤ need0 a.at) wx
+              (least_here a.at ka (without t.at need)) in
+              let x_is : value v.at (base a) (scalar_size aty) ≡ low =
+              all_there a w low (scalar_size aty) need0 m v k.from k.from_bytes z least_a qa h in
+              runs r z parts.0 parts.1 (λ result v2 g matches. reached parts.0 result v2 parts.2 x_is g matches)
+
+  pub fixed_conversion_follows : (t : Temp) (ty : PlainType) (mode : Mode) (a : Temp) (aty : PlainType) (rest : List PlainIr) (n pc : ℕ)
+      (m : Mach) (v : View)
+      → IsFixedConversion slots t a ty aty → keeps_number ty aty mode ≡ false → HasAt e (own_items (conversion t ty mode a aty) rest) pc end
+      → M (needs at (conversion t ty mode a aty ∷ rest)) m v
+      → Rest (suc n) rest → G (suc n) m.state.work pc v (P n (conversion t ty mode a aty) rest m)
+  fixed_conversion_follows t ty mode a aty rest n pc m v k other stands h f =
+      fixed_conversion_passes t ty mode a aty rest n pc m v (code_of i rest) k none stands h runs f
+    where
+      i : PlainIr
+      i = conversion t ty mode a aty
+
+      c : ℕ
+      c = op_steps i
+
+      need : Need
+      need = needs at rest
+
+      w : ℕ
+      w = wanted need t
+
+      ka : ℕ
+      ka = only_wanted (is_whole ty || is_whole aty) a.bytes w
+
+      fx : (is_fixed ty || is_fixed aty) ≡ true
+      fx = either_fixed is_fixed type_fixed ty aty k.types.fixed
+
+      code : List AsmItem
+      code = fixed_conversion_code ty aty mode (home a) answer_location work_location
+
+      bring : List AsmItem
+      bring = bring_code (is_signed aty) (home a) (home t) (scalar_size aty) (scalar_size ty) (format_in aty).frac (format_in ty).frac
+
+      brought : List AsmItem
+      brought =
+          brought_code (is_signed aty) (home a) (home t) (scalar_size aty) (scalar_size ty) (format_in aty).frac (format_in ty).frac w
+
+      brings : Bool
+      brings = is_brought ty aty mode
+
+      code_is : code_of i rest ≡ (if brings then brought else answer_code code (home t) w)
+      code_is =
+          ap (λ z. code_by_kind z (fixed_conversion ty aty mode (home a) (home t) a.bytes w) (code_by_kind (is_pointer aty)
+          (pointer_conversion aty (home a) (home t) a.bytes t.bytes w)
+          (conversion_code (is_signed aty) (home a) (home t) a.bytes w))) fx
+          ∙ ap
+          (λ z. if z then conversion_code (is_signed aty) (home a) (home t) a.bytes w
+          else (if brings then brought else answer_code code (home t) w)) other
+
+      more : (u : ℕ) → u ≢ t.at → need u ≤ plain_needs i rest u
+      more u d = let x = without_other t.at u need d in let z = least_other a.at ka u (without t.at need) in omega arith
+
+      cases_of : (x : Bool) {own others : List AsmItem} → own ≡ [] → others ≡ [] → (if x then own else others) ≡ []
+      cases_of true q1 q2 = q1
+      cases_of false q1 q2 = q2
+
+      none : (w == 0) ≡ true → code_of i rest ≡ []
+      none z =
+          let no = λ (x : List AsmItem). ap (λ (q : Bool). if q then [] else x) z in
+          code_is ∙ cases_of brings (no bring) (no (code ++ copy_code answer_location (home t) w))
+
+      runs : ConversionRuns t ty mode a aty rest n pc m v (code_of i rest)
+      runs r z mid there onward = by_code brings refl (subst (λ x. HasAt e x pc mid) code_is there)
+        where
+          m1 : Mach
+          m1 = machine (with_temp t r m.temps) (worked c m.state)
+
+          by_code : (x : Bool) → brings ≡ x → HasAt e (if x then brought else answer_code code (home t) w) pc mid
+              → G (suc n) m.state.work pc v (R (suc n) rest m1)
+          by_code true s there =
               let code_there : HasAt e bring pc mid = subst (λ (x : Bool). HasAt e (if x then [] else bring) pc mid) z there in
               let some = k.result.some in
               let same = k.result_bytes in
               let room = conversion_roomy ty aty in
               brought_passes p e slots home base place y ty aty mode c (suc n) pc mid t a need (plain_needs i rest) m v (R (suc n) rest m1)
-              k s h more code_there (omega (arith, room, some, same)) (λ result v2 g matches. reached mid result v2 onward x_is g matches)
-          by_code false s z mid there onward x_is =
+              k s h more code_there (omega (arith, room, some, same)) onward
+          by_code false s there =
               let size = scalar_size ty in
               let same : size ≡ t.bytes = sym k.result_bytes in
               let some = k.result.some in
@@ -2167,33 +2534,60 @@ module _ (p : PlainProgram) (functions : List PlainIrFunction) (e : Env) (slots 
               (operand_slots_of p e slots home base place y a size k.from (omega arith) (omega arith)) in
               let holds = IsConversionResult ty mode aty (value v.at (base a) (scalar_size aty)) in
               let run =
-              λ (end1 : ℕ) (u : HasAt e code pc end1). y.fixed.conversions ty aty mode e (home a) answer_location work_location (base a)
-              (y.work + 40) y.work pc end1 v k.types slots1 h.bytes u in
+              λ (end1 : ℕ) (u : HasAt e code pc end1). by_itself p e slots home base place y (64 * conversion_room ty aty) pc end1 size v
+              holds (omega arith) (y.fixed.conversions ty aty mode e (home a) answer_location work_location (base a)
+              (y.work + 40) y.work pc end1 v k.types slots1 h.bytes u) in
               let room = conversion_roomy ty aty in
               answer_passes p e slots home base place y code (64 * conversion_room ty aty) size c (suc n) pc mid t need
-              (plain_needs i rest) m v (R (suc n) rest m1) holds k.result same h more z there run (omega (arith, room, same))
-              (λ result v2 g matches. reached mid result v2 onward x_is g matches)
+              (plain_needs i rest) m v (R (suc n) rest m1) holds k.result same h more z there run (omega (arith, room, same)) onward
 
-          by_need : (x : Bool) → (w == 0) ≡ x → G (suc n) m.state.work pc v (R (suc n) rest m1)
-          by_need true z =
-              let none = λ (x : List AsmItem). ap (λ (q : Bool). if q then [] else x) z in
-              let empty : code_of i rest ≡ [] = code_is ∙ cases_of brings (none bring) (none (code ++ copy_code answer_location
-              (home t) w)) in
-              let go =
-              nothing_passes i t (low_bytes t.bytes number.number) c rest n pc (plain_needs i rest) m v k.result empty
-              (eqb-true w 0 z) (low_below t.bytes number.number) stands more h f in
-              subst (λ (x : Value). G (suc n) m.state.work pc v (R (suc n) rest (machine (with_temp t x m.temps) st)))
-              (sym number.result) go
-          by_need false z =
-              let parts = has_parts e (code_of i rest) (items rest) pc end stands in
-              let there : HasAt e (if brings then brought else answer_code code (home t) w) pc parts.0 =
-              subst (λ x. HasAt e x pc parts.0) code_is parts.1 in
-              let need0 = plain_needs i rest in
-              let least_a : all_or_none a.bytes w ≤ need0 a.at = subst (λ (x : Bool). only_wanted x a.bytes w ≤ need0 a.at) wx
-              (least_here a.at ka (without t.at need)) in
-              let x_is : value v.at (base a) (scalar_size aty) ≡ low =
-              all_there a w low (scalar_size aty) need0 m v k.from k.from_bytes z least_a qa h in
-              by_code brings refl z parts.0 there parts.2 x_is
+  fixed_conversion_called : (l : ℕ) (t : Temp) (ty : PlainType) (mode : Mode) (a : Temp) (aty : PlainType) (rest : List PlainIr)
+      (n pc : ℕ) (m : Mach) (v : View) → IsFixedConversion slots t a ty aty → HasRoutine e l (conversion_body ty aty mode)
+      → HasAt e (called_code home l (wanted (needs at rest) t) (conversion t ty mode a aty) ++ items rest) pc end
+      → M (needs at (conversion t ty mode a aty ∷ rest)) m v
+      → Rest (suc n) rest → G (suc n) m.state.work pc v (P n (conversion t ty mode a aty) rest m)
+  fixed_conversion_called l t ty mode a aty rest n pc m v k routine stands h f =
+      fixed_conversion_passes t ty mode a aty rest n pc m v (answer_code code (home t) w) k
+      (λ z. ap (λ (q : Bool). if q then [] else code ++ copy_code answer_location (home t) w) z) stands h runs f
+    where
+      i : PlainIr
+      i = conversion t ty mode a aty
+
+      c : ℕ
+      c = op_steps i
+
+      need : Need
+      need = needs at rest
+
+      w : ℕ
+      w = wanted need t
+
+      ka : ℕ
+      ka = only_wanted (is_whole ty || is_whole aty) a.bytes w
+
+      more : (u : ℕ) → u ≢ t.at → need u ≤ plain_needs i rest u
+      more u d = let x = without_other t.at u need d in let z = least_other a.at ka u (without t.at need) in omega arith
+
+      code : List AsmItem
+      code = call_with_one (home a) a.bytes l
+
+      runs : ConversionRuns t ty mode a aty rest n pc m v (answer_code code (home t) w)
+      runs r z mid there onward =
+          let size = scalar_size ty in
+          let same : size ≡ t.bytes = sym k.result_bytes in
+          let some = k.result.some in
+          let most = k.result.most in
+          let holds = IsConversionResult ty mode aty (value v.at (base a) (scalar_size aty)) in
+          let run =
+          λ (end1 : ℕ) (u : HasAt e code pc end1). y.routines.conversions ty aty mode e l (home a) (base a) y.work pc end1 v k.types
+          (has_work p e slots home base place y) routine
+          (operand_at p e slots home base place y a (scalar_size aty) k.from k.from_bytes) (omega arith) (omega arith)
+          (can_push p e slots home base place y (plain_needs i rest) m v h) h.bytes
+          (subst (λ (x : ℕ). HasAt e (call_with_one (home a) x l) pc end1) k.from_bytes u) in
+          let room = conversion_roomy ty aty in
+          answer_passes p e slots home base place y code (64 * conversion_room ty aty + 18) size c (suc n) pc mid t need
+          (plain_needs i rest) m v (R (suc n) rest (machine (with_temp t r m.temps) (worked c m.state))) holds k.result same h more z there
+          run (omega (arith, room, same, some)) onward
 
   -- no more bytes of a temporary are needed than it has
   no_more_needed : (a : Temp) (w low : ℕ) (less : Need) (m : Mach) (v : View)
@@ -2235,7 +2629,7 @@ module _ (p : PlainProgram) (functions : List PlainIrFunction) (e : Env) (slots 
   -- a conversion that gives the same number
   kept_follows : (t : Temp) (k j : FxKind) (s1 s2 : Bool) (mode : Mode) (a : Temp) (rest : List PlainIr) (n pc : ℕ) (m : Mach) (v : View)
       → IsFixedConversion slots t a (fixed k s1) (fixed j s2) → keeps_number (fixed k s1) (fixed j s2) mode ≡ true
-      → HasAt e (items (conversion t (fixed k s1) mode a (fixed j s2) ∷ rest)) pc end
+      → HasAt e (own_items (conversion t (fixed k s1) mode a (fixed j s2)) rest) pc end
       → M (needs at (conversion t (fixed k s1) mode a (fixed j s2) ∷ rest)) m v
       → Rest (suc n) rest → G (suc n) m.state.work pc v (P n (conversion t (fixed k s1) mode a (fixed j s2)) rest m)
   kept_follows t k j s1 s2 mode a rest n pc m v h keeps stands needed f =
@@ -2310,7 +2704,7 @@ module _ (p : PlainProgram) (functions : List PlainIrFunction) (e : Env) (slots 
   number_kept_follows : (t : Temp) (ty : PlainType) (mode : Mode) (a : Temp) (aty : PlainType) (rest : List PlainIr) (n pc : ℕ)
       (m : Mach) (v : View)
       → IsFixedConversion slots t a ty aty → keeps_number ty aty mode ≡ true
-      → HasAt e (items (conversion t ty mode a aty ∷ rest)) pc end
+      → HasAt e (own_items (conversion t ty mode a aty) rest) pc end
       → M (needs at (conversion t ty mode a aty ∷ rest)) m v
       → Rest (suc n) rest → G (suc n) m.state.work pc v (P n (conversion t ty mode a aty) rest m)
   number_kept_follows t (fixed k s1) mode a (fixed j s2) rest n pc m v h keeps stands needed f =
@@ -2348,7 +2742,7 @@ module _ (p : PlainProgram) (functions : List PlainIrFunction) (e : Env) (slots 
 
   unary_of_numbers : (op : UnOp) (s : Bool) (mode : Mode) (t a : Temp) (rest : List PlainIr) (n pc : ℕ) (m : Mach) (v : View)
       → HasHome slots t → HasHome slots a → a.bytes ≡ t.bytes
-      → HasAt e (items (unary_op op (integer s a.bytes) mode t a ∷ rest)) pc end
+      → HasAt e (own_items (unary_op op (integer s a.bytes) mode t a) rest) pc end
       → M (at_least a.at (wanted (needs at rest) t) (without t.at (needs at rest))) m v → Rest (suc n) rest
       → G (suc n) m.state.work pc v (P n (unary_op op (integer s a.bytes) mode t a) rest m)
   unary_of_numbers op s mode t a rest n pc m v it ia same stands h f =
@@ -2384,7 +2778,7 @@ module _ (p : PlainProgram) (functions : List PlainIrFunction) (e : Env) (slots 
   -- a negation of a fixed-point number that is one of an integer
   negation_follows : (k : FxKind) (s : Bool) (mode : Mode) (t a : Temp) (rest : List PlainIr) (n pc : ℕ) (m : Mach) (v : View)
       → IsFixedUnary slots Minus t a (fixed k s) → mode.saturate ≡ false
-      → HasAt e (items (unary_op Minus (fixed k s) mode t a ∷ rest)) pc end
+      → HasAt e (own_items (unary_op Minus (fixed k s) mode t a) rest) pc end
       → M (needs at (unary_op Minus (fixed k s) mode t a ∷ rest)) m v
       → Rest (suc n) rest → G (suc n) m.state.work pc v (P n (unary_op Minus (fixed k s) mode t a) rest m)
   negation_follows k s mode t a rest n pc m v h off stands needed f =
@@ -2409,7 +2803,7 @@ module _ (p : PlainProgram) (functions : List PlainIrFunction) (e : Env) (slots 
       same : a.bytes ≡ t.bytes
       same = h.operand_bytes ∙ sym h.result_bytes
 
-      code : items (i ∷ rest) ≡ items (whole ∷ rest)
+      code : own_items i rest ≡ own_items whole rest
       code =
           ap (λ z. (if z
           then (if nat_le bytes 6 then negated_unary sign (home a) (home t) bytes (wanted (needs at rest) t)
@@ -2422,7 +2816,7 @@ module _ (p : PlainProgram) (functions : List PlainIrFunction) (e : Env) (slots 
       run =
           let sized : a.bytes ≡ bytes = h.operand_bytes in
           let done =
-          λ (j : ℕ). HasAt e (items (unary_op Minus (integer sign j) mode t a ∷ rest)) pc end
+          λ (j : ℕ). HasAt e (own_items (unary_op Minus (integer sign j) mode t a) rest) pc end
           → G (suc n) m.state.work pc v (P n (unary_op Minus (integer sign j) mode t a) rest m) in
           let need = needs at rest in
           let w = wanted need t in
@@ -2449,7 +2843,7 @@ module _ (p : PlainProgram) (functions : List PlainIrFunction) (e : Env) (slots 
 
   whole_unary_follows : (op : UnOp) (ty : PlainType) (mode : Mode) (t a : Temp) (rest : List PlainIr) (n pc : ℕ) (m : Mach)
       (v : View) → IsFixedUnary slots op t a ty → mode.saturate ≡ false
-      → HasAt e (items (unary_op op ty mode t a ∷ rest)) pc end
+      → HasAt e (own_items (unary_op op ty mode t a) rest) pc end
       → M (needs at (unary_op op ty mode t a ∷ rest)) m v
       → Rest (suc n) rest → G (suc n) m.state.work pc v (P n (unary_op op ty mode t a) rest m)
   whole_unary_follows Minus (fixed k s) mode t a rest n pc m v h off stands needed f =
@@ -2463,7 +2857,7 @@ module _ (p : PlainProgram) (functions : List PlainIrFunction) (e : Env) (slots 
 
   pub unary_follows : (op : UnOp) (ty : PlainType) (mode : Mode) (t a : Temp) (rest : List PlainIr) (n pc : ℕ) (m : Mach)
       (v : View) → IsCovered p results me y.called slots (unary_op op ty mode t a)
-      → HasAt e (items (unary_op op ty mode t a ∷ rest)) pc end
+      → HasAt e (own_items (unary_op op ty mode t a) rest) pc end
       → M (needs at (unary_op op ty mode t a ∷ rest)) m v → Rest (suc n) rest
       → G (suc n) m.state.work pc v (P n (unary_op op ty mode t a) rest m)
   unary_follows op ty mode t a rest n pc m v covered stands h f =
@@ -2472,7 +2866,7 @@ module _ (p : PlainProgram) (functions : List PlainIrFunction) (e : Env) (slots 
       let same = k.same_bytes in
       let type : ty ≡ integer k.signed a.bytes = k.result_type ∙ ap (integer k.signed) (sym same) in
       let done =
-      λ (x : PlainType). HasAt e (items (unary_op op x mode t a ∷ rest)) pc end → M (needs at (unary_op op x mode t a ∷ rest)) m v
+      λ (x : PlainType). HasAt e (own_items (unary_op op x mode t a) rest) pc end → M (needs at (unary_op op x mode t a ∷ rest)) m v
       → G (suc n) m.state.work pc v (P n (unary_op op x mode t a) rest m) in
       subst done (sym type)
       (λ stand needed. unary_of_numbers op k.signed mode t a rest n pc m v k.result k.operand same stand needed f) stands h)
@@ -2500,7 +2894,7 @@ module _ (p : PlainProgram) (functions : List PlainIrFunction) (e : Env) (slots 
 
   conversion_of_numbers : (s s1 : Bool) (mode : Mode) (t a : Temp) (rest : List PlainIr) (n pc : ℕ) (m : Mach) (v : View)
       → HasHome slots t → HasHome slots a
-      → HasAt e (items (conversion t (integer s t.bytes) mode a (integer s1 a.bytes) ∷ rest)) pc end
+      → HasAt e (own_items (conversion t (integer s t.bytes) mode a (integer s1 a.bytes)) rest) pc end
       → M (at_least a.at (wanted (needs at rest) t) (without t.at (needs at rest))) m v → Rest (suc n) rest
       → G (suc n) m.state.work pc v (P n (conversion t (integer s t.bytes) mode a (integer s1 a.bytes)) rest m)
   conversion_of_numbers s s1 mode t a rest n pc m v it ia stands h f =
@@ -2526,14 +2920,14 @@ module _ (p : PlainProgram) (functions : List PlainIrFunction) (e : Env) (slots 
 
   pub conversion_follows : (t : Temp) (ty : PlainType) (mode : Mode) (a : Temp) (aty : PlainType) (rest : List PlainIr)
       (n pc : ℕ) (m : Mach) (v : View) → IsCovered p results me y.called slots (conversion t ty mode a aty)
-      → HasAt e (items (conversion t ty mode a aty ∷ rest)) pc end
+      → HasAt e (own_items (conversion t ty mode a aty) rest) pc end
       → M (needs at (conversion t ty mode a aty ∷ rest)) m v → Rest (suc n) rest
       → G (suc n) m.state.work pc v (P n (conversion t ty mode a aty) rest m)
   conversion_follows t ty mode a aty rest n pc m v covered stands h f =
       ⊎_elim
       (λ (k : AreConverted slots t a ty aty).
       let done =
-      λ (x z : PlainType). HasAt e (items (conversion t x mode a z ∷ rest)) pc end → M (needs at (conversion t x mode a z ∷ rest)) m v
+      λ (x z : PlainType). HasAt e (own_items (conversion t x mode a z) rest) pc end → M (needs at (conversion t x mode a z ∷ rest)) m v
       → G (suc n) m.state.work pc v (P n (conversion t x mode a z) rest m) in
       subst (λ x. done x aty) (sym k.result_type)
       (subst (λ x. done (integer k.signed t.bytes) x) (sym k.from_type)
@@ -2568,7 +2962,7 @@ module _ (p : PlainProgram) (functions : List PlainIrFunction) (e : Env) (slots 
   in_on n rest t m x s1 = R n rest (machine (with_temp t x m.temps) s1)
 
   pub in_follows : (t : Temp) (port : ℕ) (index : Option Temp) (width : ℕ) (rest : List PlainIr) (n pc : ℕ) (m : Mach)
-      (v : View) → IsPort slots t port index width → HasAt e (items (port_in t port index width ∷ rest)) pc end
+      (v : View) → IsPort slots t port index width → HasAt e (own_items (port_in t port index width) rest) pc end
       → M (index_needed index (without t.at (needs at rest))) m v → Rest n rest
       → G (suc n) m.state.work pc v (P n (port_in t port index width) rest m)
   in_follows t port index width rest n pc m v is stands h f =
@@ -2623,7 +3017,7 @@ module _ (p : PlainProgram) (functions : List PlainIrFunction) (e : Env) (slots 
   out_on n rest m x s1 = R n rest (machine m.temps s1)
 
   pub out_follows : (t : Temp) (port : ℕ) (index : Option Temp) (width : ℕ) (rest : List PlainIr) (n pc : ℕ) (m : Mach)
-      (v : View) → IsPort slots t port index width → HasAt e (items (port_out t port index width ∷ rest)) pc end
+      (v : View) → IsPort slots t port index width → HasAt e (own_items (port_out t port index width) rest) pc end
       → M (at_least t.at width (index_needed index (needs at rest))) m v → Rest n rest
       → G (suc n) m.state.work pc v (P n (port_out t port index width) rest m)
   out_follows t port index width rest n pc m v is stands h f =
@@ -2679,6 +3073,16 @@ module _ (p : PlainProgram) (functions : List PlainIrFunction) (e : Env) (slots 
 
   -- ---- jumps
 
+  -- an operation that can have no routine has its code at its use, also behind other code
+  at_use_behind : (first : List AsmItem) (told : Option Told) (i : PlainIr) (rest : List PlainIr) (pc : ℕ) → IsLinked e link i
+      → ((l : ℕ) → HasRoutineOf e l i → ⊥) → HasAt e (first ++ items_told told (i ∷ rest)) pc end
+      → HasAt e (first ++ own_told told i rest) pc end
+  at_use_behind = used_behind p functions e slots home base place y labels all end results me link stack
+
+  at_use : (i : PlainIr) (rest : List PlainIr) (pc : ℕ) → Ready pc (i ∷ rest) → ((l : ℕ) → HasRoutineOf e l i → ⊥)
+      → HasAt e (own_items i rest) pc end
+  at_use = used p functions e slots home base place y labels all end results me link stack
+
   -- where a label that has a word stands, and what is needed there
   pub record Target (l : ℕ) (rest : List PlainIr) : Type 0 where
     pub ready : e.word_of (link.label_of l) < 65536 → Ready (e.word_of (link.label_of l)) rest
@@ -2695,7 +3099,7 @@ module _ (p : PlainProgram) (functions : List PlainIrFunction) (e : Env) (slots 
 
   -- operations of which the first one may have been told something
   record Walked (told : Option Told) (pc : ℕ) (rest : List PlainIr) : Type 0 where
-    covered : AreCovered p results me y.called slots rest
+    covered : AreReady p e results me y.called slots link rest
     live : IsLiveBy at rest
     inside : (b : ℕ) → Contains (called_in rest) b → Contains (called_in all) b
     here : IsRunning p functions e slots home base place y labels all end results me link stack
@@ -2705,7 +3109,7 @@ module _ (p : PlainProgram) (functions : List PlainIrFunction) (e : Env) (slots 
       → Target l rest
   found told [] pc l rest r f = absurd (cc)
   found told (label k ∷ ops) pc l rest r f =
-      let s = r.stands in
+      let s = at_use_behind [] told (label k) ops pc r.covered.0.1 (λ l none. none) r.stands in
       ⊎_elim
       (λ q.
       let g : (if k == l then Some ops else find l ops) ≡ Some rest = f in
@@ -2844,7 +3248,7 @@ module _ (p : PlainProgram) (functions : List PlainIrFunction) (e : Env) (slots 
           (omega arith) (f (e.word_of (link.label_of l)) rest m1 v1 (g.ready w) matches)
 
   pub jump_follows : (start l : ℕ) (rest : List PlainIr) (n pc : ℕ) (m : Mach) (v : View) → Ready start all
-      → HasAt e (items (jump l ∷ rest)) pc end → M (labels l) m v → Onward n
+      → HasAt e (own_items (jump l) rest) pc end → M (labels l) m v → Onward n
       → G (suc n) m.state.work pc v (P n (jump l) rest m)
   jump_follows start l rest n pc m v ready stands h f =
       jumps start l n (op_steps (jump l)) 1 pc m v v ready (jump_has_word e (link.label_of l) pc stands.0 stands.1)
@@ -2922,9 +3326,9 @@ module _ (p : PlainProgram) (functions : List PlainIrFunction) (e : Env) (slots 
       ne_eqb x 0 (λ z. absurd (omega (arith, whole, low, z)))
 
   pub branch_follows : (start l : ℕ) (t : Temp) (rest : List PlainIr) (n pc : ℕ) (m : Mach) (v : View)
-      → Ready start all → AreCovered p results me y.called slots rest → IsLiveBy at rest
+      → Ready start all → AreReady p e results me y.called slots link rest → IsLiveBy at rest
       → ((b : ℕ) → Contains (called_in rest) b → Contains (called_in all) b) → HasHome slots t
-      → HasAt e (items (branch_zero t l ∷ rest)) pc end
+      → HasAt e (own_items (branch_zero t l) rest) pc end
       → M (at_least t.at t.bytes (either (needs at rest) (labels l))) m v → Onward n
       → G (suc n) m.state.work pc v (P n (branch_zero t l) rest m)
   branch_follows start l t rest n pc m v ready covered live inside it stands h f =
@@ -3032,7 +3436,7 @@ module _ (p : PlainProgram) (functions : List PlainIrFunction) (e : Env) (slots 
 
   -- the comparison of two temporaries, and the branch behind it
   told_passes : (start l : ℕ) (r : Relation) (s : Bool) (t x1 x2 : Temp) (bytes x z c : ℕ) (rest : List PlainIr) (n pc : ℕ)
-      (need0 : Need) (m : Mach) (v : View) → Ready start all → AreCovered p results me y.called slots rest → IsLiveBy at rest
+      (need0 : Need) (m : Mach) (v : View) → Ready start all → AreReady p e results me y.called slots link rest → IsLiveBy at rest
       → ((b : ℕ) → Contains (called_in rest) b → Contains (called_in all) b) → HasHome slots t → HasHome slots x1
       → HasHome slots x2 → x1.bytes ≡ suc bytes → x2.bytes ≡ suc bytes → suc bytes ≤ 16
       → value v.at (base x1) (suc bytes) ≡ x → value v.at (base x2) (suc bytes) ≡ z → 102 ≤ c
@@ -3078,7 +3482,7 @@ module _ (p : PlainProgram) (functions : List PlainIrFunction) (e : Env) (slots 
 
   -- the same with a number
   told_number_passes : (start l : ℕ) (r : Relation) (s : Bool) (t x1 : Temp) (bytes x z number c : ℕ) (rest : List PlainIr)
-      (n pc : ℕ) (need0 : Need) (m : Mach) (v : View) → Ready start all → AreCovered p results me y.called slots rest
+      (n pc : ℕ) (need0 : Need) (m : Mach) (v : View) → Ready start all → AreReady p e results me y.called slots link rest
       → IsLiveBy at rest → ((b : ℕ) → Contains (called_in rest) b → Contains (called_in all) b) → HasHome slots t
       → HasHome slots x1 → suc bytes ≤ x1.bytes → value v.at (base x1) (suc bytes) ≡ x → number % 256 ^ suc bytes ≡ z → 102 ≤ c
       → wanted (either (needs at rest) (labels l)) t ≡ 0
@@ -3125,7 +3529,7 @@ module _ (p : PlainProgram) (functions : List PlainIrFunction) (e : Env) (slots 
 
   pub told_follows : (start l : ℕ) (op : BinOp) (r : Relation) (exchanged : Bool) → family_of op ≡ Compared r exchanged
       → (s : Bool) (ty : PlainType) (mode : Mode) (t a b : Temp) (rest : List PlainIr) (n pc : ℕ) (m : Mach) (v : View)
-      → Ready start all → AreCovered p results me y.called slots rest → IsLiveBy at rest
+      → Ready start all → AreReady p e results me y.called slots link rest → IsLiveBy at rest
       → ((c : ℕ) → Contains (called_in rest) c → Contains (called_in all) c) → HasHome slots t → HasHome slots a
       → HasHome slots b → b.bytes ≡ a.bytes → wanted (either (needs at rest) (labels l)) t ≡ 0
       → HasAt e (flag_code (Compared r exchanged) (home a) (home b) a.bytes ++ (unless_code r s (link.label_of l) ++ items rest)) pc end
@@ -3203,7 +3607,7 @@ module _ (p : PlainProgram) (functions : List PlainIrFunction) (e : Env) (slots 
   -- the same with a known number
   told_number_follows : (start l : ℕ) (op : BinOp) (r : Relation) → family_of op ≡ Compared r false
       → (s sign : Bool) (size : ℕ) (ty : PlainType) (mode : Mode) (t a b : Temp) (k : ℤ) (rest : List PlainIr) (n pc : ℕ) (m : Mach)
-      (v : View) → Ready start all → AreCovered p results me y.called slots rest → IsLiveBy at rest
+      (v : View) → Ready start all → AreReady p e results me y.called slots link rest → IsLiveBy at rest
       → ((c : ℕ) → Contains (called_in rest) c → Contains (called_in all) c) → HasHome slots t → HasHome slots a
       → HasHome slots b → b.bytes ≡ a.bytes → AreComparedBy a b k s size sign m → wanted (either (needs at rest) (labels l)) t ≡ 0
       → HasAt e (compared_with_code (home a) (low_bytes 16 k) size ++ (unless_code r sign (link.label_of l) ++ items rest)) pc end
@@ -3299,11 +3703,11 @@ module _ (p : PlainProgram) (functions : List PlainIrFunction) (e : Env) (slots 
   abbrev StandsTelling : BinOp → PlainType → Mode → (t a : Temp) → PlainType → Temp → PlainType → ℕ → Option Told
       → List PlainIr → Type 0
   StandsTelling op ty mode t a aty b bty pc told ops =
-      HasAt e (op_code p home link None told None (needs at ops) (binary_op op ty mode t a aty b bty) ++ items_told told ops) pc end
+      HasAt e (own_code p home link None told None (needs at ops) (binary_op op ty mode t a aty b bty) ++ items_told told ops) pc end
 
   -- operations that are left behind one that computes
   record Behind (rest : List PlainIr) : Type 0 where
-    covered : AreCovered p results me y.called slots rest
+    covered : AreReady p e results me y.called slots link rest
     live : IsLiveBy at rest
     inside : (b : ℕ) → Contains (called_in rest) b → Contains (called_in all) b
 
@@ -3355,7 +3759,7 @@ module _ (p : PlainProgram) (functions : List PlainIrFunction) (e : Env) (slots 
           (second_wanted x op b.bytes (wanted (needs at ops) t)) (needs at ops)) m v) wx h
 
       by_family : (x : Family) → family_of op ≡ x → (told : Told) → told_of x (is_signed aty) ≡ Some told → (l : ℕ) (ops : List PlainIr)
-          → IsBinary x slots t a b ty aty bty → AreCovered p results me y.called slots ops → IsLiveBy at ops
+          → IsBinary x slots t a b ty aty bty → AreReady p e results me y.called slots link ops → IsLiveBy at ops
           → ((c : ℕ) → Contains (called_in ops) c → Contains (called_in all) c) → wanted (either (needs at ops) (labels l)) t ≡ 0
           → HasAt e (flag_code x (home a) (home b) a.bytes ++ (unless_code told.relation told.signed (link.label_of l) ++ items ops)) pc end
           → M (plain_needs (binary_op op ty mode t a aty b bty) (branch_zero t l ∷ ops)) m v
@@ -3413,9 +3817,12 @@ module _ (p : PlainProgram) (functions : List PlainIrFunction) (e : Env) (slots 
           (code_by_kind (is_pointer aty || is_pointer bty)
           (pointer_binary (is_pointer aty) (is_pointer bty) p op aty bty (home a) (home b) (home t) a.bytes b.bytes w) own)
           ++ after) pc end) fx stand) in
+          let branch : HasAt e (own ++ own_told (Some told) (branch_zero t l) ops) pc end =
+          at_use_behind own (Some told) (branch_zero t l) ops pc (subst (λ x. Behind (branch_zero x l ∷ ops)) same r).covered.0.1
+          (λ l none. none) flags in
           subst (λ x. G (suc n) m.state.work pc v (P n (binary_op op ty mode t a aty b bty) (branch_zero x l ∷ ops) m)) (sym same)
           (by_family (family_of op) refl told (subst (λ x. told_by x (family_of op) (is_signed aty) ≡ Some told) ax q) l ops integers
-          r.covered.1 r.live r.inside none flags h1)
+          r.covered.1 r.live r.inside none branch h1)
 
       at_next : (ops : List PlainIr) (told : Told) → plain_told (binary_op op ty mode t a aty b bty) ops ≡ Some told
           → Behind ops → M (plain_needs (binary_op op ty mode t a aty b bty) ops) m v
@@ -3609,10 +4016,12 @@ module _ (p : PlainProgram) (functions : List PlainIrFunction) (e : Env) (slots 
       telling : List PlainIr → Option Told
       telling ops = number_told op ty mode t (integer i.signed a.bytes) (integer i.signed b.bytes) k ops
 
-      code : Option Told → List PlainIr → List AsmItem
-      code told ops =
+      taken_by : Option Told → List PlainIr → List AsmItem
+      taken_by told ops =
           taking_code (Some k) told (family_of op) i.signed i.signed (home a) (home b) (home t) a.bytes (wanted (needs at ops) t)
-          ++ items_told told ops
+
+      code : Option Told → List PlainIr → List AsmItem
+      code told ops = taken_by told ops ++ items_told told ops
 
       by_told : (told : Option Told) → telling rest ≡ told → Behind rest → HasAt e (code (telling rest) rest) pc end
           → M (number_needs op t a k rest) m v → Rest (suc n) rest → G (suc n) m.state.work pc v (P n own rest m)
@@ -3632,7 +4041,9 @@ module _ (p : PlainProgram) (functions : List PlainIrFunction) (e : Env) (slots 
           told_number_follows start z.l op r is i.signed sign size ty mode t a b k.number z.rest n pc m v ready behind1.covered.1 behind1.live
           behind1.inside i.result i.left i.right i.same_bytes by z.none
           (subst (λ (x : Told). HasAt e (compared_with_code (home a) (low_bytes 16 k.number) size
-          ++ (unless_code x.relation x.signed (link.label_of z.l) ++ items z.rest)) pc end) (sym same) stands1)
+          ++ (unless_code x.relation x.signed (link.label_of z.l) ++ items z.rest)) pc end) (sym same)
+          (at_use_behind (taken_by (Some told) (branch_zero t z.l ∷ z.rest)) (Some told) (branch_zero t z.l) z.rest pc
+          behind1.covered.0.1 (λ l none. none) stands1))
           (compared_needed (branch_zero t z.l ∷ z.rest) h1) go)
           behind (subst (λ x. HasAt e (code x rest) pc end) q stands) h
 
@@ -3831,12 +4242,14 @@ module _ (p : PlainProgram) (functions : List PlainIrFunction) (e : Env) (slots 
       (λ (w : is_pointer z ≡ true). or_right (is_whole x) (is_whole z) (pointer_whole z w))
       (or_cases (is_pointer x) (is_pointer z) q)
 
-  binary_follows : (start : ℕ) → Ready start all → (n : ℕ) → Onward n → (op : BinOp) (ty : PlainType) (mode : Mode)
+  -- an operator whose code stands at its use
+  own_binary_follows : (start : ℕ) → Ready start all → (n : ℕ) → Onward n → (op : BinOp) (ty : PlainType) (mode : Mode)
       (t a : Temp) (aty : PlainType) (b : Temp) (bty : PlainType) (pc : ℕ) (rest : List PlainIr) (m : Mach) (v : View)
-      → Ready pc (binary_op op ty mode t a aty b bty ∷ rest) → M (needs at (binary_op op ty mode t a aty b bty ∷ rest)) m v
+      → Ready pc (binary_op op ty mode t a aty b bty ∷ rest) → HasAt e (own_items (binary_op op ty mode t a aty b bty) rest) pc end
+      → M (needs at (binary_op op ty mode t a aty b bty ∷ rest)) m v
       → is_known all (binary_op op ty mode t a aty b bty ∷ rest) m ≡ true → Rest (suc n) rest
       → G (suc n) m.state.work pc v (P n (binary_op op ty mode t a aty b bty) rest m)
-  binary_follows start ready n go op ty mode t a aty b bty pc rest m v r h held f =
+  own_binary_follows start ready n go op ty mode t a aty b bty pc rest m v r stands h held f =
       ⊎_elim
       (λ (k : IsBinary (family_of op) slots t a b ty aty bty). on_integers k (number_taken known false op) refl)
       (λ j. ⊎_elim
@@ -3845,7 +4258,7 @@ module _ (p : PlainProgram) (functions : List PlainIrFunction) (e : Env) (slots 
       pointer_binary_follows p functions e slots home base place y labels all end results me link stack op ty mode t a aty b bty
       rest n pc m v k (own_stands (or_right is_fx is_px k.pointer) (either_whole aty bty k.pointer)) (own_needs (either_whole aty bty k.pointer)) f)
       j)
-      r.covered.0
+      r.covered.0.0
     where
       i : PlainIr
       i = binary_op op ty mode t a aty b bty
@@ -3889,10 +4302,10 @@ module _ (p : PlainProgram) (functions : List PlainIrFunction) (e : Env) (slots 
 
       own_stands : (is_fx || is_px) ≡ true → is_wx ≡ true → HasAt e (plain_items i rest) pc end
       own_stands q w =
-          subst (λ x. HasAt e (op_code p home link None (telling_with x) None (needs at rest) i ++ items_told (telling_with x) rest) pc end)
+          subst (λ x. HasAt e (own_code p home link None (telling_with x) None (needs at rest) i ++ items_told (telling_with x) rest) pc end)
           (none_taken op known is_wx w)
           (subst (λ x. HasAt e (x ++ items_told telling rest) pc end)
-          (kinds_same is_fx is_px of_fixed of_pointers (of_integers (number_taken known false op)) (of_integers None) q) r.stands)
+          (kinds_same is_fx is_px of_fixed of_pointers (of_integers (number_taken known false op)) (of_integers None) q) stands)
 
       needs_with : Option RightNumber → Need
       needs_with taken =
@@ -3905,14 +4318,14 @@ module _ (p : PlainProgram) (functions : List PlainIrFunction) (e : Env) (slots 
       on_fixed : IsFixedBinary slots op t a b ty aty bty → G (suc n) m.state.work pc v (P n i rest m)
       on_fixed k =
           let whole = either_fixed is_whole type_whole aty bty k.types.fixed in
-          let stands = own_stands (ap (λ x. x || is_px) (either_fixed is_fixed type_fixed aty bty k.types.fixed)) whole in
+          let stand = own_stands (ap (λ x. x || is_px) (either_fixed is_fixed type_fixed aty bty k.types.fixed)) whole in
           let needed = own_needs whole in
           ⊎_elim
           (λ (q : is_on_integers (family_of op) mode ty aty bty ≡ true).
           on_integers_follow start ready n go op ty mode t a aty b bty pc rest m v q (on_wholes slots op mode t a b ty aty bty k q) f behind
-          stands needed)
+          stand needed)
           (λ (q : is_on_integers (family_of op) mode ty aty bty ≡ false).
-          fixed_binary_follows op ty mode t a aty b bty rest n pc m v k q stands needed f)
+          fixed_binary_follows op ty mode t a aty b bty rest n pc m v k q stand needed f)
           (cases_Bool (is_on_integers (family_of op) mode ty aty bty))
 
       on_integers : IsBinary (family_of op) slots t a b ty aty bty → (taken : Option RightNumber) → number_taken known false op ≡ taken
@@ -3937,7 +4350,7 @@ module _ (p : PlainProgram) (functions : List PlainIrFunction) (e : Env) (slots 
               (code_by_kind is_px of_pointers (items_with None (telling_with x))) ++ items_told (telling_with x) rest) pc end)
               (taken_so None q)
               (subst (λ x. HasAt e (code_by_kind is_fx of_fixed (code_by_kind is_px of_pointers (of_integers x))
-              ++ items_told telling rest) pc end) q r.stands))
+              ++ items_told telling rest) pc end) q stands))
               (subst (λ x. M (needs_with x) m v) (taken_so None q) h) f
           by_taken (Some number) q =
               let fx = no_kind is_fixed (λ s n. refl) (family_of op) t a b ty aty bty k in
@@ -3951,9 +4364,178 @@ module _ (p : PlainProgram) (functions : List PlainIrFunction) (e : Env) (slots 
               (subst (λ x. HasAt e (code_by_kind x of_fixed (code_by_kind is_px of_pointers (of_integers (Some number)))
               ++ items_told telling rest) pc end) fx
               (subst (λ x. HasAt e (code_by_kind is_fx of_fixed (code_by_kind is_px of_pointers (of_integers x))
-              ++ items_told telling rest) pc end) q r.stands))))
+              ++ items_told telling rest) pc end) q stands))))
               (subst (λ x. M (at_least a.at (first_wanted x op (first_bytes (Some number) op a.bytes) w) (without t.at (needs at rest))) m v) wx
               (subst (λ x. M (needs_with x) m v) (taken_so (Some number) q) h)) f
+
+  -- a call of the routine of an operator
+  called_binary_follows : (l : ℕ) (op : BinOp) (ty : PlainType) (mode : Mode) (t a : Temp) (aty : PlainType) (b : Temp) (bty : PlainType)
+      (pc : ℕ) (rest : List PlainIr) (n : ℕ) (m : Mach) (v : View) → IsCovered p results me y.called slots (binary_op op ty mode t a aty b bty)
+      → HasRoutineOf e l (binary_op op ty mode t a aty b bty) → is_on_integers (family_of op) mode ty aty bty ≡ false
+      → HasAt e (called_code home l (wanted (needs at rest) t) (binary_op op ty mode t a aty b bty)
+      ++ items_told (tells_next at (binary_op op ty mode t a aty b bty) rest) rest) pc end
+      → M (needs at (binary_op op ty mode t a aty b bty ∷ rest)) m v → Rest (suc n) rest
+      → G (suc n) m.state.work pc v (P n (binary_op op ty mode t a aty b bty) rest m)
+  called_binary_follows l op ty mode t a aty b bty pc rest n m v covered routine apart stands h f =
+      ⊎_elim
+      (λ (k : IsBinary (family_of op) slots t a b ty aty bty). on_integers k)
+      (λ j. ⊎_elim
+      (λ (k : IsFixedBinary slots op t a b ty aty bty). on_fixed k)
+      (λ (k : IsPointerBinary p slots op t a b ty aty bty).
+      absurd (pointers_have_none p e slots l op ty mode t a aty b bty k routine))
+      j)
+      covered
+    where
+      i : PlainIr
+      i = binary_op op ty mode t a aty b bty
+
+      known : Option RightNumber
+      known = at.known (i ∷ rest)
+
+      w : ℕ
+      w = wanted (needs at rest) t
+
+      is_wx : Bool
+      is_wx = is_whole aty || is_whole bty
+
+      only : Bool
+      only = is_only_tested t (slice_get rest 0) (slice_index (wanted_bytes at rest) 0)
+
+      calling : List AsmItem
+      calling = called_code home l w i
+
+      -- what is needed and told where so much of the second operand is taken
+      needs_with : Option RightNumber → Need
+      needs_with taken =
+          at_least a.at (first_wanted is_wx op (first_bytes taken op a.bytes) w)
+          (right_needed taken b.at (second_wanted is_wx op b.bytes w) (without t.at (needs at rest)))
+
+      telling_with : Option RightNumber → Option Told
+      telling_with taken =
+          if only then told_by (is_apart (family_of op) mode ty aty bty) (family_of op) (compared_signed taken (is_signed aty)) else None
+
+      plain : number_taken known is_wx op ≡ None → M (plain_needs i rest) m v
+      plain q = subst (λ x. M (needs_with x) m v) q h
+
+      untold : number_taken known is_wx op ≡ None → telling_with None ≡ None → HasAt e (calling ++ items rest) pc end
+      untold q none =
+          subst (λ x. HasAt e (calling ++ items_told x rest) pc end) none
+          (subst (λ x. HasAt e (calling ++ items_told (telling_with x) rest) pc end) q stands)
+
+      body_for : Bool → Type 0
+      body_for x =
+          IsSomeAnd (body_by x (Some (binary_body op ty aty bty mode)) (division_body (family_of op) (is_signed aty) (scalar_size aty)))
+          (HasRoutine e l)
+
+      on_fixed : IsFixedBinary slots op t a b ty aty bty → G (suc n) m.state.work pc v (P n i rest m)
+      on_fixed k =
+          let none = none_taken op known is_wx (either_fixed is_whole type_whole aty bty k.types.fixed) in
+          let is_apart_so : is_apart (family_of op) mode ty aty bty ≡ true =
+          ap (λ z. z && not (is_on_integers (family_of op) mode ty aty bty)) (either_fixed is_whole type_whole aty bty k.types.fixed)
+          ∙ ap not apart in
+          let telling = untold_by only (is_apart (family_of op) mode ty aty bty) (family_of op) (is_signed aty) is_apart_so in
+          fixed_binary_called l op ty mode t a aty b bty rest n pc m v k
+          (subst body_for (either_fixed is_fixed type_fixed aty bty k.types.fixed) routine) (untold none telling) (plain none) f
+
+      -- a call of the routine of a quotient, with these types
+      Divides : Bool → (x z u : PlainType) → Type 0
+      Divides r x z u =
+          HasRoutine e l (quotient_body r (is_signed z) (scalar_size z - 1)) → M (plain_needs (binary_op op x mode t a z b u) rest) m v
+          → G (suc n) m.state.work pc v (P n (binary_op op x mode t a z b u) rest m)
+
+      on_integers : IsBinary (family_of op) slots t a b ty aty bty → G (suc n) m.state.work pc v (P n i rest m)
+      on_integers k =
+          by_family (family_of op) refl k
+          (subst body_for (no_kind is_fixed (λ s n. refl) (family_of op) t a b ty aty bty k) routine)
+        where
+          by_family : (x : Family) → family_of op ≡ x → IsBinary x slots t a b ty aty bty
+              → IsSomeAnd (division_body x (is_signed aty) (scalar_size aty)) (HasRoutine e l)
+              → G (suc n) m.state.work pc v (P n i rest m)
+          by_family (Combined o) q d body = absurd body
+          by_family (Compared r exchanged) q d body = absurd body
+          by_family Multiplied q d body = absurd body
+          by_family (Shifted up) q d body = absurd body
+          by_family (Divided r) q d body =
+              let x = d.0 in
+              let some = x.result.some in
+              let top = t.bytes - 1 in
+              let qt : t.bytes ≡ suc top = omega arith in
+              let qa : a.bytes ≡ suc top = x.left_bytes ∙ qt in
+              let qb : b.bytes ≡ suc top = x.right_bytes ∙ qt in
+              let type : ty ≡ integer x.signed (suc top) = x.result_type ∙ ap (integer x.signed) qt in
+              let taken : number_taken known is_wx op ≡ None =
+              ap (λ z. number_taken known z op) (no_kind is_whole (λ s n. refl) (family_of op) t a b ty aty bty k)
+              ∙ divided_number op r q known in
+              let telling : telling_with None ≡ None =
+              ap (λ z. if only then told_by (is_apart (family_of op) mode ty aty bty) z (is_signed aty) else None) q
+              ∙ divided_untold r only (is_apart (family_of op) mode ty aty bty) (is_signed aty) in
+              (subst (λ z. Divides r z aty bty) (sym type)
+              (subst (λ z. Divides r (integer x.signed (suc top)) z bty) (sym x.left_type)
+              (subst (λ z. Divides r (integer x.signed (suc top)) (integer x.signed a.bytes) z) (sym x.right_type)
+              (λ there needed. divided_called l op r q x.signed mode t a b top rest n pc m v x.result x.left x.right qt qa qb
+              (subst (λ j. j ≤ 4) qt x.most) (subst (λ j. HasRoutine e l (quotient_body r x.signed (j - 1))) x.left_bytes there)
+              (untold taken telling) needed f)))) body (plain taken)
+
+  binary_follows : (start : ℕ) → Ready start all → (n : ℕ) → Onward n → (op : BinOp) (ty : PlainType) (mode : Mode)
+      (t a : Temp) (aty : PlainType) (b : Temp) (bty : PlainType) (pc : ℕ) (rest : List PlainIr) (m : Mach) (v : View)
+      → Ready pc (binary_op op ty mode t a aty b bty ∷ rest) → M (needs at (binary_op op ty mode t a aty b bty ∷ rest)) m v
+      → is_known all (binary_op op ty mode t a aty b bty ∷ rest) m ≡ true → Rest (suc n) rest
+      → G (suc n) m.state.work pc v (P n (binary_op op ty mode t a aty b bty) rest m)
+  binary_follows start ready n go op ty mode t a aty b bty pc rest m v r h held f = by_link (link.routine_of i) refl r.stands
+    where
+      i : PlainIr
+      i = binary_op op ty mode t a aty b bty
+
+      by_link : (x : Option ℕ) → link.routine_of i ≡ x → HasAt e (linked_items x i rest) pc end
+          → G (suc n) m.state.work pc v (P n i rest m)
+      by_link None q stands = own_binary_follows start ready n go op ty mode t a aty b bty pc rest m v r stands h held f
+      by_link (Some l) q stands =
+          let linked = r.covered.0.1 l q in
+          called_binary_follows l op ty mode t a aty b bty pc rest n m v r.covered.0.0 linked.0 linked.1 stands h f
+
+  -- the same of an operation with one operand
+  unary_goes : (op : UnOp) (ty : PlainType) (mode : Mode) (t a : Temp) (pc : ℕ) (rest : List PlainIr) (n : ℕ) (m : Mach) (v : View)
+      → Ready pc (unary_op op ty mode t a ∷ rest) → M (needs at (unary_op op ty mode t a ∷ rest)) m v → Rest (suc n) rest
+      → G (suc n) m.state.work pc v (P n (unary_op op ty mode t a) rest m)
+  unary_goes op ty mode t a pc rest n m v r h f = by_link (link.routine_of i) refl r.stands
+    where
+      i : PlainIr
+      i = unary_op op ty mode t a
+
+      by_link : (x : Option ℕ) → link.routine_of i ≡ x → HasAt e (linked_items x i rest) pc end
+          → G (suc n) m.state.work pc v (P n i rest m)
+      by_link None q stands = unary_follows op ty mode t a rest n pc m v r.covered.0.0 stands h f
+      by_link (Some l) q stands =
+          let routine = (r.covered.0.1 l q).0 in
+          ⊎_elim
+          (λ (k : IsUnary slots t a ty). absurd (unaries_have_none e slots l op ty mode t a k routine))
+          (λ (k : IsFixedUnary slots op t a ty). fixed_unary_called l op ty mode t a rest n pc m v k
+          (subst (λ x. IsSomeAnd (body_by x (Some (unary_body op ty mode)) None) (HasRoutine e l)) (type_fixed ty k.types.fixed) routine)
+          stands h f)
+          r.covered.0.0
+
+  conversion_goes : (t : Temp) (ty : PlainType) (mode : Mode) (a : Temp) (aty : PlainType) (pc : ℕ) (rest : List PlainIr) (n : ℕ)
+      (m : Mach) (v : View) → Ready pc (conversion t ty mode a aty ∷ rest) → M (needs at (conversion t ty mode a aty ∷ rest)) m v
+      → Rest (suc n) rest → G (suc n) m.state.work pc v (P n (conversion t ty mode a aty) rest m)
+  conversion_goes t ty mode a aty pc rest n m v r h f = by_link (link.routine_of i) refl r.stands
+    where
+      i : PlainIr
+      i = conversion t ty mode a aty
+
+      by_link : (x : Option ℕ) → link.routine_of i ≡ x → HasAt e (linked_items x i rest) pc end
+          → G (suc n) m.state.work pc v (P n i rest m)
+      by_link None q stands = conversion_follows t ty mode a aty rest n pc m v r.covered.0.0 stands h f
+      by_link (Some l) q stands =
+          let routine = (r.covered.0.1 l q).0 in
+          ⊎_elim
+          (λ (k : AreConverted slots t a ty aty). absurd (conversions_have_none e slots l t ty mode a aty k routine))
+          (λ j. ⊎_elim
+          (λ (k : IsFixedConversion slots t a ty aty). fixed_conversion_called l t ty mode a aty rest n pc m v k
+          (subst (λ x. IsSomeAnd (body_by x (Some (conversion_body ty aty mode)) None) (HasRoutine e l))
+          (either_fixed is_fixed type_fixed ty aty k.types.fixed) routine) stands h f)
+          (λ (k : IsPointerConversion slots t a ty aty). absurd (converted_pointers_have_none e slots l t ty mode a aty k routine))
+          j)
+          r.covered.0.0
 
   -- what is shown of an operation whose second operand holds what is known of it, where it is of those behind it
   performs : (start : ℕ) → Ready start all → (n : ℕ) → Onward n → CallCase n → ReturnCase n → (pc : ℕ) (i : PlainIr)
@@ -3963,24 +4545,24 @@ module _ (p : PlainProgram) (functions : List PlainIrFunction) (e : Env) (slots 
       → G (suc n) m1.state.work pc1 v1 (R (suc n) rest m1))
       → G (suc n) m.state.work pc v (P n i rest m)
   performs start ready n go calls returns pc (constant t k) rest m v r h held more =
-      constant_follows t k rest n pc m v r.covered.0 r.stands h
+      constant_follows t k rest n pc m v r.covered.0.0 (at_use (constant t k) rest pc r (λ l none. none)) h
       (λ pc1 m1 v1 s z. more pc1 m1 v1
       (record { covered = r.covered.1; live = r.live; inside = r.inside; here = r.here; stands = s }) z)
   performs start ready n go calls returns pc (copy t u) rest m v r h held more =
-      let i = r.covered.0 in
-      copy_follows t u rest n pc m v i.0 i.1 i.2 r.stands h
+      let i = r.covered.0.0 in
+      copy_follows t u rest n pc m v i.0 i.1 i.2 (at_use (copy t u) rest pc r (λ l none. none)) h
       (λ pc1 m1 v1 s z. more pc1 m1 v1
       (record { covered = r.covered.1; live = r.live; inside = r.inside; here = r.here; stands = s }) z)
   performs start ready n go calls returns pc (load_object t o offset) rest m v r h held more =
-      let i = r.covered.0 in
+      let i = r.covered.0.0 in
       load_follows p functions e slots home base place y labels all end results me link stack t o offset rest n pc m v i.0 i.1
-      r.stands h
+      (at_use (load_object t o offset) rest pc r (λ l none. none)) h
       (λ pc1 m1 v1 s z. go pc1 rest m1 v1
       (record { covered = r.covered.1; live = r.live; inside = r.inside; here = r.here; stands = s }) z)
   performs start ready n go calls returns pc (store_object o offset t) rest m v r h held more =
-      let i = r.covered.0 in
+      let i = r.covered.0.0 in
       store_follows p functions e slots home base place y labels all end results me link stack o offset t rest n pc m v i.0 i.1 i.2
-      r.here r.stands h
+      r.here (at_use (store_object o offset t) rest pc r (λ l none. none)) h
       (λ pc1 m1 v1 s z. go pc1 rest m1 v1
       (record { covered = r.covered.1; live = r.live; inside = r.inside; here = r.here; stands = s }) z)
   performs start ready n go calls returns pc (binary_op op ty mode t a aty b bty) rest m v r h held more =
@@ -3988,7 +4570,7 @@ module _ (p : PlainProgram) (functions : List PlainIrFunction) (e : Env) (slots 
       (λ pc1 m1 v1 s z. more pc1 m1 v1
       (record { covered = r.covered.1; live = r.live; inside = r.inside; here = r.here; stands = s }) z)
   performs start ready n go calls returns pc (label l) rest m v r h held more =
-      let s = r.stands in
+      let s = at_use (label l) rest pc r (λ l none. none) in
       let need = needs at rest in
       let z = weaker p e slots home base place y (labels l) need m v h r.live.0 in
       let stands : HasAt e (items rest) pc end = subst (λ i. HasAt e (items rest) i end) s.1.1 s.2 in
@@ -3999,47 +4581,47 @@ module _ (p : PlainProgram) (functions : List PlainIrFunction) (e : Env) (slots 
       (record { covered = r.covered.1; live = r.live.1; inside = r.inside; here = r.here; stands = stands })
       (again need m v (op_steps (label l)) z)))
   performs start ready n go calls returns pc (jump l) rest m v r h held more =
-      jump_follows start l rest n pc m v ready r.stands h go
+      jump_follows start l rest n pc m v ready (at_use (jump l) rest pc r (λ l none. none)) h go
   performs start ready n go calls returns pc (branch_zero t l) rest m v r h held more =
-      branch_follows start l t rest n pc m v ready r.covered.1 r.live r.inside r.covered.0 r.stands h go
+      branch_follows start l t rest n pc m v ready r.covered.1 r.live r.inside r.covered.0.0 (at_use (branch_zero t l) rest pc r (λ l none. none)) h go
   performs start ready n go calls returns pc (return_from from) rest m v r h held more =
       returns from pc rest m v r h
   performs start ready n go calls returns pc (conversion t ty mode a aty) rest m v r h held more =
-      conversion_follows t ty mode a aty rest n pc m v r.covered.0 r.stands h
+      conversion_goes t ty mode a aty pc rest n m v r h
       (λ pc1 m1 v1 s z. more pc1 m1 v1
       (record { covered = r.covered.1; live = r.live; inside = r.inside; here = r.here; stands = s }) z)
   performs start ready n go calls returns pc (unary_op op ty mode t a) rest m v r h held more =
-      unary_follows op ty mode t a rest n pc m v r.covered.0 r.stands h
+      unary_goes op ty mode t a pc rest n m v r h
       (λ pc1 m1 v1 s z. more pc1 m1 v1
       (record { covered = r.covered.1; live = r.live; inside = r.inside; here = r.here; stands = s }) z)
   performs start ready n go calls returns pc (address t o offset) rest m v r h held more =
       address_follows p functions e slots home base place y labels all end results me link stack t o offset rest n pc m v
-      r.covered.0 r.stands h
+      r.covered.0.0 (at_use (address t o offset) rest pc r (λ l none. none)) h
       (λ pc1 m1 v1 s z. more pc1 m1 v1
       (record { covered = r.covered.1; live = r.live; inside = r.inside; here = r.here; stands = s }) z)
   performs start ready n go calls returns pc (field t space offset) rest m v r h held more =
       field_follows p functions e slots home base place y labels all end results me link stack t space offset rest n pc m v
-      r.covered.0 r.stands h
+      r.covered.0.0 (at_use (field t space offset) rest pc r (λ l none. none)) h
       (λ pc1 m1 v1 s z. more pc1 m1 v1
       (record { covered = r.covered.1; live = r.live; inside = r.inside; here = r.here; stands = s }) z)
   performs start ready n go calls returns pc (load_at t u space) rest m v r h held more =
-      let i = r.covered.0 in
+      let i = r.covered.0.0 in
       load_at_follows p functions e slots home base place y labels all end results me link stack t u space rest n pc m v i.0 i.1
-      r.stands h
+      (at_use (load_at t u space) rest pc r (λ l none. none)) h
       (λ pc1 m1 v1 s z. go pc1 rest m1 v1
       (record { covered = r.covered.1; live = r.live; inside = r.inside; here = r.here; stands = s }) z)
   performs start ready n go calls returns pc (store_at t space u) rest m v r h held more =
-      let i = r.covered.0 in
+      let i = r.covered.0.0 in
       store_at_follows p functions e slots home base place y labels all end results me link stack t space u rest n pc m v i.0 i.1
-      r.stands h
+      (at_use (store_at t space u) rest pc r (λ l none. none)) h
       (λ pc1 m1 v1 s z. go pc1 rest m1 v1
       (record { covered = r.covered.1; live = r.live; inside = r.inside; here = r.here; stands = s }) z)
   performs start ready n go calls returns pc (call_function g t) rest m v r h held more = calls g t pc rest m v r h
   performs start ready n go calls returns pc (port_in t port index width) rest m v r h held more =
-      in_follows t port index width rest n pc m v r.covered.0 r.stands h
+      in_follows t port index width rest n pc m v r.covered.0.0 (at_use (port_in t port index width) rest pc r (λ l none. none)) h
       (λ pc1 m1 v1 s z. go pc1 rest m1 v1 (record { covered = r.covered.1; live = r.live; inside = r.inside; here = r.here; stands = s }) z)
   performs start ready n go calls returns pc (port_out t port index width) rest m v r h held more =
-      out_follows t port index width rest n pc m v r.covered.0 r.stands h
+      out_follows t port index width rest n pc m v r.covered.0.0 (at_use (port_out t port index width) rest pc r (λ l none. none)) h
       (λ pc1 m1 v1 s z. go pc1 rest m1 v1 (record { covered = r.covered.1; live = r.live; inside = r.inside; here = r.here; stands = s }) z)
 
   pub follows : (start : ℕ) → Ready start all → (n : ℕ) → Onward n → CallCase n → ReturnCase n → Onward (suc n)

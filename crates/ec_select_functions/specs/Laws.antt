@@ -1,6 +1,6 @@
 -- The laws of the code of operations.
-use Rattle.std.specs.Prelude.{◌≡◌, ℕ, ◌+◌, ◌*◌, ◌%◌, ◌<◌, ◌≤◌, ◌==◌, nat_le, Bool, true, List, [], ◌∷◌, ⊤, Some}
-use Rattle.std.specs.Prelude.{slice_get, ℤ, Contains, IsSomeAnd, IsTrue, length}
+use Rattle.std.specs.Prelude.{◌≡◌, ℕ, ◌+◌, ◌*◌, ◌%◌, ◌<◌, ◌≤◌, ◌==◌, nat_le, Bool, true, false, List, [], ◌∷◌, ⊤, Some}
+use Rattle.std.specs.Prelude.{slice_get, ℤ, Contains, IsSomeAnd, IsTrue, length, Option}
 use Rattle.ec_space.specs.declared.space.Bank.TheVariants.{Data as DataBank}
 use Rattle.ec_runs.specs.Behaviours.{Behaviour, Running, Ended, Failed, Reaches, IsWithin, seen_as}
 use Rattle.ec_isa.specs.declared.instructions.Instr.TheVariants.{Break}
@@ -19,26 +19,28 @@ use Rattle.ec_core.specs.Accesses.{leaf_of}
 use Rattle.ec_core.specs.Plain.{PlainProgram}
 use Rattle.ec_core.specs.State.{Inputs, ObjectState}
 use Rattle.ec_ir.specs.Meaning.{steps_of, start_state}
-use Rattle.ec_ir.specs.Operations.{PlainIrFunction, PlainIrProgram, data_of}
+use Rattle.ec_ir.specs.Operations.{PlainIr, binary_op, PlainIrFunction, PlainIrProgram, data_of}
 use Rattle.ec_ir.specs.Valid.{ValidIr, CallsTo, called_in}
 use Rattle.ec_select_operations.specs.declared.homes.Homes.{Homes}
-use Rattle.ec_select_operations.specs.Code.{Linkage, function_code}
+use Rattle.ec_select_operations.specs.Code.{Linkage, function_code, family_of, is_on_integers}
 use Rattle.ec_select_functions.specs.Covered.{AreCovered}
 use Rattle.ec_select_operations.specs.Homes.{home}
 use Rattle.ec_select_functions.specs.Kept.{meaning_on}
 use Rattle.ec_select_operations.specs.Needs.{Need, IsLive}
+use Rattle.ec_select_operations.specs.Routines.{HasRoutineOf}
 use Rattle.ec_select_operations.specs.Places.{ObjectLeaf, CanBeLiveTogether, Apart, Layout}
 use Rattle.ec_select_functions.specs.Relation.{accesses, HoldsLeaf}
 use Rattle.ec_select_functions.specs.Standing.{home_address, ScratchStands, ObjectsStand, TablesStand, WorkStands}
 
 -- ---- where code and data stand
 
--- How the code of a function is made: the homes of its temporaries, the label of items for each of its own, and what is
--- needed there
+-- How the code of a function is made: the homes of its temporaries, the label of items for each of its own, what is needed
+-- there, and the label of the routine, if there is one, that an operation calls
 pub record Made : Type 0 where
   pub homes : Homes
   pub label_of : ℕ → ℕ
   pub labels : ℕ → Need
+  pub routine_of : PlainIr → Option ℕ
 
 abbrev pub linkage_of : PlainIrProgram → (entry_of : ℕ → ℕ) → (f slots : ℕ) → Made → Linkage
 linkage_of p entry_of f slots made = record {
@@ -47,10 +49,16 @@ linkage_of p entry_of f slots made = record {
   homes = made.homes;
   slots = slots;
   is_main = f == p.main;
+  routine_of = made.routine_of;
 }
 
+-- an operation that leaves its result as a number: an operator whose code is that on integers may tell it by a flag alone
+abbrev pub CanCall : PlainIr → Type 0
+CanCall (binary_op op ty mode to a aty b bty) = is_on_integers (family_of op) mode ty aty bty ≡ false
+CanCall i = ⊤
+
 -- Its operations are all covered, the table of labels tells what is needed, the scratch memory stands apart from the
--- objects, and the code stands between two words
+-- objects, the code stands between two words, and the routines that it calls stand and can be called
 pub record IsSelected (p : PlainIrProgram) (e : Env) (place : ℕ → ℕ) (entry_of results : ℕ → ℕ) (f : ℕ)
     (g : PlainIrFunction) (made : Made) (scratch : ℕ) : Type 0 where
   pub pc : ℕ
@@ -60,6 +68,8 @@ pub record IsSelected (p : PlainIrProgram) (e : Env) (place : ℕ → ℕ) (entr
   pub scratch_stands : ScratchStands e g.slots made.homes scratch
   pub objects_stand : ObjectsStand p e g.slots scratch place
   pub stands : HasAt e (function_code (data_of p) (linkage_of p entry_of f g.slots made) f made.labels g.code) pc end
+  pub routines : (i : PlainIr) (l : ℕ) → Contains g.code i → made.routine_of i ≡ Some l → HasRoutineOf e l i
+  pub callers : (i : PlainIr) (l : ℕ) → Contains g.code i → made.routine_of i ≡ Some l → CanCall i
 
 -- All functions are selected, each with its scratch memory at an address. That of a function stands apart from that of
 -- any other which it calls, itself or through others. `results` are the bytes of the results, and `entry_of` are the
@@ -88,7 +98,7 @@ CallsOn p f (g ∷ gs) =
     IsSomeAnd (slice_get p.functions f) (λ a. Contains (called_in a.code) g) × CallsOn p g gs
 
 -- The machine stands where main begins, with the address of a BREAK on the stack. From an address up to this one all
--- bytes are the stack's, two for each function that is called on any way from main, and one more
+-- bytes are the stack's: below it two for each function that is called on any way from main, and 16 more
 pub record IsEntered (p : PlainIrProgram) (e : Env) (low entry pc : ℕ) (v : View) : Type 0 where
   pub at : pc ≡ e.word_of entry
   pub word : e.word_of entry < 65536
@@ -96,7 +106,7 @@ pub record IsEntered (p : PlainIrProgram) (e : Env) (low entry pc : ℕ) (v : Vi
   pub high : 256 ≤ low
   pub top : sp v + 2 < 65536
   pub stacked : (k : ℕ) → low ≤ k → k ≤ sp v + 2 → e.kind k ≡ Stacked
-  pub room : (fs : List ℕ) → CallsOn p p.main fs → low + 2 * length fs ≤ sp v + 1
+  pub room : (fs : List ℕ) → CallsOn p p.main fs → low + 2 * length fs + 16 ≤ sp v + 1
 
 -- ---- the start
 

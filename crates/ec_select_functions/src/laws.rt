@@ -16,12 +16,17 @@ use ec_select_pointers::laws::{
     addresses_are_right, fields_are_right, loads_are_right, loads_by_tag_are_right,
     pointers_are_straight, stores_are_right, tables_are_formed, tables_are_loaded,
 };
+use ec_select_routines::laws::{
+    binary_routines_are_right, conversion_routines_are_right, quotient_routines_are_right,
+    unary_routines_are_right,
+};
 
 /// A machine that stands where `main` begins, called from before a BREAK, with the objects' initial values in its
 /// memory, comes to all that the operations do, in no more steps than they may take; it never runs ahead of them, ends
 /// only where they end, and never fails, as long as they access none but ports of the machine. The functions are those
-/// of a valid program, wherever their code, their scratch memory, the objects and the stack stand. Objects that are never
-/// live at one moment may share bytes.
+/// of a valid program, wherever their code, their scratch memory, the objects and the stack stand. The code of an
+/// operation stands at its use, or calls a routine that stands once. Objects that are never live at one moment may share
+/// bytes.
 pub fn code_follows_operations()
     ensures { CodeFollowsOperations }
 {
@@ -32,6 +37,10 @@ pub fn code_follows_operations()
     fixed_binaries_are_right();
     fixed_unaries_are_right();
     fixed_conversions_are_right();
+    binary_routines_are_right();
+    unary_routines_are_right();
+    conversion_routines_are_right();
+    quotient_routines_are_right();
     addresses_are_right();
     fields_are_right();
     loads_are_right();

@@ -3,3 +3,4 @@ pub mod Written
 pub mod OneFormat
 -- For this crate alone.
 mod Emits
+mod OneRoutine

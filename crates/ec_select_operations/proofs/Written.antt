@@ -1,6 +1,6 @@
 -- Code that is written operation by operation.
 use Rattle.std.proofs.Common.{◌≡◌, ℕ, zero, suc, ◌+◌, ◌-◌, ◌<◌, List, [], ◌∷◌, ◌++◌, Some, length, refl, sym, ap, ◌∙◌}
-use Rattle.std.proofs.Common.{subst, arith, append_assoc, append-nil}
+use Rattle.std.proofs.Common.{subst, arith, append_assoc, append-nil, map}
 use Rattle.std.specs.Prelude.{slice_get, slice_index, get_or, Option, None}
 use Rattle.ec_asm.specs.declared.items.AsmItem.{AsmItem}
 use Rattle.ec_asm.specs.declared.pieces.Location.{Location}
@@ -13,13 +13,13 @@ use Rattle.ec_ir.specs.Operations.{call_function, return_from, port_in, port_out
 use Rattle.ec_select_operations.specs.Code.{Linkage, register_places, save_place, restore_place, save_code}
 use Rattle.ec_select_operations.specs.declared.families.Told.{Told}
 use Rattle.ec_select_operations.specs.Code.{restore_code, operation_code, tells, wanted_behind, wanted_bytes, op_code}
-use Rattle.ec_select_operations.specs.Code.{tells_next, ops_code}
+use Rattle.ec_select_operations.specs.Code.{tells_next, ops_code, own_code, called_code, linked_code, result_wanted}
 use Rattle.ec_ir_known.specs.declared.known.RightNumber.{RightNumber}
-use Rattle.ec_ir_known.specs.Known.{known_at, right_number, right_numbers, numbers_left}
-use Rattle.ec_select_operations.specs.Needs.{Need, without_result, facts_of, Facts, needs}
+use Rattle.ec_ir_known.specs.Known.{known_at, right_number, numbers_left}
+use Rattle.ec_select_operations.specs.Needs.{Need, without_result, facts_of, needs}
 use Rattle.ec_select_operations.specs.Written.{need_in, operation_at, told_from, told_at, written_code, row_from}
 use Rattle.ec_select_operations.specs.Written.{kept_row}
-use Rattle.ec_select_operations.specs.Written.{kept_rows, NeededCodeIsWritten}
+use Rattle.ec_select_operations.specs.Written.{kept_rows, routed, NeededCodeIsWritten}
 
 -- the first piece, and the others
 chain_front : (f : ℕ → List AsmItem) (n : ℕ) → chain f (suc n) ≡ f 0 ++ chain (λ k. f (suc k)) n
@@ -50,7 +50,13 @@ row_more (suc count) place need =
     let e : suc place + count ≡ place + suc count = omega arith in
     ap (λ l. need place ∷ l) (ap (λ j. row_from count (suc place) need ++ need j ∷ []) (sym e) ∙ row_more count (suc place) need)
 
-module _ (p : PlainProgram) (home : Temp → Location) (k : Linkage) where
+-- a call of the same routine, or the same code
+linked_same : (routine : Option ℕ) (called other : ℕ → List AsmItem) (own same : List AsmItem)
+    → ((l : ℕ) → called l ≡ other l) → own ≡ same → linked_code routine called own ≡ linked_code routine other same
+linked_same None called other own same h q = q
+linked_same (Some l) called other own same h q = h l
+
+module _ (p : PlainProgram) (home : Temp → Location) (k : Linkage) (routine_of : PlainIr → Option ℕ) where
   kept_here : (need : Need) (j : ℕ) → j < register_places k.slots → need_in (row_from (register_places k.slots) 0 need) j ≡ need j
   kept_here need j l = let e : 0 + j ≡ j = omega arith in row_needs (register_places k.slots) 0 need j l ∙ ap need e
 
@@ -68,7 +74,7 @@ module _ (p : PlainProgram) (home : Temp → Location) (k : Linkage) where
 
   same_code : (at : ℕ → Need) (told telling : Option Told) (known : Option RightNumber) (need : Need) (i : PlainIr)
       → operation_code p home k told telling known (wanted_behind at need i) (need_in (kept_row k.slots need i)) i
-      ≡ op_code p home k told telling known need i
+      ≡ own_code p home (routed k routine_of) told telling known need i
   same_code at told telling known need (call_function f to) =
       let a = same_save (without_result to need) in
       let b = same_restore (without_result to need) in
@@ -91,12 +97,46 @@ module _ (p : PlainProgram) (home : Temp → Location) (k : Linkage) where
   same_code at told telling known need (port_in to port index width) = refl
   same_code at told telling known need (port_out from port index width) = refl
 
+  -- of what a call of a routine leaves so much is needed
+  same_called : (at : ℕ → Need) (need : Need) (i : PlainIr) (l : ℕ)
+      → called_code home l (wanted_behind at need i) i ≡ called_code home l (result_wanted need i) i
+  same_called at need (constant t n) l = refl
+  same_called at need (copy to from) l = refl
+  same_called at need (address t o offset) l = refl
+  same_called at need (field ptr space offset) l = refl
+  same_called at need (load_at to ptr space) l = refl
+  same_called at need (store_at ptr space from) l = refl
+  same_called at need (load_object t o offset) l = refl
+  same_called at need (store_object o offset t) l = refl
+  same_called at need (binary_op op ty mode to a aty b bty) l = refl
+  same_called at need (unary_op op ty mode to a) l = refl
+  same_called at need (conversion to ty mode a aty) l = refl
+  same_called at need (label l) m = refl
+  same_called at need (jump l) m = refl
+  same_called at need (branch_zero t l) m = refl
+  same_called at need (call_function f to) l = refl
+  same_called at need (return_from from) l = refl
+  same_called at need (port_in to port index width) l = refl
+  same_called at need (port_out from port index width) l = refl
+
+  same_linked : (at : ℕ → Need) (told telling : Option Told) (known : Option RightNumber) (need : Need) (i : PlainIr)
+      → linked_code (routine_of i) (λ l. called_code home l (wanted_behind at need i) i)
+      (operation_code p home k told telling known (wanted_behind at need i) (need_in (kept_row k.slots need i)) i)
+      ≡ op_code p home (routed k routine_of) told telling known need i
+  same_linked at told telling known need i =
+      linked_same (routine_of i) (λ l. called_code home l (wanted_behind at need i) i)
+      (λ l. called_code home l (result_wanted need i) i)
+      (operation_code p home k told telling known (wanted_behind at need i) (need_in (kept_row k.slots need i)) i)
+      (own_code p home (routed k routine_of) told telling known need i) (same_called at need i)
+      (same_code at told telling known need i)
+
   -- the pieces of the operations that are left of some code, of which the first one has been told so much
   abbrev piece : (labels : ℕ → Need) (all : List PlainIr) → Option Told → List PlainIr → ℕ → List AsmItem
   piece labels all first code j =
       let at = facts_of labels all in
       operation_at p home k (told_from first (wanted_bytes at code) (numbers_left all code) code j)
-      (told_from first (wanted_bytes at code) (numbers_left all code) code (suc j)) (get_or (numbers_left all code) j None) (slice_index (wanted_bytes at code) j) (get_or (kept_rows k.slots at code) j [])
+      (told_from first (wanted_bytes at code) (numbers_left all code) code (suc j)) (get_or (numbers_left all code) j None)
+      (get_or (map routine_of code) j None) (slice_index (wanted_bytes at code) j) (get_or (kept_rows k.slots at code) j [])
       (slice_get code j)
 
   -- those behind the first operation are those of the other ones
@@ -106,7 +146,7 @@ module _ (p : PlainProgram) (home : Temp → Location) (k : Linkage) where
   piece_behind labels all first i code (suc j) = refl
 
   pieces_are : (labels : ℕ → Need) (all : List PlainIr) (first : Option Told) (code : List PlainIr)
-      → chain (piece labels all first code) (length code) ≡ ops_code p home k (facts_of labels all) first code
+      → chain (piece labels all first code) (length code) ≡ ops_code p home (routed k routine_of) (facts_of labels all) first code
   pieces_are labels all first [] = refl
   pieces_are labels all first (i ∷ code) =
       let at = facts_of labels all in
@@ -116,11 +156,11 @@ module _ (p : PlainProgram) (home : Temp → Location) (k : Linkage) where
       (λ j l. piece_behind labels all first i code j) in
       chain_front (piece labels all first (i ∷ code)) (length code)
       ∙ ap (λ l. piece labels all first (i ∷ code) 0 ++ l) (behind ∙ pieces_are labels all next code)
-      ∙ ap (λ l. l ++ ops_code p home k at next code)
-      (same_code labels first next (right_number (known_at all (i ∷ code)) i) (needs at code) i)
+      ∙ ap (λ l. l ++ ops_code p home (routed k routine_of) at next code)
+      (same_linked labels first next (right_number (known_at all (i ∷ code)) i) (needs at code) i)
 
 pub needed_code_is_written : NeededCodeIsWritten
-needed_code_is_written p home k labels code = pieces_are p home k labels code None code
+needed_code_is_written p home k routine_of labels code = pieces_are p home k routine_of labels code None code
 
 -- one piece more
 pub chain_more : (f : ℕ → List AsmItem) (j : ℕ) (first before after : List AsmItem) → before ≡ first ++ chain f j
@@ -131,22 +171,27 @@ chain_more f j first before after p q =
 
 -- one operation more
 pub one_more : (p : PlainProgram) (home : Temp → Location) (k : Linkage) (wanted : List ℕ) (kept : List (List ℕ))
-    (known : List (Option RightNumber)) (code : List PlainIr) (j : ℕ) (i : PlainIr) (told telling : Option Told)
-    (number : Option RightNumber)
-    (row : List ℕ) (first before after : List AsmItem)
+    (known : List (Option RightNumber)) (routines : List (Option ℕ)) (code : List PlainIr) (j : ℕ) (i : PlainIr)
+    (told telling : Option Told) (number : Option RightNumber) (routine : Option ℕ) (row : List ℕ)
+    (first before after : List AsmItem)
     → slice_get code j ≡ Some i → told ≡ told_at wanted known code j → telling ≡ told_at wanted known code (j + 1)
-    → get_or known j None ≡ number → get_or kept j [] ≡ row → before ≡ first ++ written_code p home k wanted kept known code j
-    → after ≡ before ++ operation_code p home k told telling number (slice_index wanted j) (need_in row) i
-    → after ≡ first ++ written_code p home k wanted kept known code (j + 1)
-one_more p home k wanted kept known code j i told telling number row first before after is told_is telling_is number_is row_is start q =
+    → get_or known j None ≡ number → get_or routines j None ≡ routine → get_or kept j [] ≡ row
+    → before ≡ first ++ written_code p home k wanted kept known routines code j
+    → after ≡ before ++ linked_code routine (λ l. called_code home l (slice_index wanted j) i)
+    (operation_code p home k told telling number (slice_index wanted j) (need_in row) i)
+    → after ≡ first ++ written_code p home k wanted kept known routines code (j + 1)
+one_more p home k wanted kept known routines code j i told telling number routine row first before after is told_is telling_is number_is
+    routine_is row_is start q =
     let e : j + 1 ≡ suc j = omega arith in
     let next : telling ≡ told_at wanted known code (suc j) = telling_is ∙ ap (told_at wanted known code) e in
     let here : operation_at p home k (told_at wanted known code j) (told_at wanted known code (suc j)) (get_or known j None)
-    (slice_index wanted j) (get_or kept j []) (slice_get code j)
-    ≡ operation_code p home k told telling number (slice_index wanted j) (need_in row) i = rw
-    (told_is, next, is, row_is, number_is) refl in
+    (get_or routines j None) (slice_index wanted j) (get_or kept j []) (slice_get code j)
+    ≡ linked_code routine (λ l. called_code home l (slice_index wanted j) i)
+    (operation_code p home k told telling number (slice_index wanted j) (need_in row) i) = rw
+    (told_is, next, is, row_is, number_is, routine_is) refl in
     chain_more (λ j. operation_at p home k (told_at wanted known code j) (told_at wanted known code (suc j)) (get_or known j None)
-    (slice_index wanted j) (get_or kept j []) (slice_get code j)) j first before after start (q ∙ ap (λ l. before ++ l) (sym here))
+    (get_or routines j None) (slice_index wanted j) (get_or kept j []) (slice_get code j)) j first before after start
+    (q ∙ ap (λ l. before ++ l) (sym here))
 
 -- an item of a list
 pub item_there : {A : Type 0} (xs : List A) (k : ℕ) (x : A) → k < length xs → x ≡ get_or xs k x

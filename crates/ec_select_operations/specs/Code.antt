@@ -61,6 +61,7 @@ use Rattle.ec_fxcode_limits.specs.Limits.{limited_code}
 use Rattle.ec_fxcode_placed.specs.Shifts.{placed_code}
 use Rattle.ec_select_fixed.specs.Codes.{fixed_binary_code, fixed_unary_code, fixed_conversion_code}
 use Rattle.ec_select_fixed.specs.Types.{format_in}
+use Rattle.ec_select_routines.specs.Codes.{call_with_one, call_with_two}
 use Rattle.ec_ir_known.specs.declared.known.RightNumber.{RightNumber}
 use Rattle.ec_select_operations.specs.Needs.{is_fixed, is_whole, number_taken, compared_bytes as bytes_compared}
 use Rattle.ec_select_operations.specs.Needs.{Need, nothing, wanted, wanted_result, without_result, either}
@@ -300,13 +301,15 @@ tested_code (Some told) p bytes l = unless_code told.relation told.signed l
 -- ---- calls
 
 -- How the code of a function is put together with that of the others: the label of items for each of its own, and the
--- one at which each function begins; where its temporaries stand, at so many places; and whether it is main
+-- one at which each function begins; where its temporaries stand, at so many places; whether it is main; and the label of
+-- the routine, if there is one, that an operation calls
 pub record Linkage : Type 0 where
   pub label_of : ℕ → ℕ
   pub entry_of : ℕ → ℕ
   pub homes : Homes
   pub slots : ℕ
   pub is_main : Bool
+  pub routine_of : PlainIr → Option ℕ
 
 -- the first register of a place
 abbrev pub place_register : Homes → ℕ → ℕ
@@ -593,11 +596,31 @@ abbrev pub kept_need : Need → PlainIr → Need
 kept_need need (call_function f to) = without_result to need
 kept_need need i = nothing
 
+-- the code of an operation at its use, where so much is needed after it
+abbrev pub own_code : PlainProgram → (Temp → Location) → Linkage → (told telling : Option Told) → Option RightNumber → Need
+    → PlainIr → List AsmItem
+own_code p home k told telling known need i =
+    operation_code p home k told telling known (result_wanted need i) (kept_need need i) i
+
+-- or a call of the routine with a label, of whose result so many bytes are needed
+abbrev pub called_code : (Temp → Location) → (l n : ℕ) → PlainIr → List AsmItem
+called_code home l n (binary_op op ty mode to a aty b bty) =
+    answer_code (call_with_two (home a) (home b) a.bytes b.bytes l) (home to) n
+called_code home l n (unary_op op ty mode to a) = answer_code (call_with_one (home a) a.bytes l) (home to) n
+called_code home l n (conversion to ty mode a aty) = answer_code (call_with_one (home a) a.bytes l) (home to) n
+called_code home l n i = []
+
+-- one where a routine stands, and else the other
+abbrev pub linked_code : (routine : Option ℕ) → (called : ℕ → List AsmItem) → (own : List AsmItem) → List AsmItem
+linked_code None called own = own
+linked_code (Some l) called own = called l
+
 -- an operation, where so much is needed after it
 abbrev pub op_code : PlainProgram → (Temp → Location) → Linkage → (told telling : Option Told) → Option RightNumber → Need
     → PlainIr → List AsmItem
 op_code p home k told telling known need i =
-    operation_code p home k told telling known (result_wanted need i) (kept_need need i) i
+    linked_code (k.routine_of i) (λ l. called_code home l (result_wanted need i) i)
+    (own_code p home k told telling known need i)
 
 -- what an operation tells those behind it
 abbrev pub tells_next : Facts → PlainIr → List PlainIr → Option Told

@@ -30,7 +30,8 @@ use Rattle.ec_select_fixed.specs.Types.{AreFixedOperands, IsFixedOperand, AreFix
 abbrev pub declarations : IrProgram → PlainProgram
 declarations program = data_of (plain_ir_program program)
 
--- labels of items stand in a row for the labels of a function, and in another one for the beginnings of functions
+-- labels of items stand in a row for the labels of a function, and in another one for the beginnings of functions; routines
+-- are told beside
 abbrev pub linkage : Linking → Linkage
 linkage l = record {
   label_of = λ k. l.first_label + k;
@@ -38,6 +39,7 @@ linkage l = record {
   homes = l.homes;
   slots = l.slots;
   is_main = l.is_main;
+  routine_of = λ i. None;
 }
 
 -- a label of items has a number of 64 bits
@@ -144,3 +146,15 @@ CanBeEmitted p k wanted (call_function f to) = CanBeTaken wanted to × IsLabel (
 CanBeEmitted p k wanted (port_in to port index width) =
     (wanted ≤ to.bytes) × (1 ≤ width) × (width ≤ to.bytes) × IndexHasByte index
 CanBeEmitted p k wanted (port_out from port index width) = (width ≤ from.bytes) × IndexHasByte index
+
+-- so many bytes of the result of a call of a routine, and operands that the routine has room for
+abbrev pub CanBeCalled : ℕ → PlainIr → Type 0
+CanBeCalled wanted (binary_op op ty mode to a aty b bty) = (wanted ≤ to.bytes) × (a.bytes ≤ 8) × (b.bytes ≤ 8)
+CanBeCalled wanted (unary_op op ty mode to a) = (wanted ≤ to.bytes) × (a.bytes ≤ 8)
+CanBeCalled wanted (conversion to ty mode a aty) = (wanted ≤ to.bytes) × (a.bytes ≤ 8)
+CanBeCalled wanted i = ⊤
+
+-- an operation that may call a routine
+abbrev pub CanBeLinked : (routine : Option ℕ) → PlainProgram → Linking → ℕ → PlainIr → Type 0
+CanBeLinked None p k wanted i = CanBeEmitted p k wanted i
+CanBeLinked (Some l) p k wanted i = CanBeCalled wanted i

@@ -5,4 +5,5 @@ pub mod Pointers
 pub mod Ports
 pub mod Code
 pub mod Emitted
+pub mod Routines
 pub mod Written

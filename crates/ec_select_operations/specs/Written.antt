@@ -1,6 +1,6 @@
 -- The code of a list of operations, for each of which numbers tell how many bytes are wanted.
 use Rattle.std.specs.Prelude.{◌≡◌, ℕ, zero, suc, List, [], ◌∷◌, Option, Some, None, slice_get, slice_index, get_or}
-use Rattle.std.specs.Prelude.{option_and_then, length}
+use Rattle.std.specs.Prelude.{option_and_then, length, map}
 use Rattle.ec_asm.specs.declared.items.AsmItem.{AsmItem}
 use Rattle.ec_asm.specs.declared.items.AsmItem.TheVariants.{Label}
 use Rattle.ec_asm.specs.declared.pieces.Location.{Location}
@@ -13,8 +13,8 @@ use Rattle.ec_ir_known.specs.Known.{right_numbers}
 use Rattle.ec_select_operations.specs.declared.calls.Linking.{Linking}
 use Rattle.ec_select_operations.specs.declared.families.Told.{Told}
 use Rattle.ec_select_operations.specs.Code.{Linkage, register_places, operation_code, tells, wanted_bytes, ops_code}
-use Rattle.ec_select_operations.specs.Code.{function_code}
-use Rattle.ec_select_operations.specs.Emitted.{CanBeEmitted}
+use Rattle.ec_select_operations.specs.Code.{function_code, called_code, linked_code}
+use Rattle.ec_select_operations.specs.Emitted.{CanBeLinked}
 use Rattle.ec_select_operations.specs.Homes.{home}
 use Rattle.ec_select_operations.specs.Needs.{Need, without_result, Facts, facts_of, needs}
 
@@ -34,29 +34,32 @@ told_from first wanted known code (suc j) =
 abbrev pub told_at : (wanted : List ℕ) → (known : List (Option RightNumber)) → List PlainIr → ℕ → Option Told
 told_at wanted known code j = told_from None wanted known code j
 
+-- an operation, or the call of its routine
 abbrev pub operation_at : PlainProgram → (Temp → Location) → Linkage → (told telling : Option Told)
-    → (known : Option RightNumber) → (wanted : ℕ) → (row : List ℕ) → Option PlainIr → List AsmItem
-operation_at p home k told telling known wanted row None = []
-operation_at p home k told telling known wanted row (Some i) =
-    operation_code p home k told telling known wanted (need_in row) i
+    → (known : Option RightNumber) → (routine : Option ℕ) → (wanted : ℕ) → (row : List ℕ) → Option PlainIr → List AsmItem
+operation_at p home k told telling known routine wanted row None = []
+operation_at p home k told telling known routine wanted row (Some i) =
+    linked_code routine (λ l. called_code home l wanted i) (operation_code p home k told telling known wanted (need_in row) i)
 
 -- the code of the first n operations: `wanted` has for each the bytes that are needed behind it, `kept` what a call
--- keeps, and `known` the number that the second operand is known to hold
+-- keeps, `known` the number that the second operand is known to hold, and `routines` the label of the routine that is
+-- called, if there is one
 abbrev pub written_code : PlainProgram → (Temp → Location) → Linkage → (wanted : List ℕ) → (kept : List (List ℕ))
-    → (known : List (Option RightNumber)) → List PlainIr → ℕ → List AsmItem
-written_code p home k wanted kept known code n =
+    → (known : List (Option RightNumber)) → (routines : List (Option ℕ)) → List PlainIr → ℕ → List AsmItem
+written_code p home k wanted kept known routines code n =
     chain (λ j. operation_at p home k (told_at wanted known code j) (told_at wanted known code (suc j)) (get_or known j None)
-    (slice_index wanted j) (get_or kept j []) (slice_get code j)) n
+    (get_or routines j None) (slice_index wanted j) (get_or kept j []) (slice_get code j)) n
 
 -- that of a function, which begins with its label
 abbrev pub written_function : PlainProgram → Linkage → (f : ℕ) → (wanted : List ℕ) → (kept : List (List ℕ))
-    → (known : List (Option RightNumber)) → List PlainIr → List AsmItem
-written_function p k f wanted kept known code =
-    Label (k.entry_of f) ∷ written_code p (home k.homes) k wanted kept known code (length code)
+    → (known : List (Option RightNumber)) → (routines : List (Option ℕ)) → List PlainIr → List AsmItem
+written_function p k f wanted kept known routines code =
+    Label (k.entry_of f) ∷ written_code p (home k.homes) k wanted kept known routines code (length code)
 
-abbrev pub CanBeWritten : PlainProgram → Linking → List ℕ → List PlainIr → Type 0
-CanBeWritten p k wanted code =
-    (j : ℕ) (i : PlainIr) → slice_get code j ≡ Some i → CanBeEmitted p k (slice_index wanted j) i
+abbrev pub CanBeWritten : PlainProgram → Linking → List ℕ → (routines : List (Option ℕ)) → List PlainIr → Type 0
+CanBeWritten p k wanted routines code =
+    (j : ℕ) (i : PlainIr) → slice_get code j ≡ Some i
+    → CanBeLinked (get_or routines j None) p k (slice_index wanted j) i
 
 -- what is needed of so many places, from a first one on
 abbrev pub row_from : (count place : ℕ) → Need → List ℕ
@@ -72,17 +75,22 @@ abbrev pub kept_rows : (slots : ℕ) → Facts → List PlainIr → List (List �
 kept_rows slots at [] = []
 kept_rows slots at (i ∷ code) = kept_row slots (needs at code) i ∷ kept_rows slots at code
 
--- code that is written with these numbers is the code of the operations
+-- the same functions with other routines
+abbrev pub routed : Linkage → (PlainIr → Option ℕ) → Linkage
+routed k routine_of = record k { routine_of = routine_of }
+
+-- code that is written with these numbers and routines is the code of the operations
 abbrev pub NeededCodeIsWritten : Type 0
 NeededCodeIsWritten =
-    (p : PlainProgram) (home : Temp → Location) (k : Linkage) (labels : ℕ → Need) (code : List PlainIr)
-    → let at = facts_of labels code in
-    written_code p home k (wanted_bytes at code) (kept_rows k.slots at code) (right_numbers code) code (length code)
-    ≡ ops_code p home k at None code
+    (p : PlainProgram) (home : Temp → Location) (k : Linkage) (routine_of : PlainIr → Option ℕ) (labels : ℕ → Need)
+    (code : List PlainIr) → let at = facts_of labels code in
+    written_code p home k (wanted_bytes at code) (kept_rows k.slots at code) (right_numbers code) (map routine_of code) code
+    (length code)
+    ≡ ops_code p home (routed k routine_of) at None code
 
 abbrev pub NeededFunctionsAreWritten : Type 0
 NeededFunctionsAreWritten =
-    (p : PlainProgram) (k : Linkage) (f : ℕ) (labels : ℕ → Need) (code : List PlainIr)
+    (p : PlainProgram) (k : Linkage) (routine_of : PlainIr → Option ℕ) (f : ℕ) (labels : ℕ → Need) (code : List PlainIr)
     → let at = facts_of labels code in
-    written_function p k f (wanted_bytes at code) (kept_rows k.slots at code) (right_numbers code) code
-    ≡ function_code p k f labels code
+    written_function p k f (wanted_bytes at code) (kept_rows k.slots at code) (right_numbers code) (map routine_of code) code
+    ≡ function_code p (routed k routine_of) f labels code

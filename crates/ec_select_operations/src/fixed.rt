@@ -48,7 +48,7 @@ fn work_location() -> Location
 }
 
 /// Where an operation leaves its result.
-fn answer_location() -> Location
+pub(crate) fn answer_location() -> Location
     ensures { result ≡ answer_location }
 {
     Location::InMemory {

@@ -2,8 +2,9 @@
 //!
 //! `specs/Code.antt` has the code of each operation, `specs/Needs.antt` how many bytes of each temporary it computes,
 //! `specs/Homes.antt` and `specs/Places.antt` where temporaries and objects stand, `specs/Pointers.antt` pointers as
-//! bytes, and `specs/Written.antt` the code of a list of operations. The laws in `laws` tell that the code which is
-//! written with the bytes that are needed is the code of the operations.
+//! bytes, `specs/Routines.antt` which operations may have code that stands once, and `specs/Written.antt` the code of a
+//! list of operations. The laws in `laws` tell that the code which is written with the bytes that are needed is the code
+//! of the operations, and that operations of one shape have one routine.
 #![tactic(auto)]
 
 mod calls;
@@ -14,6 +15,7 @@ mod laws;
 mod numbers;
 mod operations;
 mod pointers;
+mod routines;
 mod transfers;
 mod types;
 
@@ -25,11 +27,12 @@ pub use families::{
 };
 pub use fixed::{fixed_binary, fixed_conversion, fixed_unary};
 pub use homes::{Homes, home, index_place};
-pub use laws::{needed_code_is_written, needed_functions_are_written};
+pub use laws::{needed_code_is_written, needed_functions_are_written, one_shape_has_one_routine};
 pub use numbers::{compared_bytes, first_bytes, integer_binary, number_at, number_taken};
 pub use operations::{Flags, all_operations, function, operation};
 pub use pointers::{
     Offset, Pointers, combine_pointers, load_object, load_through, move_pointer, pointer_binary,
     pointer_conversion, put_address,
 };
+pub use routines::{called, routine};
 pub use types::{is_fixed, is_pointer, is_whole};

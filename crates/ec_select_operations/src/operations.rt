@@ -2,8 +2,8 @@
 ghost use Rattle.std.specs.Prelude.{◌≡◌, ◌≤◌, ◌++◌, ◌+◌, ◌^◌, ◌<◌, OnOk, OnErr, Some, map, length};
 ghost use Rattle.ec_runs.specs.Behaviours.{BeginWith};
 ghost use Rattle.ec_ir.specs.Operations.{plain_ir};
-ghost use Rattle.ec_select_operations.specs.Code.{operation_code, is_only_tested, tells};
-ghost use Rattle.ec_select_operations.specs.Emitted.{declarations, linkage, IsLabel, CanBeEmitted};
+ghost use Rattle.ec_select_operations.specs.Code.{operation_code, is_only_tested, tells, called_code, linked_code};
+ghost use Rattle.ec_select_operations.specs.Emitted.{declarations, linkage, IsLabel, CanBeEmitted, CanBeLinked};
 ghost use Rattle.ec_select_operations.specs.Homes.{home};
 ghost use Rattle.ec_select_operations.specs.Written.{need_in, CanBeWritten, told_at, written_code};
 ghost use Rattle.ec_select_operations.specs.Written.{written_function};
@@ -18,6 +18,7 @@ use crate::numbers::{bits_of, compared_signed, integer_binary, number_at, number
 use crate::pointers::{
     load_object, load_through, object_location, pointer_binary, pointer_conversion, put_address,
 };
+use crate::routines::called;
 use crate::types::{is_fixed, is_pointer, is_signed, is_whole};
 use ec_asm::{AsmItem, Location, copy};
 use ec_ir::{Ir, IrProgram, Temp};
@@ -239,9 +240,35 @@ pub fn operation(
     }
 }
 
+/// Appends the code of an operation, as `operation` does, or a call of the routine with a label.
+fn linked_operation(
+    out: &mut Seq<AsmItem>,
+    program: &IrProgram,
+    of: Linking,
+    flags: Flags,
+    known: Option<RightNumber>,
+    routine: Option<u64>,
+    wanted: u8,
+    kept: &[u8],
+    i: &Ir,
+) -> Result<(), NoMemory>
+    requires { CanBeLinked routine (declarations program.now) of wanted (plain_ir i.now) }
+    ensures ok { OnOk result (out.new.items ≡ out.old.items
+        ++ linked_code routine (λ label. called_code (home of.homes) label wanted (plain_ir i.now))
+        (operation_code (declarations program.now) (home of.homes) (linkage of) flags.told flags.telling known wanted
+        (need_in kept.now) (plain_ir i.now))) }
+    ensures err { OnErr result (BeginWith out.old.items out.new.items) }
+{
+    match routine {
+        Some(label) => called(out, of.homes, label, wanted, i),
+        None => operation(out, program, of, flags, known, wanted, kept, i),
+    }
+}
+
 /// Appends the code of a function's operations, one after another: behind each so many bytes are needed as the number
-/// at its place tells, of its result or of what it has tested, a call keeps what the row at its place tells, and a second
-/// operand is known to hold the number at its place. Where memory runs out, a part of the code is appended.
+/// at its place tells, of its result or of what it has tested, a call keeps what the row at its place tells, a second
+/// operand is known to hold the number at its place, and the routine with the label at its place is called. Where memory
+/// runs out, a part of the code is appended.
 pub fn all_operations(
     out: &mut Seq<AsmItem>,
     program: &IrProgram,
@@ -250,14 +277,16 @@ pub fn all_operations(
     wanted: &[u8],
     kept: &[Vec<u8>],
     known: &[Option<RightNumber>],
+    routines: &[Option<u64>],
 ) -> Result<(), NoMemory>
     requires numbers { length code.now ≡ length wanted.now }
     requires rows { length code.now ≡ length kept.now }
     requires known { length code.now ≡ length known.now }
-    requires each { CanBeWritten (declarations program.now) of wanted.now (map plain_ir code.now) }
+    requires routines { length code.now ≡ length routines.now }
+    requires each { CanBeWritten (declarations program.now) of wanted.now routines.now (map plain_ir code.now) }
     ensures ok { OnOk result (out.new.items ≡ out.old.items
         ++ written_code (declarations program.now) (home of.homes) (linkage of) wanted.now
-        (map (λ row. row.items) kept.now) known.now (map plain_ir code.now) (length code.now)) }
+        (map (λ row. row.items) kept.now) known.now routines.now (map plain_ir code.now) (length code.now)) }
     ensures err { OnErr result (BeginWith out.old.items out.new.items) }
 {
     for k in 0..code.len() {
@@ -265,12 +294,13 @@ pub fn all_operations(
         let telling = told_at(wanted, known, code, k + 1);
         let flags = Flags { told, telling };
         let number = number_at(known, k);
-        operation(
+        linked_operation(
             out,
             program,
             of,
             flags,
             number,
+            routines[k],
             wanted[k],
             kept[k].as_slice(),
             &code[k],
@@ -290,17 +320,19 @@ pub fn function(
     wanted: &[u8],
     kept: &[Vec<u8>],
     known: &[Option<RightNumber>],
+    routines: &[Option<u64>],
 ) -> Result<(), NoMemory>
     requires label { IsLabel (of.first_entry + f) }
     requires numbers { length code.now ≡ length wanted.now }
     requires rows { length code.now ≡ length kept.now }
     requires known { length code.now ≡ length known.now }
-    requires each { CanBeWritten (declarations program.now) of wanted.now (map plain_ir code.now) }
+    requires routines { length code.now ≡ length routines.now }
+    requires each { CanBeWritten (declarations program.now) of wanted.now routines.now (map plain_ir code.now) }
     ensures ok { OnOk result (out.new.items ≡ out.old.items
         ++ written_function (declarations program.now) (linkage of) f wanted.now
-        (map (λ row. row.items) kept.now) known.now (map plain_ir code.now)) }
+        (map (λ row. row.items) kept.now) known.now routines.now (map plain_ir code.now)) }
     ensures err { OnErr result (BeginWith out.old.items out.new.items) }
 {
     out.extend_from_slice(&[AsmItem::Label(of.first_entry + u64::from(f))])?;
-    all_operations(out, program, of, code, wanted, kept, known)
+    all_operations(out, program, of, code, wanted, kept, known, routines)
 }

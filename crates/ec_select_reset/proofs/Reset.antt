@@ -30,7 +30,7 @@ use Rattle.ec_ir.specs.Valid.{ValidIr}
 use Rattle.ec_runs.specs.Behaviours.{Reaches, IsWithin}
 use Rattle.ec_select_functions.specs.Laws.{AreSelected, IsEntered, HoldsStart, ShowsOperations, CodeFollowsOperations}
 use Rattle.ec_select_functions.specs.Laws.{within_steps, seen_meaning}
-use Rattle.ec_select_functions.proofs.Stacked.{pushed_same, pushed_pointer, back_is}
+use Rattle.ec_routines.proofs.Stacked.{pushed_same, pushed_pointer, back_is}
 use Rattle.ec_select_startup.specs.declared.spans.Span.{Span}
 use Rattle.ec_select_startup.specs.Laws.{StartupIsRight, Starts, IsSet, CanBeSet, target, startup_steps}
 use Rattle.ec_select_reset.proofs.Before.{CallsMain, calls_main}
@@ -105,14 +105,14 @@ module _ (laws : StartLaws) (p : PlainIrProgram) (place entry_of : ℕ → ℕ) 
 
   deep : (257 ≤ top) × (top < 65536)
   deep =
-      let r : low + 2 * 0 + 1 ≤ top = c.room [] tt in
+      let r : low + 2 * 0 + 17 ≤ top = c.room [] tt in
       let high = c.high in
       let room = c.pointer.room in
       (omega arith, room)
 
   first_kind : e.kind (sp last) ≡ Stacked
   first_kind =
-      let r : low + 2 * 0 + 1 ≤ top = c.room [] tt in
+      let r : low + 2 * 0 + 17 ≤ top = c.room [] tt in
       ap e.kind starts.pointer ∙ c.stacked top (omega arith) (omega arith)
 
   below_top : lowered (sp last) ≡ top - 1
@@ -120,7 +120,7 @@ module _ (laws : StartLaws) (p : PlainIrProgram) (place entry_of : ℕ → ℕ) 
 
   second_kind : e.kind (lowered (sp last)) ≡ Stacked
   second_kind =
-      let r : low + 2 * 0 + 1 ≤ top = c.room [] tt in
+      let r : low + 2 * 0 + 17 ≤ top = c.room [] tt in
       ap e.kind below_top ∙ c.stacked (top - 1) (omega arith) (omega arith)
 
   -- the steps to where main begins, the last of which is its call

@@ -36,7 +36,7 @@ HasInitials p place v =
 
 -- The startup code stands from a word on, with the label of main. The bytes of all spans can be set, and once they are
 -- the objects have their initial values. From an address on up to the last byte of the stack all bytes are the stack's:
--- two for main and for each function that is called on any way from it
+-- two for main and for each function that is called on any way from it, and 16 more
 pub record CanStart (p : PlainIrProgram) (e : Env) (place entry_of : ℕ → ℕ) (spans : List Span)
     (low pc : ℕ) : Type 0 where
   pub end : ℕ
@@ -48,7 +48,7 @@ pub record CanStart (p : PlainIrProgram) (e : Env) (place entry_of : ℕ → ℕ
   pub pointer : HasStack e
   pub high : 256 ≤ low
   pub stacked : (k : ℕ) → low ≤ k → k ≤ e.address_of 1281 0 → e.kind k ≡ Stacked
-  pub room : (fs : List ℕ) → CallsOn p p.main fs → low + 2 * length fs + 1 ≤ e.address_of 1281 0
+  pub room : (fs : List ℕ) → CallsOn p p.main fs → low + 2 * length fs + 17 ≤ e.address_of 1281 0
 
 -- a view before whose run nothing was noted and no access was barred
 abbrev pub anew : View → View

@@ -3,18 +3,27 @@ use Rattle.ec_select.proofs.laws.selections_have_words.Goals as goal
 
 pub returns : goal.returns
 returns c = selections_have_words (record {
-  values = c.values_are_straight.ensures.words;
-  complements = c.complements_are_straight.ensures.words;
-  relations = c.relations_have_words.ensures;
-  products = c.products_have_words.ensures;
-  shifts = c.shifts_have_words.ensures;
-  fixed_binaries = c.fixed_binaries_are_short.ensures;
-  fixed_unaries = c.fixed_unaries_are_short.ensures;
-  fixed_conversions = c.fixed_conversions_are_short.ensures;
-  pointers = c.pointers_are_straight.ensures.words;
-  tables = c.tables_are_formed.ensures.short;
-  steps = c.places_are_short.ensures.steps;
-  conversions = c.places_are_short.ensures.conversions;
-  elements = c.elements_are_formed.ensures.short;
-  numbers = c.numbers_are_operands.ensures.straight;
-}) c.startup_has_words.ensures
+  words = record {
+    values = c.values_are_straight.ensures.words;
+    complements = c.complements_are_straight.ensures.words;
+    relations = c.relations_have_words.ensures;
+    products = c.products_have_words.ensures;
+    shifts = c.shifts_have_words.ensures;
+    fixed_binaries = c.fixed_binaries_are_short.ensures;
+    fixed_unaries = c.fixed_unaries_are_short.ensures;
+    fixed_conversions = c.fixed_conversions_are_short.ensures;
+    pointers = c.pointers_are_straight.ensures.words;
+    tables = c.tables_are_formed.ensures.short;
+    steps = c.places_are_short.ensures.steps;
+    conversions = c.places_are_short.ensures.conversions;
+    elements = c.elements_are_formed.ensures.short;
+    numbers = c.numbers_are_operands.ensures.straight;
+  };
+  routines = record {
+    binary = c.routines_have_words.ensures.binary;
+    unary = c.routines_have_words.ensures.unary;
+    conversion = c.routines_have_words.ensures.conversion;
+    calls = c.routines_have_words.ensures.calls;
+  };
+  startup = c.startup_has_words.ensures;
+})

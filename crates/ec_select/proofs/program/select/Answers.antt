@@ -1,8 +1,7 @@
-use Rattle.std.proofs.Common.{◌≡◌, ◌∷◌, length, ◌∙◌, sym, refl}
-use Rattle.std.proofs.lemmas.List.{length-map}
+use Rattle.std.proofs.Common.{◌≡◌, ◌∷◌, ◌∙◌, refl}
 use Rattle.ec_asm.specs.declared.items.AsmItem.TheVariants.{Label}
 use Rattle.ec_asm.specs.declared.items.AsmProgram.{AsmProgram}
-use Rattle.ec_ir.specs.Operations.{plain_ir_function, plain_ir_program}
+use Rattle.ec_ir.specs.Operations.{plain_ir_program}
 use Rattle.ec_select_startup.specs.Startup.{startup_code}
 use Rattle.ec_select.specs.Labels.{entry_label, function_label}
 use Rattle.ec_select.specs.Program.{spans_of}
@@ -12,13 +11,11 @@ use Rattle.ec_select.proofs.program.select.Goals as goal
 pub returns-clause-code : goal.returns-clause-code
 returns-clause-code c =
     let p = plain_ir_program c.args.ir.now in
-    let asm : AsmProgram = record { items = c.add_functions.new.out; frames = c.in_ok-frames.frames; entry = 0 } in
+    let asm : AsmProgram = record { items = c.add_code.new.out; frames = c.in_ok-frames.frames; entry = 0 } in
     let spans : c.as_slice.result.now ≡ spans_of p = c.as_slice.ensures ∙ c.in_ok-spans.ensures in
     let begins : c.startup.new.out.items ≡ Label entry_label ∷ startup_code (spans_of p) (function_label p.main) =
     c.in_ok-startup.ensures.ok ∙ rw (c.in_ok-push.ensures.ok, c.new-items.ensures, spans, c.from.ensures) refl in
-    selected p asm (length c.args.ir.now.funcs.items) c.startup.new.out.items c.add_functions.new.out.items
-    (sym (length-map c.args.ir.now.funcs.items plain_ir_function))
-    begins c.in_ok-add_functions.ensures refl c.in_ok-frames.ensures refl
+    selected p asm c.startup.new.out.items c.add_code.new.out.items begins c.in_ok-add_code.ensures refl c.in_ok-frames.ensures refl
 
 pub returns-clause-valid : goal.returns-clause-valid
 returns-clause-valid c =
@@ -26,4 +23,10 @@ returns-clause-valid c =
 
 pub returns-clause-words : goal.returns-clause-words
 returns-clause-words c in_place =
-    c.selections_have_words.ensures (plain_ir_program c.args.ir.now) _ c.requires.valid c.requires.code in_place (returns-clause-code c)
+    (c.selections_have_words.ensures (plain_ir_program c.args.ir.now) _ c.requires.valid c.requires.code in_place
+    (returns-clause-code c)).by_shapes
+
+pub returns-clause-alone : goal.returns-clause-alone
+returns-clause-alone c in_place =
+    (c.selections_have_words.ensures (plain_ir_program c.args.ir.now) _ c.requires.valid c.requires.code in_place
+    (returns-clause-code c)).alone

@@ -13,6 +13,12 @@ returns c =
         unaries = c.fixed_unaries_are_right.ensures;
         conversions = c.fixed_conversions_are_right.ensures;
       };
+      routines = record {
+        binaries = c.binary_routines_are_right.ensures;
+        unaries = c.unary_routines_are_right.ensures;
+        conversions = c.conversion_routines_are_right.ensures;
+        quotients = c.quotient_routines_are_right.ensures;
+      };
       pointers = record {
         addresses = c.addresses_are_right.ensures;
         fields = c.fields_are_right.ensures;
