@@ -379,7 +379,7 @@ module _ (all : List PlainObject) where
 
   external_step : (r : Setting) (p : Place) (x : t.External) (a : Added) → Adds walked r p x a → (before : List PlainObject)
       → Agree (λ n. is_registered n p.known.declared) before → Step x (λ n. is_registered n p.known.declared) r.unit before a.objects
-  external_step r p _ _ (units.by_pragma {q = q}) = λ before h.
+  external_step r p _ _ (units.by_pragma {pragma = q}) = λ before h.
       plain_step (t.pragma_item q) (λ n. is_registered n p.known.declared) r.unit before [] (λ n b. refl) nothing h
   external_step r p _ _ (units.by_struct {d = d} s) = λ before h.
       plain_step (t.structure_item d) (λ n. is_registered n p.known.declared) r.unit before [] (λ n b. refl) nothing h
