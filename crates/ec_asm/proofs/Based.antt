@@ -1,29 +1,30 @@
 -- Y holds the base all along: no instruction that is fetched changes it.
-use Rattle.std.proofs.Common.{◌≡◌, ◌≢◌, ℕ, ◌+◌, ◌*◌, ◌/◌, ◌%◌, ◌<◌, ◌≤◌, Bool, true, false, ◌&&◌, ◌||◌, ◌++◌, refl, sym, ap, ◌∙◌, arith}
-use Rattle.std.proofs.Common.{Option, Some, None, subst}
-use Rattle.std.specs.Prelude.{if◌then◌else◌, ◌==◌, IsTrue, nat_lt, nat_le}
+use Rattle.std.proofs.Common.{◌≡◌, ◌≢◌, ℕ, ◌+◌, ◌/◌, ◌%◌, ◌<◌, ◌≤◌, Bool, true, false, ◌&&◌, ◌++◌, refl, sym, ap, ◌∙◌, arith}
+use Rattle.std.proofs.Common.{Option, Some, subst}
+use Rattle.std.specs.Prelude.{if◌then◌else◌, IsTrue, nat_lt, nat_le}
 use Rattle.std.proofs.lemmas.Bool.{and_parts, false≢true, ne_eqb, ltb-true, leb-true}
 use Rattle.std.proofs.lemmas.Bool.Decides.{nat_tests}
 use Rattle.ec_space.specs.declared.space.Bank.TheVariants.{Flash as FlashBank, Data as DataBank}
 use Rattle.ec_isa.specs.declared.instructions.Instr.{Instr}
-use Rattle.ec_isa.specs.declared.instructions.Instr.TheVariants.{Nop, Movw, Cpc, Sbc, Add, Cpse, Cp, Sub, Adc, And, Eor, Or, Mov, Mul, Cpi}
+use Rattle.ec_isa.specs.declared.instructions.Instr.TheVariants.{Nop, Movw, Sbc, Add, Cpse, Sub, Adc, And, Eor, Or, Mov}
 use Rattle.ec_isa.specs.declared.instructions.Instr.TheVariants.{Sbci, Subi, Ori, Andi, Ldi, LddZ, LddY, StdZ, StdY, Lds, Sts, LdX, StX}
-use Rattle.ec_isa.specs.declared.instructions.Instr.TheVariants.{LpmZ, LdXPlus, LdZPlus, StXPlus, StZPlus, LpmZPlus, Pop, Push, Com, Neg}
-use Rattle.ec_isa.specs.declared.instructions.Instr.TheVariants.{Swap, Inc, Asr, Lsr, Ror, Dec, Bset, Bclr, Adiw, Sbiw, In as InInstr}
-use Rattle.ec_isa.specs.declared.instructions.Instr.TheVariants.{Out as OutInstr, Bst, Jmp, Call, Ret, Break, Rjmp, Rcall, Brbs, Brbc, Sbrc}
+use Rattle.ec_isa.specs.declared.instructions.Instr.TheVariants.{LpmZ, LdXPlus, LdZPlus, StXPlus, StZPlus, LpmZPlus, Elpm, ElpmInc, Pop, Push, Com, Neg}
+use Rattle.ec_isa.specs.declared.instructions.Instr.TheVariants.{Swap, Inc, Asr, Lsr, Ror, Dec, Adiw, Sbiw, In as InInstr}
+use Rattle.ec_isa.specs.declared.instructions.Instr.TheVariants.{Out as OutInstr, Jmp, Call, Ret, Break, Rjmp, Rcall, Brbs, Brbc, Sbrc}
 use Rattle.ec_isa.specs.declared.instructions.Instr.TheVariants.{Sbrs}
 use Rattle.ec_avr.specs.declared.machine.Access.{Access}
 use Rattle.ec_avr.specs.declared.machine.Access.TheVariants.{Silent, In, Out, Read, Write, Stack}
 use Rattle.ec_space.specs.Memory.{Memory}
 use Rattle.ec_space.specs.declared.Core.{Core}
+use Rattle.ec_space.specs.declared.Core.TheVariants.{Small, Large}
 use Rattle.ec_avr.specs.Effects.{After}
 use Rattle.ec_avr.specs.State.{raised, lowered}
 use Rattle.ec_asm.specs.Base.{is_beside, are_beside, leaves_base}
 use Rattle.ec_asm.specs.View.{View, put, put_pair, pair}
-use Rattle.ec_asm.specs.Change.{Env, Kind, Own, Object, Port, Stacked, Barred, unbased, y_of, change, goes_on, words, sp, load_by, store_by}
-use Rattle.ec_asm.specs.Change.{flash_by, push_by, pop_by}
-use Rattle.ec_asm.specs.Run.{Status, Running, Ended, Stuck, act, pushed, popped, on_stack, is_flag, keeps_base}
-use Rattle.ec_asm.specs.Shows.{HoldsBase, Shows, Fits, Moves, may_be, noted, if_object}
+use Rattle.ec_asm.specs.Change.{Env, Kind, Own, Object, Port, Stacked, Page, Barred, unbased, y_of, change, goes_on, words, sp, load_by, store_by}
+use Rattle.ec_asm.specs.Change.{flash_by, far_z, by_rampz, push_by, pop_by}
+use Rattle.ec_asm.specs.Run.{Status, Running, Ended, Stuck, act, pushed, on_stack, is_flag, keeps_base}
+use Rattle.ec_asm.specs.Shows.{HoldsBase, Shows, Fits, Moves, may_be, noted}
 use Rattle.ec_asm.proofs.Fetched.{based_leaves}
 
 -- ---- bytes
@@ -57,6 +58,7 @@ load_keeps Own d a v h = set_keeps v.at d _ h
 load_keeps Object d a v h = set_keeps v.at d _ h
 load_keeps Port d a v h = set_keeps v.at d _ h
 load_keeps Stacked d a v h = refl
+load_keeps Page d a v h = refl
 load_keeps Barred d a v h = refl
 
 flash_keeps : (k : Kind) (d a x : ℕ) (v : View) → is_beside d ≡ true → pair (flash_by k d a x v).at 28 ≡ pair v.at 28
@@ -64,6 +66,7 @@ flash_keeps Own d a x v h = set_keeps v.at d x h
 flash_keeps Object d a x v h = set_keeps v.at d x h
 flash_keeps Port d a x v h = refl
 flash_keeps Stacked d a x v h = refl
+flash_keeps Page d a x v h = refl
 flash_keeps Barred d a x v h = refl
 
 store_keeps : (k : Kind) (a x : ℕ) (v : View) → (k ≢ Barred → (a ≢ 28) × (a ≢ 29))
@@ -72,7 +75,12 @@ store_keeps Own a x v h = let n = h (λ q. cc) in put_keeps v.at a x n.0 n.1
 store_keeps Object a x v h = let n = h (λ q. cc) in put_keeps v.at a x n.0 n.1
 store_keeps Port a x v h = refl
 store_keeps Stacked a x v h = refl
+store_keeps Page a x v h = refl
 store_keeps Barred a x v h = refl
+
+rampz_keeps : (core : Core) (w v : View) → pair w.at 28 ≡ pair v.at 28 → pair (by_rampz core w v).at 28 ≡ pair v.at 28
+rampz_keeps Small w v h = refl
+rampz_keeps Large w v h = h
 
 module _ (e : Env) (size : ℕ) (fit : Fits e size) (based : e.base < 65536) (v : View) where
   apart : (a : ℕ) → e.kind a ≢ Barred → (a ≢ 28) × (a ≢ 29)
@@ -90,6 +98,7 @@ module _ (e : Env) (size : ℕ) (fit : Fits e size) (based : e.base < 65536) (v 
   push_keeps Own x q = refl
   push_keeps Object x q = refl
   push_keeps Port x q = refl
+  push_keeps Page x q = refl
   push_keeps Barred x q = refl
 
   pop_keeps : (k : Kind) (d : ℕ) → is_beside d ≡ true → pair (pop_by k d v).at 28 ≡ pair v.at 28
@@ -97,6 +106,7 @@ module _ (e : Env) (size : ℕ) (fit : Fits e size) (based : e.base < 65536) (v 
   pop_keeps Own d h = refl
   pop_keeps Object d h = refl
   pop_keeps Port d h = refl
+  pop_keeps Page d h = refl
   pop_keeps Barred d h = refl
 
   -- ---- instructions
@@ -143,6 +153,8 @@ module _ (e : Env) (size : ℕ) (fit : Fits e size) (based : e.base < 65536) (v 
   change_keeps (StZPlus r) h = store_keeps (e.kind (pair v.at 30)) (pair v.at 30) (v.at r) v (apart (pair v.at 30))
   change_keeps (LpmZ d) h = flash_keeps (e.table _) d _ _ v h
   change_keeps (LpmZPlus d) h = flash_keeps (e.table (pair v.at 30)) d (pair v.at 30) _ v h
+  change_keeps (Elpm d) h = rampz_keeps e.core _ v (flash_keeps (e.table (far_z v)) d (far_z v) _ v h)
+  change_keeps (ElpmInc d) h = rampz_keeps e.core _ v (flash_keeps (e.table (far_z v)) d (far_z v) _ v h)
   change_keeps (Push r) h = push_keeps (e.kind (sp v)) (v.at r) refl
   change_keeps (Pop d) h = pop_keeps (e.kind (raised (sp v))) d h
   change_keeps _ h = refl
@@ -162,6 +174,7 @@ module _ (e : Env) (size : ℕ) (fit : Fits e size) (based : e.base < 65536) (v 
   stacked Own h = absurd (false≢true h)
   stacked Object h = absurd (false≢true h)
   stacked Port h = absurd (false≢true h)
+  stacked Page h = absurd (false≢true h)
   stacked Barred h = absurd (false≢true h)
 
   call_keeps : (back : ℕ) → (on_stack (e.kind (sp v)) && on_stack (e.kind (lowered (sp v)))) ≡ true
@@ -232,6 +245,7 @@ free_shows e size m v h = record {
   bytes = h.bytes;
   at = h.at;
   flags = h.flags;
+  page = h.page;
   feeds = h.feeds;
   base = λ l. absurd (omega (arith, l));
 }
@@ -245,6 +259,7 @@ based_shows e size m v h holds = record {
   bytes = h.bytes;
   at = h.at;
   flags = h.flags;
+  page = h.page;
   feeds = h.feeds;
   base = holds;
 }

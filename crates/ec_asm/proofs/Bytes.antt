@@ -3,7 +3,7 @@ use Rattle.std.proofs.Common.{◌≡◌, ◌≢◌, ℕ, ◌+◌, ◌≤◌, tru
 use Rattle.std.proofs.lemmas.Bool.{ne_eqb, eq-eqb}
 use Rattle.ec_isa.specs.declared.instructions.Instr.{Instr}
 use Rattle.ec_asm.specs.View.{Flags, View, put}
-use Rattle.ec_asm.specs.Change.{Env, Kind, Own, Object, Port, Stacked, Barred, load_by, store_by, set, set_both}
+use Rattle.ec_asm.specs.Change.{Env, Kind, Own, Object, Port, Stacked, Page, Barred, load_by, store_by, set, set_both}
 use Rattle.ec_asm.specs.Items.{block}
 use Rattle.ec_asm.specs.declared.pieces.Location.{Location}
 use Rattle.ec_asm.specs.declared.pieces.Location.TheVariants.{InRegisters, InMemory}
@@ -34,6 +34,7 @@ copies_load Object a b v h = record {
 }
 copies_load Port a b v h = cc
 copies_load Stacked a b v h = cc
+copies_load Page a b v h = cc
 copies_load Barred a b v h = cc
 
 copies_store : (k : Kind) (a b : ℕ) (v : View) → is_held k ≡ true → Copies v (store_by k b (v.at a) v) a b Own k
@@ -55,6 +56,7 @@ copies_store Object a b v h = record {
 }
 copies_store Port a b v h = cc
 copies_store Stacked a b v h = cc
+copies_store Page a b v h = cc
 copies_store Barred a b v h = cc
 
 -- through R0

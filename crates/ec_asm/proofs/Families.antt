@@ -44,7 +44,7 @@ module _ (e : Env) (size : ℕ) (free : 65536 ≤ e.base) (big : 256 ≤ size) {
   sreg_byte = h.bytes 95
 
   pub set_shows : (d x : ℕ) → d < 32 → x < 256 → Shows e size core (with_data m d x) (set d x v)
-  set_shows d x l b = shows_byte e size free m v d x h (omega arith) (omega arith) b
+  set_shows d x l b = shows_byte e size free m v d x h (omega arith) (omega arith) (omega arith) b
 
   -- flags that are put together, alone and with a register
   flags_shown : (c z n o k : ℕ) → c ≤ 1 → z ≤ 1 → n ≤ 1 → o ≤ 1 → k ≤ 1
@@ -68,7 +68,8 @@ module _ (e : Env) (size : ℕ) (free : 65536 ≤ e.base) (big : 256 ≤ size) {
   pub pair_shows : (d x : ℕ) → d < 31 → x < 65536
       → Shows e size core (with_data (with_data m d (x % 256)) (d + 1) (x / 256)) (record v { at = put_pair v.at d x })
   pair_shows d x l b =
-      shows_byte e size free _ _ (d + 1) (x / 256) (set_shows d (x % 256) (omega arith) (omega arith)) (omega arith) (omega arith) (omega arith)
+      shows_byte e size free _ _ (d + 1) (x / 256) (set_shows d (x % 256) (omega arith) (omega arith)) (omega arith) (omega arith)
+      (omega arith) (omega arith)
 
   pub flags_and_pair : (d x c z n o k : ℕ) → d < 31 → x < 65536 → c ≤ 1 → z ≤ 1 → n ≤ 1 → o ≤ 1 → k ≤ 1
       → Shows e size core (with_data (with_data (with_data m d (x % 256)) (d + 1) (x / 256)) 95 (with_flags sreg c z n o k))

@@ -10,7 +10,7 @@ use Rattle.ec_asm.specs.declared.items.AsmItem.TheVariants.{Plain, Label, JumpTo
 use Rattle.ec_asm.specs.View.{View}
 use Rattle.ec_asm.specs.Change.{Env, change, goes_on, words}
 use Rattle.ec_asm.specs.Run.{Status, Running, act, step, run}
-use Rattle.ec_asm.specs.Items.{At, IsNear, LoadsAt, StoresAt, Stands, HasAt, is_straight, all_straight, item_steps, code_steps, item_change, block, chain, part_of}
+use Rattle.ec_asm.specs.Items.{At, IsNear, LoadsAt, StoresAt, Stands, HasAt, is_straight, all_straight, item_steps, code_steps, item_change, block, chain, address_part}
 use Rattle.ec_asm.specs.Takes.{Goes}
 use Rattle.ec_asm.specs.Laws.{ChainsHold}
 
@@ -72,7 +72,7 @@ item_goes e (Label l) pc end v h a = record { by = ap (λ n. Running n v) (sym a
 item_goes e (JumpTo l) pc end v h a = absurd (false≢true h)
 item_goes e (CallTo l) pc end v h a = absurd (false≢true h)
 item_goes e (BranchTo set flag l) pc end v h a = absurd (false≢true h)
-item_goes e (LoadPart d o k part) pc end v h a = one_goes e (Ldi d (part_of (e.address_of o k) part)) pc end v refl a
+item_goes e (LoadPart d o k part) pc end v h a = one_goes e (Ldi d (address_part e o k part)) pc end v refl a
 item_goes e (LoadObj d o k) pc end v h a = load_goes e d (e.address_of o k) pc end v a
 item_goes e (StoreObj o k r) pc end v h a = store_goes e (e.address_of o k) r pc end v a
 

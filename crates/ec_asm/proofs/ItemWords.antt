@@ -9,7 +9,7 @@ use Rattle.ec_asm.specs.declared.items.AsmItem.{AsmItem}
 use Rattle.ec_asm.specs.declared.items.AsmItem.TheVariants.{Plain, Label, JumpTo, CallTo, BranchTo, LoadPart, LoadObj, StoreObj}
 use Rattle.ec_asm.specs.declared.pieces.Location.TheVariants.{InRegisters, InMemory}
 use Rattle.ec_asm.specs.declared.pieces.Operator.TheVariants.{Sum}
-use Rattle.ec_asm.specs.Change.{Env, Kind, Own, Object, Port, Stacked, Barred, words}
+use Rattle.ec_asm.specs.Change.{Env, Kind, Own, Object, Port, Stacked, Page, Barred, words}
 use Rattle.ec_asm.specs.Items.{HasAt, Stands, is_straight, all_straight, item_words, code_words, chain}
 use Rattle.ec_asm.specs.Pieces.{StandsFrom, operate_byte}
 
@@ -109,6 +109,7 @@ not_near Own h q = cc
 not_near Object h q = absurd (false≢true h)
 not_near Port h q = cc
 not_near Stacked h q = cc
+not_near Page h q = cc
 not_near Barred h q = cc
 
 -- straight items in their long forms stand in as many words as they have

@@ -4,10 +4,12 @@ use Rattle.std.proofs.Common.{Option, Some, None, append-nil, append_assoc, zero
 use Rattle.std.specs.Prelude.{if◌then◌else◌, ◌==◌, IsTrue}
 use Rattle.std.specs.Int.{cast_signed, w16}
 use Rattle.std.proofs.lemmas.Bool.{and_parts, false≢true}
+use Rattle.ec_space.specs.declared.Core.{Core}
+use Rattle.ec_space.specs.declared.Core.TheVariants.{Small, Large}
 use Rattle.ec_isa.specs.declared.instructions.Instr.{Instr}
 use Rattle.ec_isa.specs.declared.instructions.Instr.TheVariants.{Nop, Movw, Cpc, Sbc, Add, Cpse, Cp, Sub, Adc, And, Eor, Or, Mov, Mul, Cpi}
 use Rattle.ec_isa.specs.declared.instructions.Instr.TheVariants.{Sbci, Subi, Ori, Andi, Ldi, LddZ, LddY, StdZ, StdY, Lds, Sts, LdX, StX}
-use Rattle.ec_isa.specs.declared.instructions.Instr.TheVariants.{LpmZ, LdXPlus, LdZPlus, StXPlus, StZPlus, LpmZPlus, Pop, Push, Com, Neg}
+use Rattle.ec_isa.specs.declared.instructions.Instr.TheVariants.{LpmZ, LdXPlus, LdZPlus, StXPlus, StZPlus, LpmZPlus, Elpm, ElpmInc, Pop, Push, Com, Neg}
 use Rattle.ec_isa.specs.declared.instructions.Instr.TheVariants.{Swap, Inc, Asr, Lsr, Ror, Dec, Bset, Bclr, Adiw, Sbiw, In as InInstr}
 use Rattle.ec_isa.specs.declared.instructions.Instr.TheVariants.{Out as OutInstr, Bst, Jmp, Call, Ret, Break, Rjmp, Rcall, Brbs, Brbc, Sbrc}
 use Rattle.ec_isa.specs.declared.instructions.Instr.TheVariants.{Sbrs}
@@ -19,8 +21,8 @@ use Rattle.ec_avr.specs.Laws.{SetsOneBit}
 use Rattle.ec_avr.specs.Machine.{State, EndedWith, machine, step as m_step, needs_port, is_whole, answer_of, machine_result}
 use Rattle.ec_avr.specs.State.{raised, lowered, word_at, sreg, flag, register}
 use Rattle.ec_asm.specs.View.{View, pair}
-use Rattle.ec_asm.specs.Change.{Env, Kind, Own, Object, Port, Stacked, Barred, unbased, change, goes_on, words, sp, load_by, store_by, flash_by}
-use Rattle.ec_asm.specs.Change.{push_by, pop_by, flag_at}
+use Rattle.ec_asm.specs.Change.{Env, Kind, Own, Object, Port, Stacked, Page, Barred, unbased, change, goes_on, words, sp, load_by, store_by}
+use Rattle.ec_asm.specs.Change.{flash_by, by_rampz, push_by, pop_by, flag_at}
 use Rattle.ec_asm.specs.Run.{Status, Running, Ended, Stuck, act, run, fetch, pushed, popped, back_at, on_stack, is_flag, skip_to, keeps_base}
 use Rattle.ec_asm.specs.Shows.{HoldsBase, Shows, Fits, Moves, Follows, after, port_of, noted, noted_all, RunsAs}
 use Rattle.ec_asm.proofs.Shown.{shows_byte, reads}
@@ -39,6 +41,7 @@ load_unsafe Own d a v h = h
 load_unsafe Object d a v h = h
 load_unsafe Port d a v h = h
 load_unsafe Stacked d a v h = refl
+load_unsafe Page d a v h = refl
 load_unsafe Barred d a v h = refl
 
 store_unsafe : (k : Kind) (a x : ℕ) (v : View) → v.safe ≡ false → (store_by k a x v).safe ≡ false
@@ -46,6 +49,7 @@ store_unsafe Own a x v h = h
 store_unsafe Object a x v h = h
 store_unsafe Port a x v h = h
 store_unsafe Stacked a x v h = refl
+store_unsafe Page a x v h = h
 store_unsafe Barred a x v h = refl
 
 flash_unsafe : (k : Kind) (d a x : ℕ) (v : View) → v.safe ≡ false → (flash_by k d a x v).safe ≡ false
@@ -53,6 +57,7 @@ flash_unsafe Own d a x v h = h
 flash_unsafe Object d a x v h = h
 flash_unsafe Port d a x v h = refl
 flash_unsafe Stacked d a x v h = refl
+flash_unsafe Page d a x v h = refl
 flash_unsafe Barred d a x v h = refl
 
 push_unsafe : (k : Kind) (x : ℕ) (v : View) → v.safe ≡ false → (push_by k x v).safe ≡ false
@@ -60,6 +65,7 @@ push_unsafe Stacked x v h = h
 push_unsafe Own x v h = refl
 push_unsafe Object x v h = refl
 push_unsafe Port x v h = refl
+push_unsafe Page x v h = refl
 push_unsafe Barred x v h = refl
 
 pop_unsafe : (k : Kind) (d : ℕ) (v : View) → v.safe ≡ false → (pop_by k d v).safe ≡ false
@@ -67,7 +73,12 @@ pop_unsafe Stacked d v h = h
 pop_unsafe Own d v h = refl
 pop_unsafe Object d v h = refl
 pop_unsafe Port d v h = refl
+pop_unsafe Page d v h = refl
 pop_unsafe Barred d v h = refl
+
+rampz_unsafe : (core : Core) (w v : View) → w.safe ≡ false → (by_rampz core w v).safe ≡ false
+rampz_unsafe Small w v h = refl
+rampz_unsafe Large w v h = h
 
 pub change_unsafe : (e : Env) (i : Instr) (v : View) → v.safe ≡ false → (change e i v).safe ≡ false
 change_unsafe e Nop v h = h
@@ -118,6 +129,8 @@ change_unsafe e (LdZPlus d) v h = load_unsafe (e.kind _) d _ v h
 change_unsafe e (StXPlus r) v h = store_unsafe (e.kind _) _ _ v h
 change_unsafe e (StZPlus r) v h = store_unsafe (e.kind _) _ _ v h
 change_unsafe e (LpmZPlus d) v h = flash_unsafe (e.table _) d _ _ v h
+change_unsafe e (Elpm d) v h = rampz_unsafe e.core _ v (flash_unsafe (e.table _) d _ _ v h)
+change_unsafe e (ElpmInc d) v h = rampz_unsafe e.core _ v (flash_unsafe (e.table _) d _ _ v h)
 change_unsafe e (Push r) v h = push_unsafe (e.kind _) _ v h
 change_unsafe e (Pop d) v h = pop_unsafe (e.kind _) d v h
 change_unsafe e _ v h = refl
@@ -159,8 +172,8 @@ run_unsafe e (suc m) Stuck h = run_unsafe e m Stuck tt
 result_shown : (e : Env) (size : ℕ) (s : State) (v : View) → Shows e size s.core s.mem v
     → machine_result s ≡ cast_signed w16 (pair v.at 24)
 result_shown e size s v h =
-    let p = reads e size s.mem v 24 h (omega arith) in
-    let q = reads e size s.mem v 25 h (omega arith) in
+    let p = reads e size s.mem v 24 h (omega arith) (omega arith) in
+    let q = reads e size s.mem v 25 h (omega arith) (omega arith) in
     rw (p, q) refl
 
 abbrev IsMove : (e : Env) (size : ℕ) (v : View) (port : Option ℕ) (x : After) → Status → Type 0
@@ -173,6 +186,7 @@ on_stack_is Stacked h = refl
 on_stack_is Own h = absurd (false≢true h)
 on_stack_is Object h = absurd (false≢true h)
 on_stack_is Port h = absurd (false≢true h)
+on_stack_is Page h = absurd (false≢true h)
 on_stack_is Barred h = absurd (false≢true h)
 
 module _ (laws : StepLaws) (e : Env) (size : ℕ) (free : 65536 ≤ e.base) (fit : Fits e size) (s : State) (v : View)
@@ -217,8 +231,8 @@ module _ (laws : StepLaws) (e : Env) (size : ℕ) (free : 65536 ≤ e.base) (fit
         ran = rw (t, a.2, b.2) refl;
         pc = rw (t, a.2, b.2) refl;
         shows = rw (t, a.2, b.2) (sp_set e size free fit s v h _ _ (lowered (lowered (sp v))) (shows_byte e size free _ _ (lowered (sp v))
-            (back / 256 % 256) (shows_byte e size free s.mem v (sp v) (back % 256) h a.1 (let g = a.0 in omega arith) (omega arith)) b.1
-            (let g = b.0 in omega arith) (omega arith)) (omega arith));
+            (back / 256 % 256) (shows_byte e size free s.mem v (sp v) (back % 256) h a.1 (let g = a.0 in omega arith) (let g = a.0 in omega arith)
+            (omega arith)) b.1 (let g = b.0 in omega arith) (let g = b.0 in omega arith) (omega arith)) (omega arith));
         seen = sym (append-nil v.seen);
         inputs = refl;
       }
@@ -232,7 +246,7 @@ module _ (laws : StepLaws) (e : Env) (size : ℕ) (free : 65536 ≤ e.base) (fit
       subst (λ n. Moves e size v v n None (skip other s)) (sym p) (jumped to (skip other s) refl)
 
   byte_read : (d : ℕ) → d < 32 → v.at d ≡ register s d
-  byte_read d l = sym (reads e size s.mem v d h (omega arith))
+  byte_read d l = sym (reads e size s.mem v d h (omega arith) (omega arith))
 
   returned : (u : Bool) → (on_stack (e.kind (raised (sp v))) && on_stack (e.kind (raised (raised (sp v))))) ≡ u
       → IsMove e size v None (effect (Some Ret) 0 s) (if u then Running (back_at v % 65536) (popped v) else Stuck)
@@ -243,8 +257,8 @@ module _ (laws : StepLaws) (e : Env) (size : ℕ) (free : 65536 ≤ e.base) (fit
       let a = stacked_at e size fit s v h (raised (sp v)) (on_stack_is _ p.0) in
       let b = stacked_at e size fit s v h (raised (raised (sp v))) (on_stack_is _ p.1) in
       let t = sp_shown e size fit s v h in
-      let ra = reads e size s.mem v (raised (sp v)) h (let g = a.0 in omega arith) in
-      let rb = reads e size s.mem v (raised (raised (sp v))) h (let g = b.0 in omega arith) in
+      let ra = reads e size s.mem v (raised (sp v)) h (let g = a.0 in omega arith) (let g = a.0 in omega arith) in
+      let rb = reads e size s.mem v (raised (raised (sp v))) h (let g = b.0 in omega arith) (let g = b.0 in omega arith) in
       record {
         access = Stack;
         ran = rw (t, a.2, b.2) refl;

@@ -17,7 +17,7 @@ use Rattle.ec_asm.specs.declared.items.AsmItem.{AsmItem}
 use Rattle.ec_asm.specs.declared.items.AsmItem.TheVariants.{Plain, Label, JumpTo, CallTo, BranchTo, LoadPart, LoadObj, StoreObj}
 use Rattle.ec_asm.specs.Change.{Env, words}
 use Rattle.ec_asm.specs.Run.{fetch}
-use Rattle.ec_asm.specs.Items.{At, Stands, HasAt, BranchesAt, branch_if, branch_unless, item_words, code_words, part_of, distance}
+use Rattle.ec_asm.specs.Items.{At, Stands, HasAt, BranchesAt, branch_if, branch_unless, item_words, code_words, address_part, distance}
 use Rattle.ec_asm.proofs.Fetched.{fetch_kept, free_keeps}
 use Rattle.ec_asm.proofs.ItemWords.{words_cons}
 use Rattle.ec_asm.specs.Placed.{instructions, bytes_of_all, code_image, LabelStands, HoldsFrom, IsPlaced}
@@ -123,7 +123,7 @@ item_stands laws e (JumpTo l) pc free t q h r =
 item_stands laws e (CallTo l) pc free t q h r =
     inl (one_stands laws e (Call (e.word_of l)) pc free t h r, call_below (e.word_of l) (and_parts (in_table (Call (e.word_of l))) true t).0)
 item_stands laws e (BranchTo set flag l) pc free t q h r = branch_stands laws e set flag l pc free t h r
-item_stands laws e (LoadPart d o k part) pc free t q h r = one_stands laws e (Ldi d (part_of (e.address_of o k) part)) pc free t h r
+item_stands laws e (LoadPart d o k part) pc free t q h r = one_stands laws e (Ldi d (address_part e o k part)) pc free t h r
 item_stands laws e (LoadObj d o k) pc free t q h r = inl (one_stands laws e (Lds d (e.address_of o k)) pc free t h r)
 item_stands laws e (StoreObj o k r') pc free t q h r = inl (one_stands laws e (Sts (e.address_of o k) r') pc free t h r)
 

@@ -1,5 +1,5 @@
 -- Writes, as the view shows them.
-use Rattle.std.proofs.Common.{◌≡◌, ◌≢◌, ℕ, ◌+◌, ◌/◌, ◌%◌, ◌^◌, ◌<◌, ◌≤◌, List, length, refl, sym, ap, ◌∙◌, arith, ⊎_elim}
+use Rattle.std.proofs.Common.{◌≡◌, ◌≢◌, ℕ, ◌+◌, ◌/◌, ◌%◌, ◌^◌, ◌<◌, ◌≤◌, true, List, length, refl, sym, ap, ◌∙◌, subst, arith, ⊎_elim}
 use Rattle.std.specs.Prelude.{slice_index, slice_set}
 use Rattle.std.proofs.lemmas.Bool.{cases_eq, ne_eqb}
 use Rattle.std.proofs.lemmas.Bool.Decides.{nat_tests}
@@ -11,7 +11,7 @@ use Rattle.ec_space.specs.Memory.{Memory}
 use Rattle.ec_space.specs.declared.Core.{Core}
 use Rattle.ec_avr.specs.Flags.{with_flags}
 pub use Rattle.ec_avr.proofs.Bits.{bit_below, bool_below, product_of_bits}
-use Rattle.ec_asm.specs.View.{Flags, View, put, bytes_of, flags_of}
+use Rattle.ec_asm.specs.View.{Flags, View, put, is_apart, bytes_of, flags_of}
 use Rattle.ec_asm.specs.Change.{Env, flags_with}
 use Rattle.ec_asm.specs.Shows.{Shows}
 
@@ -35,26 +35,27 @@ with_flags_below old c z n v h b p q r s t = omega arith
 
 -- ---- bytes
 
-byte-set : (l : List ℕ) (a x : ℕ) → a < length l → a ≢ 95 → (k : ℕ)
+byte-set : (l : List ℕ) (a x : ℕ) → a < length l → a ≢ 95 → a ≢ 91 → (k : ℕ)
     → bytes_of (slice_set l a x) k ≡ put (bytes_of l) a x k
-byte-set l a x h n k =
+byte-set l a x h n m k =
     ⊎_elim
     (λ e. let q = get_or-set_same l a x 0 h in grind (arith, nat_tests))
     (λ o. let q = get_or-set_other l a k x 0 o in grind (arith, nat_tests))
     (cases_eq k a)
 
-byte-set_sreg : (l : List ℕ) (x k : ℕ) → bytes_of (slice_set l 95 x) k ≡ bytes_of l k
-byte-set_sreg l x k =
+-- a byte that the view has apart
+byte-set_apart : (l : List ℕ) (a x k : ℕ) → is_apart a ≡ true → bytes_of (slice_set l a x) k ≡ bytes_of l k
+byte-set_apart l a x k n =
     ⊎_elim
-    (λ e. grind (arith, nat_tests))
-    (λ o. let q = get_or-set_other l 95 k x 0 o in grind (arith, nat_tests))
-    (cases_eq k 95)
+    (λ (e : k ≡ a). let m : is_apart k ≡ true = subst (λ (j : ℕ). is_apart j ≡ true) (sym e) n in rw m refl)
+    (λ o. let q = get_or-set_other l a k x 0 o in rw q refl)
+    (cases_eq k a)
 
-bytes-set : (l : List ℕ) (a x : ℕ) → a < length l → a ≢ 95 → bytes_of (slice_set l a x) ≡ put (bytes_of l) a x
-bytes-set l a x h n = λ i k. byte-set l a x h n k i
+bytes-set : (l : List ℕ) (a x : ℕ) → a < length l → a ≢ 95 → a ≢ 91 → bytes_of (slice_set l a x) ≡ put (bytes_of l) a x
+bytes-set l a x h n m = λ i k. byte-set l a x h n m k i
 
-bytes-set_sreg : (l : List ℕ) (x : ℕ) → bytes_of (slice_set l 95 x) ≡ bytes_of l
-bytes-set_sreg l x = λ i k. byte-set_sreg l x k i
+bytes-set_apart : (l : List ℕ) (a x : ℕ) → is_apart a ≡ true → bytes_of (slice_set l a x) ≡ bytes_of l
+bytes-set_apart l a x n = λ i k. byte-set_apart l a x k n i
 
 pub are_bytes-set : (l : List ℕ) (a x : ℕ) → AreBytes l → a < length l → x < 256 → AreBytes (slice_set l a x)
 are_bytes-set l a x h m b k =
@@ -66,22 +67,24 @@ abbrev pub with_data : Memory → ℕ → ℕ → Memory
 with_data m a x = record m { «data» = slice_set m.data a x }
 
 -- a byte that is read
-pub reads : {core : Core} (e : Env) (size : ℕ) (m : Memory) (v : View) (a : ℕ) → Shows e size core m v → a ≢ 95 → slice_index m.data a ≡ v.at a
-reads e size m v a h n = let q = ne_eqb a 95 n in sym (ap (λ f. f a) h.at ∙ rw q refl)
+pub reads : {core : Core} (e : Env) (size : ℕ) (m : Memory) (v : View) (a : ℕ) → Shows e size core m v → a ≢ 95 → a ≢ 91
+    → slice_index m.data a ≡ v.at a
+reads e size m v a h n o = let q = ne_eqb a 95 n in let r = ne_eqb a 91 o in sym (ap (λ f. f a) h.at ∙ rw (q, r) refl)
 
 -- where Y is free
 module _ (e : Env) (size : ℕ) (free : 65536 ≤ e.base) where
-  pub shows_byte : {core : Core} (m : Memory) (v : View) (a x : ℕ) → Shows e size core m v → a < size → a ≢ 95 → x < 256
+  pub shows_byte : {core : Core} (m : Memory) (v : View) (a x : ℕ) → Shows e size core m v → a < size → a ≢ 95 → a ≢ 91 → x < 256
       → Shows e size core (with_data m a x) (record v { at = put v.at a x })
-  shows_byte m v a x h l n b =
+  shows_byte m v a x h l n o b =
       let len = h.sized in
       record {
         same = h.same;
         flash = h.flash;
         sized = length-set m.data a x ∙ h.sized;
         bytes = are_bytes-set m.data a x h.bytes (omega arith) b;
-        at = ap (λ f. put f a x) h.at ∙ sym (bytes-set m.data a x (omega arith) n);
+        at = ap (λ f. put f a x) h.at ∙ sym (bytes-set m.data a x (omega arith) n o);
         flags = h.flags ∙ ap flags_of (sym (get_or-set_other m.data a 95 x 0 (λ q. n (sym q))));
+        page = h.page ∙ sym (get_or-set_other m.data a 91 x 0 (λ q. o (sym q)));
         feeds = h.feeds;
         base = λ l. absurd (omega (arith, free, l));
       }
@@ -95,8 +98,25 @@ module _ (e : Env) (size : ℕ) (free : 65536 ≤ e.base) where
         flash = h.flash;
         sized = length-set m.data 95 w ∙ h.sized;
         bytes = are_bytes-set m.data 95 w h.bytes (omega arith) b;
-        at = h.at ∙ sym (bytes-set_sreg m.data w);
+        at = h.at ∙ sym (bytes-set_apart m.data 95 w refl);
         flags = sym q ∙ ap flags_of (sym (get_or-set_same m.data 95 w 0 (omega arith)));
+        page = h.page ∙ sym (get_or-set_other m.data 95 91 w 0 (omega arith));
+        feeds = h.feeds;
+        base = λ l. absurd (omega (arith, free, l));
+      }
+
+  pub shows_page : {core : Core} (m : Memory) (v : View) (x : ℕ) → Shows e size core m v → 256 ≤ size → x < 256
+      → Shows e size core (with_data m 91 x) (record v { page = x })
+  shows_page m v x h l b =
+      let len = h.sized in
+      record {
+        same = h.same;
+        flash = h.flash;
+        sized = length-set m.data 91 x ∙ h.sized;
+        bytes = are_bytes-set m.data 91 x h.bytes (omega arith) b;
+        at = h.at ∙ sym (bytes-set_apart m.data 91 x refl);
+        flags = h.flags ∙ ap flags_of (sym (get_or-set_other m.data 91 95 x 0 (omega arith)));
+        page = sym (get_or-set_same m.data 91 x 0 (omega arith));
         feeds = h.feeds;
         base = λ l. absurd (omega (arith, free, l));
       }

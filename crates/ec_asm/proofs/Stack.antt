@@ -11,7 +11,7 @@ use Rattle.ec_avr.specs.Machine.{State, Run, Running as MRunning, EndedWith, Fau
 use Rattle.ec_avr.specs.Placed.{stack_bytes, stack_bytes_of}
 use Rattle.ec_avr.specs.State.{raised, lowered, stack_pointer}
 use Rattle.ec_asm.specs.View.{View}
-use Rattle.ec_asm.specs.Change.{Env, Kind, Own, Object, Port, Stacked, Barred, sp, push_by, pop_by}
+use Rattle.ec_asm.specs.Change.{Env, Kind, Own, Object, Port, Stacked, Page, Barred, sp, push_by, pop_by}
 use Rattle.ec_asm.specs.Run.{Status, Running, Ended, Stuck, act, step, run, fetch, on_stack, is_safe}
 use Rattle.ec_asm.specs.Shows.{Shows, Fits, RunsAs}
 use Rattle.ec_asm.proofs.Accesses.{sp_shown}
@@ -25,6 +25,7 @@ push_stacked Stacked x v h = refl
 push_stacked Own x v h = absurd (false≢true h)
 push_stacked Object x v h = absurd (false≢true h)
 push_stacked Port x v h = absurd (false≢true h)
+push_stacked Page x v h = absurd (false≢true h)
 push_stacked Barred x v h = absurd (false≢true h)
 
 pop_stacked : (k : Kind) (d : ℕ) (v : View) → (pop_by k d v).safe ≡ true → k ≡ Stacked
@@ -32,6 +33,7 @@ pop_stacked Stacked d v h = refl
 pop_stacked Own d v h = absurd (false≢true h)
 pop_stacked Object d v h = absurd (false≢true h)
 pop_stacked Port d v h = absurd (false≢true h)
+pop_stacked Page d v h = absurd (false≢true h)
 pop_stacked Barred d v h = absurd (false≢true h)
 
 where_safe : (b : Bool) (st : Status) → is_safe (if b then st else Stuck) ≡ true → IsTrue b

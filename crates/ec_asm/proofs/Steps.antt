@@ -8,7 +8,7 @@ use Rattle.ec_space.specs.Memory.{Memory}
 use Rattle.ec_isa.specs.declared.instructions.Instr.{Instr}
 use Rattle.ec_isa.specs.declared.instructions.Instr.TheVariants.{Nop, Movw, Cpc, Sbc, Add, Cp, Sub, Adc, And, Eor, Or, Mov, Mul, Cpi, Sbci}
 use Rattle.ec_isa.specs.declared.instructions.Instr.TheVariants.{Subi, Ori, Andi, Ldi, LddZ, LddY, StdZ, StdY, Lds, Sts, LdX, StX, LpmZ}
-use Rattle.ec_isa.specs.declared.instructions.Instr.TheVariants.{LdXPlus, LdZPlus, StXPlus, StZPlus, LpmZPlus, Pop, Push, Com, Neg, Swap}
+use Rattle.ec_isa.specs.declared.instructions.Instr.TheVariants.{LdXPlus, LdZPlus, StXPlus, StZPlus, LpmZPlus, Elpm, ElpmInc, Pop, Push, Com, Neg, Swap}
 use Rattle.ec_isa.specs.declared.instructions.Instr.TheVariants.{Inc, Asr, Lsr, Ror, Dec, Bset, Bclr, Adiw, Sbiw, In as InInstr}
 use Rattle.ec_isa.specs.declared.instructions.Instr.TheVariants.{Out as OutInstr, Bst}
 use Rattle.ec_isa.specs.Formats.{is_register}
@@ -18,15 +18,17 @@ use Rattle.ec_avr.specs.Machine.{State, answer_of, port_at}
 use Rattle.ec_space.specs.declared.space.Bank.TheVariants.{Flash as FlashBank}
 use Rattle.ec_avr.specs.declared.machine.Access.TheVariants.{Read}
 use Rattle.ec_avr.specs.Effects.{effect, load, store, push, load_and_raise, store_and_raise, load_flash_and_raise, loaded, stored}
+use Rattle.ec_avr.specs.Effects.{load_far, load_far_and_raise, if_rampz}
 use Rattle.ec_avr.specs.Effects.{load_access, store_access}
-use Rattle.ec_avr.specs.State.{pair as m_pair, with_register, with_pair, raised}
+use Rattle.ec_avr.specs.State.{pair as m_pair, far_pointer, with_register, with_pair, raised, raised_far}
 use Rattle.ec_asm.specs.View.{View, flags_of, pair, put_pair}
-use Rattle.ec_asm.specs.Change.{Env, y_of, change, sp, load_by, store_by, flash_by, move_to, flag_put}
+use Rattle.ec_asm.specs.Change.{Env, y_of, change, sp, load_by, store_by, flash_by, move_to, move_far, far_z, flag_put}
 use Rattle.ec_asm.specs.Shows.{Shows, Fits, Does, Follows}
 use Rattle.ec_asm.proofs.Shown.{bool_below, bit_below, with_data, shows_sreg, reads}
 use Rattle.ec_asm.proofs.Families.{silent_follows, set_shows, pair_shows, sum_shows, difference_shows, compare_shows, result_shows}
 use Rattle.ec_asm.proofs.Families.{shift_shows, complement_shows, pair_sum_shows, pair_difference_shows, carry_shown, zero_shown}
-use Rattle.ec_asm.proofs.Accesses.{load_does, store_does, flash_does, push_does, pop_does, moved_does}
+use Rattle.ec_asm.proofs.Accesses.{load_does, store_does, flash_does, push_does, pop_does, moved_does, rampz_does}
+use Rattle.ec_asm.proofs.Accesses.{far_moved_does}
 use Rattle.ec_avr.specs.Laws.{SetsOneBit}
 use Rattle.ec_avr.proofs.Bits.{with_bit_below}
 use Rattle.ec_asm.proofs.Single.{flags-with_bit}
@@ -63,7 +65,7 @@ module _ (one_bit : SetsOneBit) (e : Env) (size : ℕ) (free : 65536 ≤ e.base)
   byte a = h.bytes a
 
   r : (d : ℕ) → d < 32 → v.at d ≡ slice_index m.data d
-  r d l = sym (reads e size m v d h (omega arith))
+  r d l = sym (reads e size m v d h (omega arith) (omega arith))
 
   c : v.flags.c ≡ bit_at (slice_index m.data 95) 0
   c = carry_shown e size free fit.ports m v h
@@ -132,7 +134,26 @@ module _ (one_bit : SetsOneBit) (e : Env) (size : ℕ) (free : 65536 ≤ e.base)
       subst (λ x. Does e size s v (move_to 30 (raised x) w) 1 None (load_flash_and_raise d s)) (sym p)
       (moved_does e size free fit s v h (nat_lt a (length m.flash)) (Read FlashBank a (slice_index m.flash a))
       (with_register s d (slice_index m.flash a)) w None 30 (raised a) (omega arith) (omega arith)
-      (flash_does e size free fit s v h d (pair v.at 30) (e.table (pair v.at 30)) refl l p safe))
+      (flash_does e size free fit s v h d (pair v.at 30) a (e.table (pair v.at 30)) refl l p safe))
+
+  far_read : far_z v ≡ far_pointer s
+  far_read = let p = h.page in let q = pair_read 30 (omega arith) in rw (p, q) refl
+
+  far_loads : (d : ℕ) → d < 32 → (change e (Elpm d) v).safe ≡ true → Does e size s v (change e (Elpm d) v) 1 None (if_rampz (load_far d) s)
+  far_loads d l safe =
+      rampz_does e size free fit s v h _ (load_far d) safe
+      (λ ok. flash_does e size free fit s v h d (far_z v) (far_pointer s) (e.table (far_z v)) refl l far_read ok)
+
+  far_loads_and_raises : (d : ℕ) → d < 32 → (change e (ElpmInc d) v).safe ≡ true
+      → Does e size s v (change e (ElpmInc d) v) 1 None (if_rampz (load_far_and_raise d) s)
+  far_loads_and_raises d l safe =
+      let a = far_pointer s in
+      let w = flash_by (e.table (far_z v)) d (far_z v) (slice_index e.flash (far_z v)) v in
+      rampz_does e size free fit s v h (move_far (raised_far (far_z v)) w) (load_far_and_raise d) safe
+      (λ ok. subst (λ x. Does e size s v (move_far (raised_far x) w) 1 None (load_far_and_raise d s)) (sym far_read)
+      (far_moved_does e size free fit s v h (nat_lt a (length m.flash)) (Read FlashBank a (slice_index m.flash a))
+      (with_register s d (slice_index m.flash a)) w None (raised_far a) (omega arith)
+      (flash_does e size free fit s v h d (far_z v) a (e.table (far_z v)) refl l far_read ok)))
 
   place : (k q : ℕ) → IsTrue (is_register k && nat_lt q 64) → k < 32
   place k q f = ltb-true k 32 (and_parts (is_register k) (nat_lt q 64) f).0
@@ -314,12 +335,14 @@ module _ (one_bit : SetsOneBit) (e : Env) (size : ℕ) (free : 65536 ≤ e.base)
   follows (StdY q d) f safe = stores _ _ d 1 (ap (λ n. (n + q) % 65536) y_read) (place d q f) safe
   follows (StX d) f safe = stores _ _ d 1 (pair_read 26 (omega arith)) (ltb-true d 32 f) safe
   follows (LpmZ d) f safe =
-      flash_does e size free fit s v h d (pair v.at 30) (e.table (pair v.at 30)) refl (ltb-true d 32 f) (pair_read 30 (omega arith)) safe
+      flash_does e size free fit s v h d (pair v.at 30) (m_pair s 30) (e.table (pair v.at 30)) refl (ltb-true d 32 f) (pair_read 30 (omega arith)) safe
   follows (LdXPlus d) f safe = loads_and_raises d 26 (omega arith) (beside 26 d f) safe
   follows (LdZPlus d) f safe = loads_and_raises d 30 (omega arith) (beside 30 d f) safe
   follows (StXPlus d) f safe = stores_and_raises 26 d (omega arith) (beside 26 d f) safe
   follows (StZPlus d) f safe = stores_and_raises 30 d (omega arith) (beside 30 d f) safe
   follows (LpmZPlus d) f safe = flash_and_raises d (beside 30 d f) safe
+  follows (Elpm d) f safe = far_loads d (ltb-true d 32 f) safe
+  follows (ElpmInc d) f safe = far_loads_and_raises d (beside 30 d f) safe
   follows (Push d) f safe =
       let q = r d (ltb-true d 32 f) in
       subst (λ x. Does e size s v (change e (Push d) v) 1 None (push x s)) q

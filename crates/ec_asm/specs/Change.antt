@@ -9,13 +9,14 @@ use Rattle.ec_isa.specs.declared.instructions.Instr.TheVariants.{Nop, Movw, Cpc,
 use Rattle.ec_isa.specs.declared.instructions.Instr.TheVariants.{Or, Mov, Mul, Cpi, Sbci, Subi, Ori, Andi, Ldi, LddZ}
 use Rattle.ec_isa.specs.declared.instructions.Instr.TheVariants.{LddY, StdZ, StdY, Lds, Sts, LdZPlus, LdX, LdXPlus}
 use Rattle.ec_isa.specs.declared.instructions.Instr.TheVariants.{StZPlus, StX, StXPlus, LpmZ, LpmZPlus, Pop, Push, Com}
+use Rattle.ec_isa.specs.declared.instructions.Instr.TheVariants.{Elpm, ElpmInc}
 use Rattle.ec_isa.specs.declared.instructions.Instr.TheVariants.{Neg, Swap, Inc, Asr, Lsr, Ror, Dec, Bset, Bclr, Ijmp}
 use Rattle.ec_isa.specs.declared.instructions.Instr.TheVariants.{Icall, Ret, Break, Jmp, Call, Adiw, Sbiw}
 use Rattle.ec_isa.specs.declared.instructions.Instr.TheVariants.{In as InInstr, Out as OutInstr, Rjmp, Rcall, Brbs}
 use Rattle.ec_isa.specs.declared.instructions.Instr.TheVariants.{Brbc, Bst, Sbrc, Sbrs}
 use Rattle.ec_avr.specs.declared.machine.Access.{Access}
 use Rattle.ec_avr.specs.declared.machine.Access.TheVariants.{In, Out, Read, Write}
-use Rattle.ec_avr.specs.State.{raised, lowered}
+use Rattle.ec_avr.specs.State.{has_rampz, raised, raised_far, lowered}
 use Rattle.ec_avr.specs.Flags.{byte_sum, byte_difference, sum_overflow, difference_overflow, pair_sum, pair_difference}
 use Rattle.ec_avr.specs.Flags.{shifted}
 use Rattle.ec_avr.specs.Machine.{Inputs}
@@ -23,22 +24,24 @@ use Rattle.ec_asm.specs.View.{Flags, View, put, pair, put_pair}
 pub use Rattle.ec_asm.specs.Bytes.{words}
 
 -- what stands at a data address, for the code that is looked at: a place of its own, a byte of an object, a port, a
--- byte of the stack, or what it must not touch
+-- byte of the stack, RAMPZ, or what it must not touch
 pub data Kind : Type 0 where
   Own : Kind
   Object : Kind
   Port : Kind
   Stacked : Kind
+  Page : Kind
   Barred : Kind
 
--- What is outside the code: the core, the flash, the word of each label (65,536 or more for one that has none), the address of
--- each byte of an object, the base, which is the address that Y holds all along (65,536 or more where Y is free), what
--- stands at each data address, and what at each address of the flash
+-- What is outside the code: the core, the flash, the word of each label (65,536 or more for one that has none), the
+-- address of each byte of an object, modulo 65,536 and whole, the base, which is the address that Y holds all along
+-- (65,536 or more where Y is free), what stands at each data address, and what at each address of the flash
 pub record Env : Type 0 where
   pub core : Core
   pub flash : List ℕ
   pub word_of : ℕ → ℕ
   pub address_of : ℕ → ℕ → ℕ
+  pub far_of : ℕ → ℕ → ℕ
   pub base : ℕ
   pub kind : ℕ → Kind
   pub table : ℕ → Kind
@@ -134,6 +137,7 @@ load_by Object d a v = see (Read DataBank a (v.at a)) (set d (v.at a) v)
 load_by Port d a v =
     record v { at = put v.at d (given v a); inputs = taken v.inputs a; seen = v.seen ++ In a (given v a) ∷ [] }
 load_by Stacked d a v = bar v
+load_by Page d a v = bar v
 load_by Barred d a v = bar v
 
 abbrev pub store_by : Kind → (a x : ℕ) → View → View
@@ -141,6 +145,7 @@ store_by Own a x v = set a x v
 store_by Object a x v = see (Write a x) (set a x v)
 store_by Port a x v = see (Out a x) v
 store_by Stacked a x v = bar v
+store_by Page a x v = record v { page = x }
 store_by Barred a x v = bar v
 
 abbrev pub flash_by : Kind → (d a x : ℕ) → View → View
@@ -148,11 +153,23 @@ flash_by Own d a x v = set d x v
 flash_by Object d a x v = see (Read FlashBank a x) (set d x v)
 flash_by Port d a x v = bar v
 flash_by Stacked d a x v = bar v
+flash_by Page d a x v = bar v
 flash_by Barred d a x v = bar v
 
 -- a pointer is set to an address
 abbrev pub move_to : (pointer at : ℕ) → View → View
 move_to pointer at v = record v { at = put_pair v.at pointer at }
+
+-- the number in RAMPZ:Z, and what is left where it is set
+abbrev pub far_z : View → ℕ
+far_z v = 65536 * v.page + pair v.at 30
+
+abbrev pub move_far : ℕ → View → View
+move_far n v = record v { at = put_pair v.at 30 (n % 65536); page = n / 65536 }
+
+-- what needs RAMPZ is barred on a core that has none
+abbrev pub by_rampz : Core → View → View → View
+by_rampz core w v = if has_rampz core then w else bar v
 
 -- the stack pointer
 abbrev pub sp : View → ℕ
@@ -228,6 +245,10 @@ change e (StZPlus r) v = let a = pair v.at 30 in move_to 30 (raised a) (store_by
 change e (LpmZPlus d) v =
     let a = pair v.at 30 in
     move_to 30 (raised a) (flash_by (e.table a) d a (slice_index e.flash a) v)
+change e (Elpm d) v = let a = far_z v in by_rampz e.core (flash_by (e.table a) d a (slice_index e.flash a) v) v
+change e (ElpmInc d) v =
+    let a = far_z v in
+    by_rampz e.core (move_far (raised_far a) (flash_by (e.table a) d a (slice_index e.flash a) v)) v
 change e (Push r) v = push_by (e.kind (sp v)) (v.at r) v
 change e (Pop d) v = pop_by (e.kind (raised (sp v))) d v
 change e _ v = bar v

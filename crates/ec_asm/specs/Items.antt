@@ -67,6 +67,10 @@ StoresAt e a r pc end = At e (Sts a r) pc end ⊎ ((q : ℕ) × At e (StdY q r) 
 abbrev pub part_of : ℕ → ℕ → ℕ
 part_of n part = n / 256 ^ part % 256
 
+-- a byte of the address of a byte of an object: the lower two by modulo 65,536, the third of the whole address
+abbrev pub address_part : Env → (object offset part : ℕ) → ℕ
+address_part e o k part = part_of (if nat_lt part 2 then e.address_of o k else e.far_of o k) part
+
 -- a label that has a word stands at it
 abbrev pub Stands : Env → AsmItem → (pc end : ℕ) → Type 0
 Stands e (Plain i) pc end = At e i pc end
@@ -74,7 +78,7 @@ Stands e (Label l) pc end = (e.word_of l < 65536 → e.word_of l ≡ pc) × (end
 Stands e (JumpTo l) pc end = JumpsAt e l pc end
 Stands e (CallTo l) pc end = CallsAt e l pc end
 Stands e (BranchTo set flag l) pc end = BranchesAt e set flag l pc end
-Stands e (LoadPart d o k part) pc end = At e (Ldi d (part_of (e.address_of o k) part)) pc end
+Stands e (LoadPart d o k part) pc end = At e (Ldi d (address_part e o k part)) pc end
 Stands e (LoadObj d o k) pc end = LoadsAt e d (e.address_of o k) pc end
 Stands e (StoreObj o k r) pc end = StoresAt e (e.address_of o k) r pc end
 
@@ -130,7 +134,7 @@ item_change e (Label l) v = v
 item_change e (JumpTo l) v = v
 item_change e (CallTo l) v = v
 item_change e (BranchTo set flag l) v = v
-item_change e (LoadPart d o k part) v = change e (Ldi d (part_of (e.address_of o k) part)) v
+item_change e (LoadPart d o k part) v = change e (Ldi d (address_part e o k part)) v
 item_change e (LoadObj d o k) v = change e (Lds d (e.address_of o k)) v
 item_change e (StoreObj o k r) v = change e (Sts (e.address_of o k) r) v
 

@@ -9,7 +9,7 @@ use Rattle.ec_asm.specs.declared.items.AsmItem.{AsmItem}
 use Rattle.ec_asm.specs.declared.items.AsmItem.TheVariants.{Plain, Label, JumpTo, CallTo, BranchTo, LoadPart, LoadObj}
 use Rattle.ec_asm.specs.declared.items.AsmItem.TheVariants.{StoreObj}
 use Rattle.ec_asm.specs.Change.{Env}
-use Rattle.ec_asm.specs.Items.{branch_unless, part_of, item_words, code_words}
+use Rattle.ec_asm.specs.Items.{branch_unless, address_part, item_words, code_words}
 
 -- the instructions that an item stands for, where labels have their words and objects their addresses
 abbrev pub instructions : Env → AsmItem → List Instr
@@ -18,7 +18,7 @@ instructions e (Label l) = []
 instructions e (JumpTo l) = Jmp (e.word_of l) ∷ []
 instructions e (CallTo l) = Call (e.word_of l) ∷ []
 instructions e (BranchTo set flag l) = branch_unless set flag (pos 2) ∷ Jmp (e.word_of l) ∷ []
-instructions e (LoadPart d o k part) = Ldi d (part_of (e.address_of o k) part) ∷ []
+instructions e (LoadPart d o k part) = Ldi d (address_part e o k part) ∷ []
 instructions e (LoadObj d o k) = Lds d (e.address_of o k) ∷ []
 instructions e (StoreObj o k r) = Sts (e.address_of o k) r ∷ []
 

@@ -13,9 +13,9 @@ use Rattle.ec_avr.specs.Effects.{After, effect, load_address}
 use Rattle.ec_avr.specs.Machine.{State, answer_of, inputs_after, port_at, Running as MRunning, EndedWith, machine}
 use Rattle.ec_avr.specs.Runs.{preceded_by}
 use Rattle.std.specs.Int.{cast_signed, w16}
-use Rattle.ec_avr.specs.State.{is_core_register, is_port}
-use Rattle.ec_asm.specs.View.{View, bytes_of, flags_of, pair}
-use Rattle.ec_asm.specs.Change.{Env, Kind, Own, Object, Port, Stacked, Barred, change, words}
+use Rattle.ec_avr.specs.State.{has_rampz, is_core_register, is_port}
+use Rattle.ec_asm.specs.View.{View, is_apart, bytes_of, flags_of, pair}
+use Rattle.ec_asm.specs.Change.{Env, Kind, Own, Object, Port, Stacked, Page, Barred, change, words}
 use Rattle.ec_asm.specs.Run.{Status, Running, Ended, Stuck}
 
 -- Y holds the base, where there is one
@@ -30,15 +30,17 @@ pub record Shows (e : Env) (size : ℕ) (core : Core) (m : Memory) (v : View) : 
   pub bytes : AreBytes m.data
   pub at : v.at ≡ bytes_of m.data
   pub flags : v.flags ≡ flags_of (slice_index m.data 0x5F)
+  pub page : v.page ≡ slice_index m.data 0x5B
   pub feeds : (port k : ℕ) → slice_index (v.inputs port) k < 256
   pub base : HoldsBase e v
 
 -- what may stand at an address of a core's data memory of so many bytes
 abbrev pub may_be : Core → Kind → ℕ → ℕ → Bool
-may_be core Own size a = (is_core_register core a && not (a == 0x5F)) || (nat_le 256 a && nat_lt a size)
+may_be core Own size a = (is_core_register core a && not (is_apart a)) || (nat_le 256 a && nat_lt a size)
 may_be core Object size a = nat_le 256 a && nat_lt a size
 may_be core Port size a = is_port core a
 may_be core Stacked size a = nat_le 256 a && nat_lt a size
+may_be core Page size a = (a == 0x5B) && has_rampz core
 may_be core Barred size a = true
 
 abbrev pub in_flash : Kind → ℕ → ℕ → Bool

@@ -29,7 +29,7 @@ pub enum AsmItem {
         label: u64,
     },
     /// LDI of byte `part` of the address of a byte of an object, 0 the lowest. `d` is from 16 to 31, `part` from 0 to
-    /// 2.
+    /// 2. Bytes 0 and 1 are those of the address modulo 65,536, and byte 2 is that of the whole address.
     LoadPart {
         d: u8,
         object: u16,

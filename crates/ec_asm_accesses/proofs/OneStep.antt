@@ -1,7 +1,7 @@
 -- One step: what it accesses is allowed, where the view allows it.
-use Rattle.std.proofs.Common.{◌≡◌, ⊎_elim, ℕ, ◌+◌, ◌%◌, Bool, true, false, not, ◌&&◌, refl, sym, ap, ◌∙◌, subst, arith, Some, length}
+use Rattle.std.proofs.Common.{◌≡◌, ⊎_elim, ℕ, ◌+◌, ◌*◌, ◌%◌, Bool, true, false, not, ◌&&◌, refl, sym, ap, ◌∙◌, subst, arith, Some, length}
 use Rattle.std.specs.Prelude.{if◌then◌else◌, nat_lt, nat_le, ◌==◌, slice_index, ⊤}
-use Rattle.std.proofs.lemmas.Bool.{and_parts, false≢true, ltb-true, ltb-false, or_cases}
+use Rattle.std.proofs.lemmas.Bool.{and_parts, false≢true, ltb-true, ltb-false, eqb-true, or_cases}
 use Rattle.std.proofs.lemmas.Bool.Decides.{nat_tests}
 use Rattle.ec_space.specs.declared.space.Bank.TheVariants.{Data as DataBank}
 use Rattle.ec_isa.specs.declared.instructions.Instr.{Instr}
@@ -10,19 +10,22 @@ use Rattle.ec_isa.specs.declared.instructions.Instr.TheVariants.{StXPlus, StZPlu
 use Rattle.ec_isa.specs.declared.instructions.Instr.TheVariants.{Call, Ret, Rcall, LdMinusZ, LdYPlus, LdMinusY, LdMinusX, StMinusZ, StYPlus}
 use Rattle.ec_isa.specs.declared.instructions.Instr.TheVariants.{StMinusY, StMinusX, Icall}
 use Rattle.ec_avr.specs.declared.machine.Access.TheVariants.{Silent, In, Out, Read, Write, Stack}
+use Rattle.ec_avr.specs.declared.machine.FaultKind.TheVariants.{Unsupported}
 use Rattle.ec_avr.specs.declared.machine.Stepped.{Stepped}
 use Rattle.ec_avr.specs.declared.machine.Stepped.TheVariants.{Ran, Ended as MEnded, Fault}
 use Rattle.ec_avr.specs.Effects.{After, effect, load, store, load_access, store_access, load_and_raise, store_and_raise, load_flash}
-use Rattle.ec_avr.specs.Effects.{load_flash_and_raise, push, pop, call, return_from_call}
+use Rattle.ec_avr.specs.Effects.{load_flash_and_raise, load_far, load_far_and_raise, faulted, push, pop, call, return_from_call}
 use Rattle.ec_avr.specs.Machine.{State}
 use Rattle.ec_space.specs.declared.Core.{Core}
-use Rattle.ec_avr.specs.State.{is_core_register, is_sram, raised, lowered, stack_pointer, pair as m_pair}
-use Rattle.ec_asm.specs.View.{View, pair}
-use Rattle.ec_asm.specs.Change.{Env, Kind, Own, Object, Port, Stacked, Barred, y_of, change, load_by, store_by, flash_by, push_by, pop_by, sp}
+use Rattle.ec_avr.specs.State.{has_rampz, far_pointer, is_core_register, is_sram, raised, lowered, stack_pointer, pair as m_pair}
+use Rattle.ec_asm.specs.View.{View, is_apart, pair}
+use Rattle.ec_asm.specs.Change.{Env, Kind, Own, Object, Port, Stacked, Page, Barred, y_of, change, load_by, store_by, flash_by, push_by, pop_by, sp}
+use Rattle.ec_asm.specs.Change.{far_z}
 use Rattle.ec_asm.specs.Run.{Status, Running, Stuck, act, call_by, on_stack, pushed, popped, back_at, is_safe}
 use Rattle.ec_asm.specs.Pieces.{is_held}
 use Rattle.ec_asm.specs.Shows.{Shows, Fits, may_be}
 use Rattle.ec_asm_accesses.specs.Allowed.{IsAllowed}
+use Rattle.ec_asm_accesses.proofs.Unsafe.{rampz_was}
 
 -- what a step did is allowed
 abbrev pub IsStepAllowed : Env → Stepped → Type 0
@@ -37,6 +40,7 @@ IsUsed Own = ⊤
 IsUsed Object = ⊤
 IsUsed Port = ⊤
 IsUsed Stacked = ⊥
+IsUsed Page = ⊤
 IsUsed Barred = ⊥
 
 load_used : (k : Kind) (d a : ℕ) (v : View) → (load_by k d a v).safe ≡ true → IsUsed k
@@ -44,6 +48,7 @@ load_used Own d a v h = tt
 load_used Object d a v h = tt
 load_used Port d a v h = tt
 load_used Stacked d a v h = absurd (false≢true h)
+load_used Page d a v h = tt
 load_used Barred d a v h = absurd (false≢true h)
 
 store_used : (k : Kind) (a x : ℕ) (v : View) → (store_by k a x v).safe ≡ true → IsUsed k
@@ -51,6 +56,7 @@ store_used Own a x v h = tt
 store_used Object a x v h = tt
 store_used Port a x v h = tt
 store_used Stacked a x v h = absurd (false≢true h)
+store_used Page a x v h = tt
 store_used Barred a x v h = absurd (false≢true h)
 
 flash_held : (k : Kind) (d a x : ℕ) (v : View) → (flash_by k d a x v).safe ≡ true → is_held k ≡ true
@@ -58,12 +64,14 @@ flash_held Own d a x v h = refl
 flash_held Object d a x v h = refl
 flash_held Port d a x v h = absurd (false≢true h)
 flash_held Stacked d a x v h = absurd (false≢true h)
+flash_held Page d a x v h = absurd (false≢true h)
 flash_held Barred d a x v h = absurd (false≢true h)
 
 push_stacked : (k : Kind) (x : ℕ) (v : View) → (push_by k x v).safe ≡ true → k ≡ Stacked
 push_stacked Own x v h = absurd (false≢true h)
 push_stacked Object x v h = absurd (false≢true h)
 push_stacked Port x v h = absurd (false≢true h)
+push_stacked Page x v h = absurd (false≢true h)
 push_stacked Stacked x v h = refl
 push_stacked Barred x v h = absurd (false≢true h)
 
@@ -71,6 +79,7 @@ pop_stacked : (k : Kind) (d : ℕ) (v : View) → (pop_by k d v).safe ≡ true �
 pop_stacked Own d v h = absurd (false≢true h)
 pop_stacked Object d v h = absurd (false≢true h)
 pop_stacked Port d v h = absurd (false≢true h)
+pop_stacked Page d v h = absurd (false≢true h)
 pop_stacked Stacked d v h = refl
 pop_stacked Barred d v h = absurd (false≢true h)
 
@@ -78,8 +87,13 @@ is_stacked : (k : Kind) → on_stack k ≡ true → k ≡ Stacked
 is_stacked Own h = absurd (false≢true h)
 is_stacked Object h = absurd (false≢true h)
 is_stacked Port h = absurd (false≢true h)
+is_stacked Page h = absurd (false≢true h)
 is_stacked Stacked h = refl
 is_stacked Barred h = absurd (false≢true h)
+
+-- RAMPZ is at its address, where the core has it
+page_at : (core : Core) (a : ℕ) → ((a == 0x5B) && has_rampz core) ≡ true → (a ≡ 91) × (has_rampz core ≡ true)
+page_at core a may = let p = and_parts (a == 0x5B) (has_rampz core) may in (eqb-true a 91 p.0, p.1)
 
 -- above the ports a byte that is used is held
 high_is_held : (core : Core) (k : Kind) (size a : ℕ) → may_be core k size a ≡ true → IsUsed k → nat_lt a 256 ≡ false → is_held k ≡ true
@@ -87,6 +101,8 @@ high_is_held core Own size a may u high = refl
 high_is_held core Object size a may u high = refl
 high_is_held core Port size a may u high = absurd (false≢true (sym high ∙ (and_parts (nat_lt a 256) (not (is_core_register core a)) may).0))
 high_is_held core Stacked size a may u high = absurd u
+high_is_held core Page size a may u high =
+    absurd (false≢true (subst (λ (n : ℕ). false ≡ nat_lt n 256) (page_at core a may).0 (sym high)))
 high_is_held core Barred size a may u high = absurd u
 
 -- below, but for registers, it is a port
@@ -96,11 +112,14 @@ no_memory size a may low = let p = and_parts (nat_le 256 a) (nat_lt a size) may 
 low_is_port : (core : Core) (k : Kind) (size a : ℕ) → may_be core k size a ≡ true → IsUsed k → is_core_register core a ≡ false
     → nat_lt a 256 ≡ true → k ≡ Port
 low_is_port core Own size a may u out low =
-    absurd (⊎_elim (λ c. false≢true (sym out ∙ (and_parts (is_core_register core a) (not (a == 0x5F)) c).0)) (λ h. no_memory size a h low)
-    (or_cases (is_core_register core a && not (a == 0x5F)) (nat_le 256 a && nat_lt a size) may))
+    absurd (⊎_elim (λ c. false≢true (sym out ∙ (and_parts (is_core_register core a) (not (is_apart a)) c).0)) (λ h. no_memory size a h low)
+    (or_cases (is_core_register core a && not (is_apart a)) (nat_le 256 a && nat_lt a size) may))
 low_is_port core Object size a may u out low = absurd (no_memory size a may low)
 low_is_port core Port size a may u out low = refl
 low_is_port core Stacked size a may u out low = absurd u
+low_is_port core Page size a may u out low =
+    let p = page_at core a may in
+    absurd (false≢true (subst (λ (n : ℕ). false ≡ is_core_register core n) p.0 (sym out) ∙ p.1))
 low_is_port core Barred size a may u out low = absurd u
 
 module _ (e : Env) (size : ℕ) (fit : Fits e size) (s : State) (v : View) (h : Shows e size s.core s.mem v) where
@@ -209,6 +228,24 @@ module _ (e : Env) (size : ℕ) (fit : Fits e size) (s : State) (v : View) (h : 
       subst (λ n. is_held (e.table n) ≡ true) z_is
       (flash_held (e.table (pair v.at 30)) d (pair v.at 30) (slice_index e.flash (pair v.at 30)) v safe)
 
+  far_is : far_z v ≡ far_pointer s
+  far_is = ap (λ n. 65536 * n + pair v.at 30) h.page ∙ ap (λ n. 65536 * slice_index s.mem.data 91 + n) z_is
+
+  -- a load by RAMPZ and Z
+  far_allowed : (d : ℕ) → (change e (Elpm d) v).safe ≡ true → is_held (e.table (far_pointer s)) ≡ true
+  far_allowed d safe =
+      subst (λ n. is_held (e.table n) ≡ true) far_is
+      (flash_held (e.table (far_z v)) d (far_z v) (slice_index e.flash (far_z v)) v (rampz_was e.core _ v safe))
+
+  raised_allowed : (d : ℕ) → (change e (ElpmInc d) v).safe ≡ true → is_held (e.table (far_pointer s)) ≡ true
+  raised_allowed d safe =
+      subst (λ n. is_held (e.table n) ≡ true) far_is
+      (flash_held (e.table (far_z v)) d (far_z v) (slice_index e.flash (far_z v)) v (rampz_was e.core _ v safe))
+
+  supported : (b : Bool) (x : After) → IsStepAllowed e x.stepped → IsStepAllowed e (if b then x else faulted Unsupported s).stepped
+  supported true x f = f
+  supported false x f = tt
+
   pub change_allowed : (i : Instr) (answer : ℕ) → (change e i v).safe ≡ true → IsStepAllowed e (effect (Some i) answer s).stepped
   unfolding effect
   change_allowed (Lds d k) answer safe = load_allowed d k answer 2 (loads d k safe)
@@ -245,8 +282,12 @@ module _ (e : Env) (size : ℕ) (fit : Fits e size) (s : State) (v : View) (h : 
   change_allowed (StYPlus r) answer safe = absurd (false≢true safe)
   change_allowed (StMinusY r) answer safe = absurd (false≢true safe)
   change_allowed (StMinusX r) answer safe = absurd (false≢true safe)
-  change_allowed (Elpm d) answer safe = absurd (false≢true safe)
-  change_allowed (ElpmInc d) answer safe = absurd (false≢true safe)
+  change_allowed (Elpm d) answer safe =
+      supported (has_rampz s.core) (load_far d s)
+      (where_allowed (nat_lt (far_pointer s) (length s.mem.flash)) _ _ (far_allowed d safe) tt)
+  change_allowed (ElpmInc d) answer safe =
+      supported (has_rampz s.core) (load_far_and_raise d s)
+      (where_allowed (nat_lt (far_pointer s) (length s.mem.flash)) _ _ (raised_allowed d safe) tt)
   change_allowed (Call k) answer safe = absurd (false≢true safe)
   change_allowed (Rcall k) answer safe = absurd (false≢true safe)
   change_allowed Icall answer safe = absurd (false≢true safe)

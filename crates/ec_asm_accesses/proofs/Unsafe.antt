@@ -2,14 +2,16 @@
 use Rattle.std.proofs.Common.{◌≡◌, ℕ, zero, suc, ◌+◌, ◌-◌, ◌%◌, ◌≤◌, Bool, true, false, ◌&&◌, ap, ◌∙◌, subst, arith, Option, Some, None}
 use Rattle.std.specs.Prelude.{if◌then◌else◌}
 use Rattle.std.proofs.lemmas.Bool.{false≢true}
+use Rattle.ec_space.specs.declared.Core.{Core}
+use Rattle.ec_space.specs.declared.Core.TheVariants.{Small, Large}
 use Rattle.ec_isa.specs.declared.instructions.Instr.{Instr}
 use Rattle.ec_isa.specs.declared.instructions.Instr.TheVariants.{LddZ, LddY, StdZ, StdY, Lds, Sts, LdX, StX, LpmZ, LdXPlus, LdZPlus}
-use Rattle.ec_isa.specs.declared.instructions.Instr.TheVariants.{StXPlus, StZPlus, LpmZPlus, Pop, Push, Cpse, In as InInstr}
+use Rattle.ec_isa.specs.declared.instructions.Instr.TheVariants.{StXPlus, StZPlus, LpmZPlus, Elpm, ElpmInc, Pop, Push, Cpse, In as InInstr}
 use Rattle.ec_isa.specs.declared.instructions.Instr.TheVariants.{Out as OutInstr, Jmp, Call, Ret, Break, Rjmp, Rcall, Brbs, Brbc, Sbrc}
 use Rattle.ec_isa.specs.declared.instructions.Instr.TheVariants.{Sbrs}
 use Rattle.ec_avr.specs.State.{raised, lowered}
-use Rattle.ec_asm.specs.Change.{Env, Kind, Own, Object, Port, Stacked, Barred, change, goes_on, words, sp, load_by, store_by, flash_by}
-use Rattle.ec_asm.specs.Change.{push_by, pop_by}
+use Rattle.ec_asm.specs.Change.{Env, Kind, Own, Object, Port, Stacked, Page, Barred, change, goes_on, words, sp, load_by, store_by, flash_by}
+use Rattle.ec_asm.specs.Change.{far_z, by_rampz, push_by, pop_by}
 use Rattle.ec_asm.specs.Run.{Status, Running, Ended, Stuck, act, step, run, fetch, on_stack, is_flag, is_safe}
 use Rattle.ec_asm.specs.View.{View}
 
@@ -20,6 +22,7 @@ load_was Own d a v h = h
 load_was Object d a v h = h
 load_was Port d a v h = h
 load_was Stacked d a v h = absurd (false≢true h)
+load_was Page d a v h = absurd (false≢true h)
 load_was Barred d a v h = absurd (false≢true h)
 
 store_was : (k : Kind) (a x : ℕ) (v : View) → (store_by k a x v).safe ≡ true → v.safe ≡ true
@@ -27,6 +30,7 @@ store_was Own a x v h = h
 store_was Object a x v h = h
 store_was Port a x v h = h
 store_was Stacked a x v h = absurd (false≢true h)
+store_was Page a x v h = h
 store_was Barred a x v h = absurd (false≢true h)
 
 flash_was : (k : Kind) (d a x : ℕ) (v : View) → (flash_by k d a x v).safe ≡ true → v.safe ≡ true
@@ -34,6 +38,7 @@ flash_was Own d a x v h = h
 flash_was Object d a x v h = h
 flash_was Port d a x v h = absurd (false≢true h)
 flash_was Stacked d a x v h = absurd (false≢true h)
+flash_was Page d a x v h = absurd (false≢true h)
 flash_was Barred d a x v h = absurd (false≢true h)
 
 push_was : (k : Kind) (x : ℕ) (v : View) → (push_by k x v).safe ≡ true → v.safe ≡ true
@@ -41,6 +46,7 @@ push_was Stacked x v h = h
 push_was Own x v h = absurd (false≢true h)
 push_was Object x v h = absurd (false≢true h)
 push_was Port x v h = absurd (false≢true h)
+push_was Page x v h = absurd (false≢true h)
 push_was Barred x v h = absurd (false≢true h)
 
 pop_was : (k : Kind) (d : ℕ) (v : View) → (pop_by k d v).safe ≡ true → v.safe ≡ true
@@ -48,7 +54,13 @@ pop_was Stacked d v h = h
 pop_was Own d v h = absurd (false≢true h)
 pop_was Object d v h = absurd (false≢true h)
 pop_was Port d v h = absurd (false≢true h)
+pop_was Page d v h = absurd (false≢true h)
 pop_was Barred d v h = absurd (false≢true h)
+
+-- an instruction that needs RAMPZ was supported
+pub rampz_was : (core : Core) (w v : View) → (by_rampz core w v).safe ≡ true → w.safe ≡ true
+rampz_was Small w v h = absurd (false≢true h)
+rampz_was Large w v h = h
 
 -- ---- instructions
 
@@ -69,6 +81,8 @@ change_was e (StXPlus r) v h = store_was (e.kind _) _ _ v h
 change_was e (StZPlus r) v h = store_was (e.kind _) _ _ v h
 change_was e (LpmZ d) v h = flash_was (e.table _) d _ _ v h
 change_was e (LpmZPlus d) v h = flash_was (e.table _) d _ _ v h
+change_was e (Elpm d) v h = flash_was (e.table (far_z v)) d (far_z v) _ v (rampz_was e.core _ v h)
+change_was e (ElpmInc d) v h = flash_was (e.table (far_z v)) d (far_z v) _ v (rampz_was e.core _ v h)
 change_was e (Push r) v h = push_was (e.kind _) _ v h
 change_was e (Pop d) v h = pop_was (e.kind _) d v h
 change_was e _ v h = cc

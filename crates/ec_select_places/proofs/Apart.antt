@@ -5,35 +5,46 @@ use Rattle.std.proofs.lemmas.Bool.{cases_eq, cases_lt}
 use Rattle.ec_isa.specs.declared.instructions.Instr.TheVariants.{Asr, Ror}
 use native.Mathlib.Nat.{pow-suc}
 use Rattle.ec_asm.specs.declared.pieces.Operator.TheVariants.{Difference}
+use Rattle.ec_asm.specs.declared.pieces.Location.{Location}
 use Rattle.ec_asm.specs.View.{View}
 use Rattle.ec_asm.specs.Change.{Env, Own, change}
 use Rattle.ec_asm.specs.Items.{block}
-use Rattle.ec_asm.specs.Pieces.{value, copy_code, operate_code}
+use Rattle.ec_asm.specs.Pieces.{StandsFrom, value, copy_code, operate_code}
 use Rattle.ec_asm.specs.PieceLaws.{HoldsNumbers, CopiesAreRight, DifferencesAreRight}
 use Rattle.ec_asm.proofs.Bytes.{put_other}
 use Rattle.ec_asm.proofs.Hoare.{block-append}
 use Rattle.ec_select_places.specs.Steps.{z_pair, scale_code}
 use Rattle.ec_select_places.specs.StepLaws.{LeavesZ}
 use Rattle.ec_select_places.specs.Distances.{halve_z, halvings_code, distance_code}
-use Rattle.ec_select_places.specs.DistanceLaws.{signed_number, IsFrom, DistancesAreRight}
+use Rattle.ec_select_places.specs.DistanceLaws.{signed_number, IsFrom, Differs, DistancesAreRight}
 use Rattle.ec_select_places.proofs.Blocks.{copied_numbers}
 use Rattle.ec_select_places.proofs.Scaled.{Loads, z_stands, two_loaded, scaled}
 use Rattle.ec_select_places.proofs.Advanced.{above_z}
 
 -- ---- numbers
 
-abbrev IsWithin : Bool → ℕ → Type 0
+abbrev pub IsWithin : Bool → ℕ → Type 0
 IsWithin false m = m < 32768
 IsWithin true m = m ≤ 32768
 
-difference_is : (negative : Bool) (x y m : ℕ) → x < 65536 → y < 65536 → IsFrom negative x y m
+-- one number of two bytes is so much above another one, or below it, modulo 65,536
+abbrev pub IsLowFrom : Bool → (x y distance : ℕ) → Type 0
+IsLowFrom false x y distance = (x ≡ (y + distance) % 65536) × (distance < 32768)
+IsLowFrom true x y distance = (y ≡ (x + distance) % 65536) × (distance ≤ 32768)
+
+-- so are the low two bytes of two numbers
+pub low_from : (negative : Bool) (x y m : ℕ) → IsFrom negative x y m → IsLowFrom negative (x % 65536) (y % 65536) m
+low_from false x y m h = let p = h.0 in (omega (arith, p), h.1)
+low_from true x y m h = let p = h.0 in (omega (arith, p), h.1)
+
+difference_is : (negative : Bool) (x y m : ℕ) → x < 65536 → y < 65536 → IsLowFrom negative x y m
     → (x + 65536 - y) % 65536 ≡ signed_number negative m
 difference_is false x y m l n h = let p = h.0 in let q = h.1 in omega (arith, p, q)
 difference_is true x y m l n h = let p = h.0 in let q = h.1 in omega (arith, p, q)
 
-from_within : (negative : Bool) (x y m : ℕ) → IsFrom negative x y m → IsWithin negative m
-from_within false x y m h = h.1
-from_within true x y m h = h.1
+pub low_within : (negative : Bool) (x y m : ℕ) → IsLowFrom negative x y m → IsWithin negative m
+low_within false x y m h = h.1
+low_within true x y m h = h.1
 
 half_is : (negative : Bool) (low top m : ℕ) → low < 256 → top < 256 → IsWithin negative (m * 2)
     → low + top * 256 ≡ signed_number negative (m * 2)
@@ -150,8 +161,17 @@ divided true (suc j) (suc o) inverse h l =
 
 -- ---- laws
 
-pub distances_are_right : CopiesAreRight → DifferencesAreRight → DistancesAreRight
-distances_are_right copies differences negative e p c q a b d twos odd inverse k v sp zp sc zc sq zq h one below from =
+-- the law of differences, for numbers of two bytes that are so far apart in this sense
+abbrev pub DistancesBy : (Bool → (x y distance : ℕ) → Type 0) → Type 0
+DistancesBy AreApart =
+    (negative : Bool) (e : Env) (p c q : Location) (a b d twos odd inverse k : ℕ) (v : View) → StandsFrom e p 2 a Own
+    → LeavesZ a 2 → StandsFrom e c 2 b Own → LeavesZ b 2 → StandsFrom e q 2 d Own → LeavesZ d 2 → HoldsNumbers v
+    → odd * inverse % 65536 ≡ 1 → inverse < 65536
+    → AreApart negative (value v.at a 2) (value v.at b 2) (k * odd * 2 ^ twos)
+    → Differs v d (signed_number negative k) (block e (distance_code p c q twos inverse) v)
+
+pub low_distances : CopiesAreRight → DifferencesAreRight → DistancesBy IsLowFrom
+low_distances copies differences negative e p c q a b d twos odd inverse k v sp zp sc zc sq zq h one below from =
     let v1 = block e (copy_code p z_pair 2) v in
     let v2 = block e (operate_code Difference c z_pair 2) v1 in
     let v3 = block e (halvings_code twos) v2 in
@@ -174,7 +194,7 @@ distances_are_right copies differences negative e p c q a b d twos odd inverse k
     ∙ ap (λ i. (value v.at a 2 + 65536 - i) % 65536) taken) in
     let signed = difference_is negative (value v.at a 2) (value v.at b 2) (k * odd * 2 ^ twos) (omega (arith, x0, x1))
     (omega (arith, y0, y1)) from in
-    let bound = from_within negative _ _ _ from in
+    let bound = low_within negative _ _ _ from in
     let g = halved negative e twos (k * odd) v2 r.0.bytes bound (left ∙ signed) in
     let m = scaled e inverse v3 below g.numbers in
     let power : k * odd ≤ k * odd * 2 ^ twos = at_least (k * odd) twos in
@@ -211,3 +231,23 @@ distances_are_right copies differences negative e p c q a b d twos odd inverse k
     at_least : (m n : ℕ) → m ≤ m * 2 ^ n
     at_least m zero = omega arith
     at_least m (suc n) = let h = twice_below m n in omega (arith, h)
+
+-- the number of two bytes
+pub two_below : (e : Env) (p : Location) (a n : ℕ) (v : View) → StandsFrom e p n a Own → HoldsNumbers v → value v.at a 2 < 65536
+two_below e p a n v s h =
+    let ua = s.clear in
+    let x = h (a + 0) (omega arith) in
+    let y = h (a + 1) (omega arith) in
+    omega (arith, x, y)
+
+pub distances_are_right : CopiesAreRight → DifferencesAreRight → DistancesAreRight
+distances_are_right copies differences negative e p c q a b d twos odd inverse k v sp zp sc zc sq zq h one below from =
+    let x = value v.at a 2 in
+    let y = value v.at b 2 in
+    let m = k * odd * 2 ^ twos in
+    let xs = two_below e p a 2 v sp h in
+    let ys = two_below e c b 2 v sc h in
+    let kx : x % 65536 ≡ x = omega (arith, xs) in
+    let ky : y % 65536 ≡ y = omega (arith, ys) in
+    low_distances copies differences negative e p c q a b d twos odd inverse k v sp zp sc zc sq zq h one below
+    (subst (λ i. IsLowFrom negative x i m) ky (subst (λ i. IsLowFrom negative i (y % 65536) m) kx (low_from negative x y m from)))

@@ -9,3 +9,5 @@ mod Valid
 mod Apart
 mod Inverted
 mod Sized
+mod FarPlaces
+mod FarFormed

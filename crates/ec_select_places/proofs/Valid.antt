@@ -39,7 +39,7 @@ module _ (t : AsmItem → Bool) where
       → list_all t (scale_code size) ≡ true → list_all t (scale_index_code p signed n size) ≡ true
   scale_index_passes p signed n size h k = both t (index_code p signed n) (scale_code size) h k
 
-  order_passes : (r : Relation) (left right : Location) (n : ℕ)
+  pub order_passes : (r : Relation) (left right : Location) (n : ℕ)
       → ((i : ℕ) → i < n → list_all t (compare_byte right left i) ≡ true) → list_all t (truth_code r false) ≡ true
       → list_all t (relation_code r false left right n) ≡ true
   order_passes r left right n h k =
@@ -128,7 +128,7 @@ module _ (sizes : Sizes) where
   difference_valid (InRegisters r) h = rw (lt-ltb (r + 0) 32 (omega arith), lt-ltb (r + 1) 32 (omega arith)) refl
   difference_valid (InMemory o k) h = rw (h 0 (omega arith), h 1 (omega arith)) refl
 
-  compare_valid : (p q : Location) (n i : ℕ) → HasPlaces sizes p n → HasPlaces sizes q n → i < n
+  pub compare_valid : (p q : Location) (n i : ℕ) → HasPlaces sizes p n → HasPlaces sizes q n → i < n
       → list_all valid (compare_byte p q i) ≡ true
   compare_valid (InRegisters r) (InRegisters s) n zero h k l =
       rw (lt-ltb (r + 0) 32 (omega arith), lt-ltb (s + 0) 32 (omega arith)) refl
@@ -141,7 +141,7 @@ module _ (sizes : Sizes) where
   compare_valid (InMemory o j) (InMemory u m) n zero h k l = rw (h 0 l, k 0 l) refl
   compare_valid (InMemory o j) (InMemory u m) n (suc i) h k l = rw (h (suc i) l, k (suc i) l) refl
 
-  truth_valid : (r : Relation) → list_all valid (truth_code r false) ≡ true
+  pub truth_valid : (r : Relation) → list_all valid (truth_code r false) ≡ true
   truth_valid Less = refl
   truth_valid NotLess = refl
   truth_valid Equal = refl
@@ -182,7 +182,7 @@ distances_are_valid sizes p c q twos inverse hp hc hq l =
 
 -- ---- labels
 
-has_no_label : (code : List AsmItem) → list_all is_plain code ≡ true → HasNoLabel code
+pub has_no_label : (code : List AsmItem) → list_all is_plain code ≡ true → HasNoLabel code
 has_no_label code h =
     record {
       uses = λ items. passing is_plain (λ i. is_placed items (used_label i)) (no_use items) code h;
@@ -221,13 +221,13 @@ advance_plain false (InRegisters r) = refl
 advance_plain true (InMemory o k) = refl
 advance_plain false (InMemory o k) = refl
 
-compare_plain : (p q : Location) (i : ℕ) → list_all is_plain (compare_byte p q i) ≡ true
+pub compare_plain : (p q : Location) (i : ℕ) → list_all is_plain (compare_byte p q i) ≡ true
 compare_plain (InRegisters r) (InRegisters s) i = refl
 compare_plain (InRegisters r) (InMemory o j) i = refl
 compare_plain (InMemory o j) (InRegisters s) i = refl
 compare_plain (InMemory o j) (InMemory u m) i = refl
 
-truth_plain : (r : Relation) → list_all is_plain (truth_code r false) ≡ true
+pub truth_plain : (r : Relation) → list_all is_plain (truth_code r false) ≡ true
 truth_plain Less = refl
 truth_plain NotLess = refl
 truth_plain Equal = refl

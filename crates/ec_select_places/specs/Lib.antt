@@ -6,3 +6,6 @@ pub mod ConversionLaws
 pub mod Form
 pub mod Distances
 pub mod DistanceLaws
+pub mod Far
+pub mod FarLaws
+pub mod FarForm

@@ -8,6 +8,10 @@ ghost use Rattle.ec_select_places.specs.DistanceLaws.{DistancesAreRight, Element
 ghost use Rattle.ec_select_places.specs.Form.{DistancesAreShort, DistancesAreValid, DistancesHaveNoLabel};
 ghost use Rattle.ec_select_places.specs.Form.{ElementsAreShort, ElementsAreValid};
 ghost use Rattle.ec_select_places.specs.Form.{ElementsHaveNoLabel};
+ghost use Rattle.ec_select_places.specs.FarLaws.{FarPlacesFit, FarPlacesAreNumbers, FarPlacesAreInOrder};
+ghost use Rattle.ec_select_places.specs.FarLaws.{FarPointersAreAdvanced, FarElementsAreRight, FarPointersAreCompared};
+ghost use Rattle.ec_select_places.specs.FarForm.{FarStepsAreShort, FarOrdersHaveWords, FarStepsAreValid};
+ghost use Rattle.ec_select_places.specs.FarForm.{FarOrdersAreValid, FarPlacesHaveNoLabel};
 
 use ec_asm::laws::{
     bytes_are_right, copies_are_right, numbers_are_their_bytes, operators_are_right,
@@ -108,3 +112,47 @@ pub fn places_are_valid()
     ensures conversions { ConversionsAreValid }
     ensures labels { PlacesHaveNoLabel }
 {}
+
+/// Pointers of three bytes with whole addresses fit into these, are equal where their numbers are, and those of one bank
+/// are in order where their numbers are.
+pub fn far_places_are_numbers()
+    ensures fit { FarPlacesFit }
+    ensures equal { FarPlacesAreNumbers }
+    ensures order { FarPlacesAreInOrder }
+{}
+
+/// The code of `advance_far` adds R31:R30, extended by its sign, to all three bytes of a pointer, or subtracts it, modulo
+/// 2 to the power of 24, and keeps all else but R0, R1, R8 to R11 and the flags.
+pub fn far_pointers_are_advanced()
+    ensures { FarPointersAreAdvanced }
+{
+    operators_are_right();
+}
+
+/// The code of `elements` puts the elements between two whole addresses to two bytes, in two's complement: it looks at
+/// the low two bytes of both. All else is kept but R0, R1, R8 to R11, R30, R31 and the flags.
+pub fn far_elements_are_right()
+    ensures { FarElementsAreRight }
+{
+    copies_are_right();
+    operators_are_right();
+}
+
+/// From its first word to its end the code of `order_far` takes at most so many steps, and leaves in R30 whether the
+/// relation holds of two pointers, by all their bytes. All else is kept but the flags, R0 and R1.
+pub fn far_pointers_are_compared()
+    ensures { FarPointersAreCompared }
+{
+    relations_are_told();
+}
+
+/// The code of `advance_far` is straight. Both have at most so many words, their items can be placed, and have no labels.
+pub fn far_places_are_formed()
+    ensures steps { FarStepsAreShort }
+    ensures words { FarOrdersHaveWords }
+    ensures valid_steps { FarStepsAreValid }
+    ensures valid_orders { FarOrdersAreValid }
+    ensures labels { FarPlacesHaveNoLabel }
+{
+    relations_have_words();
+}

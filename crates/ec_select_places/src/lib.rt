@@ -6,15 +6,20 @@
 //! `specs/Steps.antt`, `specs/Distances.antt` and `specs/Conversions.antt` have the pieces, `specs/StepLaws.antt`,
 //! `specs/DistanceLaws.antt`, `specs/ConversionLaws.antt` and `specs/Form.antt` what they do. R0, R1, R8 to R11, R30
 //! and R31 are work registers.
+//!
+//! On a core whose flash goes past the first 65,536 bytes a pointer of three bytes into flash has the whole address.
+//! `specs/Far.antt` has the pieces for these, `specs/FarLaws.antt` and `specs/FarForm.antt` what they do.
 #![tactic(auto)]
 
 mod conversions;
 mod distances;
+mod far;
 mod inverses;
 pub mod laws;
 mod steps;
 
 pub use conversions::{embed, narrow};
 pub use distances::{distance, elements};
+pub use far::{advance_far, order_far};
 pub use inverses::{OddPart, inverse, odd_part};
 pub use steps::{advance, order, scale_index};

@@ -27,14 +27,14 @@ use Rattle.ec_select_pointers.proofs.Blocks.{outside_ne}
 use Rattle.ec_select_pointers.proofs.Brought.{BringsByte, BringsTo, one_brought, data_is_brought, flash_is_brought}
 use Rattle.ec_select_pointers.proofs.Brought.{byte_is_stored}
 
-part_outside : (a m n k : ℕ) → m ≤ n → Outside a n k → Outside a m k
+pub part_outside : (a m n k : ℕ) → m ≤ n → Outside a n k → Outside a m k
 part_outside a m n k l o h = let b = o h in omega arith
 
 -- one of n bytes that leave Z alone
-not_low : (a n i : ℕ) → LeavesZ a n → i < n → a + i ≢ 30
+pub not_low : (a n i : ℕ) → LeavesZ a n → i < n → a + i ≢ 30
 not_low a n i h l q = outside_ne a n 30 i h.low l (sym q)
 
-not_high : (a n i : ℕ) → LeavesZ a n → i < n → a + i ≢ 31
+pub not_high : (a n i : ℕ) → LeavesZ a n → i < n → a + i ≢ 31
 not_high a n i h l q = outside_ne a n 31 i h.high l (sym q)
 
 -- ---- Z is set
@@ -228,7 +228,7 @@ data_is_stored copies e p q n a b v has held first =
 -- ---- from a place in the flash bank
 
 -- Z is set to an address, byte by byte
-parts_set : (e : Env) (o k b : ℕ) (byte : ℕ → ℕ) (v : View)
+pub parts_set : (e : Env) (o k b : ℕ) (byte : ℕ → ℕ) (v : View)
     → Brings v b 0 byte [] (block e (LoadPart 30 o k 0 ∷ LoadPart 31 o k 1 ∷ []) v)
 parts_set e o k b byte v =
     let a = e.address_of o k in

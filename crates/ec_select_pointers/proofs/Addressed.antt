@@ -21,6 +21,8 @@ use Rattle.ec_asm.proofs.Hoare.{block-append}
 use Rattle.ec_select_pointers.specs.Addresses.{set_byte, part_byte, tag_code, address_code, rest_of}
 use Rattle.ec_select_pointers.specs.Addresses.{subtracts, subtract_byte}
 use Rattle.ec_select_pointers.specs.AddressLaws.{HasPut, AddressesAreRight, FieldsAreRight}
+use Rattle.ec_select_pointers.specs.Far.{far_address_code, far_rest_of}
+use Rattle.ec_select_pointers.specs.FarLaws.{FarAddressesAreRight, FarFieldsAreRight}
 use Rattle.ec_select_pointers.proofs.Blocks.{outside_ne, fewer}
 
 -- ---- one byte
@@ -301,3 +303,148 @@ field_moves e q offset a v false t s far h =
 
 pub fields_are_right : FieldsAreRight
 fields_are_right e q offset a v s far h = field_moves e q offset a v (offset % 65536 == 0) refl s far h
+
+-- ---- the whole address
+
+-- the third byte of a whole address
+abbrev third_of : ℕ → ℕ
+third_of far = part_of far 2
+
+pub far_addresses_are_right : FarAddressesAreRight
+far_addresses_are_right e q object offset a v whole below s far =
+    let n = e.address_of object offset in
+    let x = third_of (e.far_of object offset) in
+    let byte = pointer_byte n (Some x) in
+    let p = address_put e q object offset a (Some x) 3 v (omega arith) s far in
+    let v1 = block e (part_byte object offset q 0) v in
+    let v2 = block e (part_byte object offset q 1) v1 in
+    let w = block e (part_byte object offset q 2) v2 in
+    let o = byte_is_set e (λ d. LoadPart d object offset 2) x q 2 (a + 2) v2 (λ d u. refl) (s.at 2 (omega arith))
+    (s.kind 2 (omega arith)) in
+    let p3 = one_put a 2 x byte v2.flags v v2 w far refl (omega arith) p.0 o in
+    let b0 = p3.there 0 (omega arith) in
+    let b1 = p3.there 1 (omega arith) in
+    let b2 = p3.there 2 (omega arith) in
+    let same : block e (far_address_code object offset q) v ≡ w =
+    block-append e (part_byte object offset q 0) (part_byte object offset q 1 ++ part_byte object offset q 2) v
+    ∙ block-append e (part_byte object offset q 1) (part_byte object offset q 2) v1 in
+    let number : value w.at a 3 ≡ e.far_of object offset = rw (b0, b1, b2, whole) (omega (arith, below)) in
+    rw same (has_put a 3 (e.far_of object offset) byte v w p3 number, o.flags ∙ p.1)
+
+-- ---- an offset added to three bytes
+
+-- three bytes less three bytes, with borrows between them
+abbrev borrow_of : (x k c : ℕ) → ℕ
+borrow_of x k c = from_bool (nat_lt x (k + c))
+
+below_is : (a b : ℕ) → a < b → nat_lt a b ≡ true
+below_is a b h = grind (arith, nat_tests)
+
+above_is : (a b : ℕ) → b ≤ a → nat_lt a b ≡ false
+above_is a b h = grind (arith, nat_tests)
+
+three_less : (x y z i j k : ℕ) → x < 256 → y < 256 → z < 256 → i < 256 → j < 256 → k < 256
+    → byte_difference x i 0 + byte_difference y j (borrow_of x i 0) * 256
+    + byte_difference z k (borrow_of y j (borrow_of x i 0)) * 65536
+    ≡ (x + y * 256 + z * 65536 + (16777216 - (i + j * 256 + k * 65536))) % 16777216
+three_less x y z i j k lx ly lz li lj lk =
+    ⊎_elim
+    (λ (g : x < i + 0).
+    ⊎_elim
+    (λ (f : y < j + 1). rw (below_is x (i + 0) g, below_is y (j + 1) f) (omega (arith, g, f)))
+    (λ (f : j + 1 ≤ y). rw (below_is x (i + 0) g, above_is y (j + 1) f) (omega (arith, g, f)))
+    (cases_lt y (j + 1)))
+    (λ (g : i + 0 ≤ x).
+    ⊎_elim
+    (λ (f : y < j + 0). rw (above_is x (i + 0) g, below_is y (j + 0) f) (omega (arith, g, f)))
+    (λ (f : j + 0 ≤ y). rw (above_is x (i + 0) g, above_is y (j + 0) f) (omega (arith, g, f)))
+    (cases_lt y (j + 0)))
+    (cases_lt x (i + 0))
+
+-- less what is missing from the offset to a multiple of 2 to the power of 24
+far_moved_is : (x offset : ℕ) → (x + (16777216 - far_rest_of offset)) % 16777216 ≡ (x + offset) % 16777216
+far_moved_is x offset = omega arith
+
+-- the bytes of what is missing
+bytes_are : (k : ℕ) → k < 16777216 → k % 256 + k / 256 % 256 * 256 + k / 65536 * 65536 ≡ k
+bytes_are k l = omega (arith, l)
+
+-- the three bytes that are left
+abbrev far_left : (x y z k : ℕ) → ℕ → ℕ
+far_left x y z k zero = byte_difference x (k % 256) 0
+far_left x y z k (suc zero) = byte_difference y (k / 256 % 256) (borrow_of x (k % 256) 0)
+far_left x y z k (suc (suc i)) = byte_difference z (k / 65536) (borrow_of y (k / 256 % 256) (borrow_of x (k % 256) 0))
+
+far_field_moves : (e : Env) (q : Location) (offset a : ℕ) (v : View) (b : Bool) → (offset % 16777216 == 0) ≡ b
+    → StandsFrom e q 3 a Own → Outside a 3 30 → HoldsNumbers v
+    → HasPut v a 3 ((value v.at a 3 + offset) % 16777216)
+    (block e (if b then []
+    else subtract_byte (far_rest_of offset % 256) q 0
+    ++ (subtract_byte (far_rest_of offset / 256 % 256) q 1 ++ subtract_byte (far_rest_of offset / 65536) q 2)) v)
+far_field_moves e q offset a v true t s far h =
+    let z : offset % 16777216 ≡ 0 = eqb-true (offset % 16777216) 0 t in
+    let ua = s.clear in
+    let x0 : v.at (a + 0) < 256 = h (a + 0) (omega arith) in
+    let x1 : v.at (a + 1) < 256 = h (a + 1) (omega arith) in
+    let x2 : v.at (a + 2) < 256 = h (a + 2) (omega arith) in
+    let same : value v.at a 3 ≡ (value v.at a 3 + offset) % 16777216 = omega (arith, z, x0, x1, x2) in
+    record { number_is = same; numbers = λ g. g; same = λ k n o. refl; inputs = refl; safe = refl; seen = refl }
+far_field_moves e q offset a v false t s far h =
+    let k = far_rest_of offset in
+    let z : offset % 16777216 ≢ 0 = eqb-false (offset % 16777216) 0 t in
+    let kb : k < 16777216 = omega (arith, z) in
+    let ua = s.clear in
+    let x = v.at (a + 0) in
+    let y = v.at (a + 1) in
+    let u = v.at (a + 2) in
+    let xs : x < 256 = h (a + 0) (omega arith) in
+    let ys : y < 256 = h (a + 1) (omega arith) in
+    let us : u < 256 = h (a + 2) (omega arith) in
+    let k0 = k % 256 in
+    let k1 = k / 256 % 256 in
+    let k2 = k / 65536 in
+    let code0 = subtract_byte k0 q 0 in
+    let code1 = subtract_byte k1 q 1 in
+    let code2 = subtract_byte k2 q 2 in
+    let v1 = block e code0 v in
+    let v2 = block e code1 v1 in
+    let w = block e code2 v2 in
+    let o0 = byte_is_subtracted e k0 q 0 (a + 0) v (s.at 0 (omega arith)) (s.kind 0 (omega arith)) in
+    let o1 = byte_is_subtracted e k1 q 1 (a + 1) v1 (s.at 1 (omega arith)) (s.kind 1 (omega arith)) in
+    let o2 = byte_is_subtracted e k2 q 2 (a + 2) v2 (s.at 2 (omega arith)) (s.kind 2 (omega arith)) in
+    let n1 : a + 1 ≢ 30 = λ i. outside_ne a 3 30 1 far (omega arith) (sym i) in
+    let n2 : a + 2 ≢ 30 = λ i. outside_ne a 3 30 2 far (omega arith) (sym i) in
+    let same1 : v1.at (a + 1) ≡ y = o0.same (a + 1) n1 (omega arith) in
+    let same2 : v2.at (a + 2) ≡ u = o1.same (a + 2) n2 (omega arith) ∙ o0.same (a + 2) n2 (omega arith) in
+    let borrow1 : v1.flags.c ≡ borrow_of x k0 0 = ap (λ f. f.c) o0.flags in
+    let made2 : v2.flags.c ≡ borrow_of (v1.at (a + 1)) k1 v1.flags.c = ap (λ f. f.c) o1.flags in
+    let borrow2 : v2.flags.c ≡ borrow_of y k1 (borrow_of x k0 0) =
+    made2 ∙ ap (λ i. borrow_of i k1 v1.flags.c) same1 ∙ ap (λ i. borrow_of y k1 i) borrow1 in
+    let byte = far_left x y u k in
+    let l1 : byte 1 ≡ left 1 (v1.at (a + 1)) k1 v1.flags = rw (same1, borrow1) refl in
+    let l2 : byte 2 ≡ left 2 (v2.at (a + 2)) k2 v2.flags = rw (same2, borrow2) refl in
+    let p1 = one_put a 0 (byte 0) byte (flags_left 0 x k0 v.flags) v v v1 (λ l. let f = far l in omega arith) refl
+    (omega arith) (none_put a byte v) o0 in
+    let p2 = one_put a 1 (left 1 (v1.at (a + 1)) k1 v1.flags) byte (flags_left 1 (v1.at (a + 1)) k1 v1.flags) v v1 v2
+    (λ l. let f = far l in omega arith) l1 (omega arith) p1 o1 in
+    let p3 = one_put a 2 (left 2 (v2.at (a + 2)) k2 v2.flags) byte (flags_left 2 (v2.at (a + 2)) k2 v2.flags) v v2 w far l2
+    (omega arith) p2 o2 in
+    let b0 = p3.there 0 (omega arith) in
+    let b1 = p3.there 1 (omega arith) in
+    let b2 = p3.there 2 (omega arith) in
+    let m0 : k0 < 256 = omega arith in
+    let m1 : k1 < 256 = omega arith in
+    let m2 : k2 < 256 = omega (arith, kb) in
+    let difference = three_less x y u k0 k1 k2 xs ys us m0 m1 m2 in
+    let whole = bytes_are k kb in
+    let sum = x + y * 256 + u * 65536 in
+    let bytes : value w.at a 3 ≡ byte 0 + byte 1 * 256 + byte 2 * 65536 = rw (b0, b1, b2) (omega arith) in
+    let old : sum ≡ value v.at a 3 = omega arith in
+    let number : value w.at a 3 ≡ (value v.at a 3 + offset) % 16777216 =
+    bytes ∙ (difference ∙ (ap (λ i. (sum + (16777216 - i)) % 16777216) whole
+    ∙ (far_moved_is sum offset ∙ ap (λ i. (i + offset) % 16777216) old))) in
+    let joined : block e (code0 ++ (code1 ++ code2)) v ≡ w = block-append e code0 (code1 ++ code2) v ∙ block-append e code1 code2 v1 in
+    rw joined (has_put a 3 ((value v.at a 3 + offset) % 16777216) byte v w p3 number)
+
+pub far_fields_are_right : FarFieldsAreRight
+far_fields_are_right e q offset a v s far h = far_field_moves e q offset a v (offset % 16777216 == 0) refl s far h

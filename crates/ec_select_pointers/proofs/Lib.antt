@@ -7,3 +7,6 @@ mod Brought
 mod Accessed
 mod Short
 mod Tagged
+mod FarLoaded
+mod FarTagged
+mod FarFormed

@@ -30,7 +30,7 @@ pub record IsShort (code : List AsmItem) (least steps words : ℕ) : Type 0 wher
   pub steps_are : code_steps code ≤ steps
   pub words_are : code_words code ≤ words
 
-joined : (a b : List AsmItem) (i j k m l n : ℕ) → IsShort a i k l → IsShort b j m n
+pub joined : (a b : List AsmItem) (i j k m l n : ℕ) → IsShort a i k l → IsShort b j m n
     → IsShort (a ++ b) (i + j) (k + m) (l + n)
 joined a b i j k m l n p q =
     let x = p.at_least in
@@ -46,7 +46,7 @@ joined a b i j k m l n p q =
       words_are = omega (arith, sum_by-append item_words a b, u, w);
     }
 
-chained : (body : ℕ → List AsmItem) (n k l : ℕ) → ((i : ℕ) → IsShort (body i) 1 k l)
+pub chained : (body : ℕ → List AsmItem) (n k l : ℕ) → ((i : ℕ) → IsShort (body i) 1 k l)
     → IsShort (chain body n) n (k * n) (l * n)
 chained body zero k l h = record { straight = refl; at_least = omega arith; steps_are = omega arith; words_are = omega arith }
 chained body (suc n) k l h =
@@ -56,14 +56,14 @@ chained body (suc n) k l h =
     let w = j.words_are in
     record { straight = j.straight; at_least = omega (arith, x); steps_are = omega (arith, s); words_are = omega (arith, w) }
 
-by_test : (b : Bool) (a c : List AsmItem) (j k l : ℕ) → IsShort a j k l → IsShort c j k l
+pub by_test : (b : Bool) (a c : List AsmItem) (j k l : ℕ) → IsShort a j k l → IsShort c j k l
     → IsShort (if b then a else c) j k l
 by_test true a c j k l p q = p
 by_test false a c j k l p q = q
 
 -- ---- addresses
 
-part_short : (o k : ℕ) (q : Location) (i : ℕ) → IsShort (part_byte o k q i) 1 2 3
+pub part_short : (o k : ℕ) (q : Location) (i : ℕ) → IsShort (part_byte o k q i) 1 2 3
 part_short o k (InRegisters r) i =
     by_test (nat_le 16 (r + i)) (LoadPart (r + i) o k i ∷ []) (LoadPart 30 o k i ∷ Plain (Mov (r + i) 30) ∷ []) 1 2 3
     (record { straight = refl; at_least = omega arith; steps_are = omega arith; words_are = omega arith })
@@ -99,7 +99,7 @@ address_short o k tag q =
       words_are = omega (arith, w, m);
     }
 
-subtract_short : (k : ℕ) (q : Location) (i : ℕ) → IsShort (subtract_byte k q i) 0 3 5
+pub subtract_short : (k : ℕ) (q : Location) (i : ℕ) → IsShort (subtract_byte k q i) 0 3 5
 subtract_short k (InRegisters r) zero =
     by_test (nat_le 16 (r + 0)) _ _ 0 3 5
     (record { straight = refl; at_least = omega arith; steps_are = omega arith; words_are = omega arith })
@@ -193,7 +193,7 @@ pointers_are_straight o k tag p q n = (
   (store_data_short p q n).straight,
 )
 
-takes : (code : List AsmItem) (least most words : ℕ) → IsShort code least most words → Takes least most code
+pub takes : (code : List AsmItem) (least most words : ℕ) → IsShort code least most words → Takes least most code
 takes code least most words h = (h.at_least, h.steps_are)
 
 pub pointers_take : PointersTake

@@ -107,7 +107,7 @@ tested lower e (InMemory o j) a pc jump next w v s at over =
     }
 
 -- a jump over so many words
-jumps_over : (e : Env) (w pc next end : ℕ) (v : View) → At e (Rjmp (pos w)) pc next → end ≡ next + w → end < 65536
+pub jumps_over : (e : Env) (w pc next end : ℕ) (v : View) → At e (Rjmp (pos w)) pc next → end ≡ next + w → end < 65536
     → Goes e 1 pc v end v
 jumps_over e w pc next end v at q l =
     let m = at.ends in

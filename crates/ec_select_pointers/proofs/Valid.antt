@@ -35,7 +35,7 @@ all_pass t body zero h = refl
 all_pass t body (suc n) h =
     both t (chain body n) (body n) (all_pass t body n (λ i l. h i (omega arith))) (h n (omega arith))
 
-by_test : (t : AsmItem → Bool) (b : Bool) (a c : List AsmItem) → (b ≡ true → list_all t a ≡ true) → list_all t c ≡ true
+pub by_test : (t : AsmItem → Bool) (b : Bool) (a c : List AsmItem) → (b ≡ true → list_all t a ≡ true) → list_all t c ≡ true
     → list_all t (if b then a else c) ≡ true
 by_test t true a c h k = h refl
 by_test t false a c h k = k
@@ -96,7 +96,7 @@ module _ (sizes : Sizes) where
   abbrev valid : AsmItem → Bool
   valid = is_valid_item sizes
 
-  part_valid : (o k : ℕ) (q : Location) (n i : ℕ) → HasPlaces sizes q n → i < n → i < 2 → is_offset sizes o k ≡ true
+  pub part_valid : (o k : ℕ) (q : Location) (n i : ℕ) → HasPlaces sizes q n → i < n → i < 2 → is_offset sizes o k ≡ true
       → list_all valid (part_byte o k q i) ≡ true
   part_valid o k (InRegisters r) n i h l m s =
       by_test valid (nat_le 16 (r + i)) _ _
@@ -117,7 +117,7 @@ module _ (sizes : Sizes) where
   subtracts_valid zero d x h l m = rw (h, lt-ltb d 32 l, lt-ltb x 256 m) refl
   subtracts_valid (suc i) d x h l m = rw (h, lt-ltb d 32 l, lt-ltb x 256 m) refl
 
-  subtract_valid : (q : Location) (n i x : ℕ) → HasPlaces sizes q n → i < n → x < 256
+  pub subtract_valid : (q : Location) (n i x : ℕ) → HasPlaces sizes q n → i < n → x < 256
       → list_all valid (subtract_byte x q i) ≡ true
   subtract_valid (InRegisters r) n i x h l m =
       by_test valid (nat_le 16 (r + i)) _ _
@@ -139,7 +139,7 @@ module _ (sizes : Sizes) where
     less = λ i x l m. subtract_valid q 3 i x h (omega arith) m;
   }
 
-  point_valid : (p : Location) → HasPlaces sizes p 2 → list_all valid (point_code p) ≡ true
+  pub point_valid : (p : Location) → HasPlaces sizes p 2 → list_all valid (point_code p) ≡ true
   point_valid (InRegisters r) h =
       by_test valid (r % 2 == 0) _ _ (λ e. rw (lt-ltb r 32 (omega arith), e) refl)
       (all_pass valid (copy_byte (InRegisters r) (InRegisters 30)) 2 copied)
@@ -151,7 +151,7 @@ module _ (sizes : Sizes) where
       loaded : (i : ℕ) → i < 2 → list_all valid (copy_byte (InMemory o k) (InRegisters 30) i) ≡ true
       loaded i l = rw (lt-ltb (30 + i) 32 (omega arith), h i l) refl
 
-  data_valid : (q : Location) (n i : ℕ) → n ≤ 64 → HasPlaces sizes q n → i < n → list_all valid (data_byte q i) ≡ true
+  pub data_valid : (q : Location) (n i : ℕ) → n ≤ 64 → HasPlaces sizes q n → i < n → list_all valid (data_byte q i) ≡ true
   data_valid (InRegisters r) n i m h l = rw (lt-ltb (r + i) 32 (omega arith), lt-ltb i 64 (omega arith)) refl
   data_valid (InMemory o k) n i m h l = rw (lt-ltb i 64 (omega arith), h i l) refl
 
@@ -176,11 +176,11 @@ module _ (sizes : Sizes) where
   test_valid (InRegisters r) h = rw (lt-ltb (r + 2) 32 (omega arith)) refl
   test_valid (InMemory o k) h = rw (h 2 (omega arith)) refl
 
-  few_words : (q : Location) (n : ℕ) → n ≤ 64 → bytes_words q n ≤ 192
+  pub few_words : (q : Location) (n : ℕ) → n ≤ 64 → bytes_words q n ≤ 192
   few_words (InRegisters r) n l = omega arith
   few_words (InMemory o k) n l = omega arith
 
-  over_valid : (w : ℕ) → w < 2048 → list_all valid (over w) ≡ true
+  pub over_valid : (w : ℕ) → w < 2048 → list_all valid (over w) ≡ true
   over_valid w l = rw (lt-ltb w 2048 l) refl
 
 pub addresses_are_valid : AddressesAreValid
@@ -248,7 +248,7 @@ passing t u h (i ∷ is) f =
     let p = and_parts (t i) (list_all t is) f in
     rw (h i p.0, passing t u h is p.1) refl
 
-has_no_label : (code : List AsmItem) → list_all is_plain code ≡ true → HasNoLabel code
+pub has_no_label : (code : List AsmItem) → list_all is_plain code ≡ true → HasNoLabel code
 has_no_label code h =
     record {
       uses = λ items. passing is_plain (λ i. is_placed items (used_label i)) (no_use items) code h;
@@ -258,7 +258,7 @@ has_no_label code h =
           (sum_by-zero number code ∙ passing is_plain (λ i. number i == 0) (no_place l) code h);
     }
 
-part_plain : (o k : ℕ) (q : Location) (i : ℕ) → list_all is_plain (part_byte o k q i) ≡ true
+pub part_plain : (o k : ℕ) (q : Location) (i : ℕ) → list_all is_plain (part_byte o k q i) ≡ true
 part_plain o k (InRegisters r) i = by_test is_plain (nat_le 16 (r + i)) _ _ (λ e. refl) refl
 part_plain o k (InMemory p j) i = refl
 
@@ -267,18 +267,18 @@ tag_plain None q = refl
 tag_plain (Some tag) (InRegisters r) = by_test is_plain (nat_le 16 (r + 2)) _ _ (λ e. refl) refl
 tag_plain (Some tag) (InMemory o k) = refl
 
-subtract_plain : (x : ℕ) (q : Location) (i : ℕ) → list_all is_plain (subtract_byte x q i) ≡ true
+pub subtract_plain : (x : ℕ) (q : Location) (i : ℕ) → list_all is_plain (subtract_byte x q i) ≡ true
 subtract_plain x (InRegisters r) i = by_test is_plain (nat_le 16 (r + i)) _ _ (λ e. refl) refl
 subtract_plain x (InMemory o j) i = refl
 
 plain_addresses : (o k : ℕ) (q : Location) (tag : Option ℕ) → PassAddresses is_plain o k q 2 tag
 plain_addresses o k q tag = record { part = λ i l. part_plain o k q i; tagged = tag_plain tag q; less = λ i x l m. subtract_plain x q i }
 
-point_plain : (p : Location) → list_all is_plain (point_code p) ≡ true
+pub point_plain : (p : Location) → list_all is_plain (point_code p) ≡ true
 point_plain (InRegisters r) = by_test is_plain (r % 2 == 0) _ _ (λ e. refl) refl
 point_plain (InMemory o k) = refl
 
-data_plain : (q : Location) (i : ℕ) → list_all is_plain (data_byte q i) ≡ true
+pub data_plain : (q : Location) (i : ℕ) → list_all is_plain (data_byte q i) ≡ true
 data_plain (InRegisters r) i = refl
 data_plain (InMemory o k) i = refl
 

@@ -3,3 +3,6 @@ pub mod Accesses
 pub mod AddressLaws
 pub mod AccessLaws
 pub mod Form
+pub mod Far
+pub mod FarLaws
+pub mod FarForm

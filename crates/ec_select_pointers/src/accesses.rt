@@ -13,7 +13,7 @@ use ec_isa::Instr;
 use ec_space::{NoMemory, Seq};
 
 /// Appends code that sets Z to the address in a pointer.
-fn point(out: &mut Seq<AsmItem>, pointer: Location) -> Result<(), NoMemory>
+pub(crate) fn point(out: &mut Seq<AsmItem>, pointer: Location) -> Result<(), NoMemory>
     requires { HasBytes pointer 2 }
     ensures ok { OnOk result (out.new.items ≡ out.old.items ++ point_code pointer) }
     ensures err { OnErr result (BeginWith out.old.items out.new.items) }
@@ -43,7 +43,7 @@ fn data_byte(out: &mut Seq<AsmItem>, to: Location, i: u8) -> Result<(), NoMemory
     }
 }
 
-fn data_bytes(out: &mut Seq<AsmItem>, to: Location, bytes: u8) -> Result<(), NoMemory>
+pub(crate) fn data_bytes(out: &mut Seq<AsmItem>, to: Location, bytes: u8) -> Result<(), NoMemory>
     requires { HasBytes to bytes }
     ensures ok { OnOk result (out.new.items ≡ out.old.items ++ data_bytes to bytes) }
     ensures err { OnErr result (BeginWith out.old.items out.new.items) }
@@ -148,7 +148,7 @@ pub fn load_table(
 }
 
 /// The words of a load from either bank.
-fn bytes_words(to: Location, bytes: u8) -> u16
+pub(crate) fn bytes_words(to: Location, bytes: u8) -> u16
     ensures value { result ≡ bytes_words to bytes }
     ensures most { result < 2 ^ 10 }
 {
@@ -160,7 +160,7 @@ fn bytes_words(to: Location, bytes: u8) -> u16
 }
 
 /// Appends a jump over so many words.
-fn over(out: &mut Seq<AsmItem>, words: u16) -> Result<(), NoMemory>
+pub(crate) fn over(out: &mut Seq<AsmItem>, words: u16) -> Result<(), NoMemory>
     requires { words < 2 ^ 11 }
     ensures ok { OnOk result (out.new.items ≡ out.old.items ++ over words) }
     ensures err { OnErr result (out.new.items ≡ out.old.items) }

@@ -12,7 +12,7 @@ use ec_space::{NoMemory, Seq};
 
 /// Appends code that puts byte `i` of the address of a place to byte `i` of a pointer, through R30 where LDI does not
 /// reach it.
-fn part_byte(
+pub(crate) fn part_byte(
     out: &mut Seq<AsmItem>,
     object: u16,
     offset: u32,
@@ -108,7 +108,12 @@ fn subtracts(i: u8, d: u8, k: u8) -> Instr
 }
 
 /// Appends code that subtracts a constant from byte `i` of a number, through R30 where SUBI does not reach it.
-fn subtract_byte(out: &mut Seq<AsmItem>, k: u8, at: Location, i: u8) -> Result<(), NoMemory>
+pub(crate) fn subtract_byte(
+    out: &mut Seq<AsmItem>,
+    k: u8,
+    at: Location,
+    i: u8,
+) -> Result<(), NoMemory>
     requires { HasByte at i }
     ensures ok { OnOk result (out.new.items ≡ out.old.items ++ subtract_byte k at i) }
     ensures err { OnErr result (out.new.items ≡ out.old.items) }

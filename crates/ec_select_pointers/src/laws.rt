@@ -6,6 +6,11 @@ ghost use Rattle.ec_select_pointers.specs.AccessLaws.{TableIsLoaded};
 ghost use Rattle.ec_select_pointers.specs.Form.{PointersAreStraight, PointersTake, PointersHave};
 ghost use Rattle.ec_select_pointers.specs.Form.{AddressesAreValid, AccessesAreValid, PointersHaveNoLabel};
 ghost use Rattle.ec_select_pointers.specs.Form.{TablesAreShort, TablesAreValid, TablesHaveNoLabel};
+ghost use Rattle.ec_select_pointers.specs.FarLaws.{FarFlashIsLoaded, FarTableIsLoaded, DataIsLoadedByTop};
+ghost use Rattle.ec_select_pointers.specs.FarLaws.{FarFlashIsLoadedByTop, FarAddressesAreRight, FarFieldsAreRight};
+ghost use Rattle.ec_select_pointers.specs.FarForm.{FarPointersAreStraight, FarPointersTake, FarPointersHave};
+ghost use Rattle.ec_select_pointers.specs.FarForm.{FarAddressesAreValid, FarTablesAreValid, FarAccessesAreValid};
+ghost use Rattle.ec_select_pointers.specs.FarForm.{FarPointersHaveNoLabel};
 
 use ec_asm::laws::{copies_are_right, jumps_go, parts_stand, runs_join, straight_code_goes};
 
@@ -76,4 +81,49 @@ pub fn pointers_are_valid()
     ensures addresses { AddressesAreValid }
     ensures accesses { AccessesAreValid }
     ensures labels { PointersHaveNoLabel }
+{}
+
+/// The code of `load_far` and of `load_far_table` brings the bytes at a whole address from the flash bank, each by one
+/// read, by rising address. All else is kept but R0, R30, R31 and RAMPZ.
+pub fn far_loads_are_right()
+    ensures by_pointer { FarFlashIsLoaded }
+    ensures by_name { FarTableIsLoaded }
+{
+    copies_are_right();
+}
+
+/// From its first word to its end the code of `load_any_far` does so from the bank that the pointer's top bit tells, in
+/// at least and at most so many steps.
+pub fn far_loads_by_top_are_right()
+    ensures from_data { DataIsLoadedByTop }
+    ensures from_flash { FarFlashIsLoadedByTop }
+{
+    copies_are_right();
+    parts_stand();
+    straight_code_goes();
+    runs_join();
+    jumps_go();
+}
+
+/// The code of `far_address` puts the whole address of a place to a pointer of three bytes, and keeps all else but R30.
+/// That of `far_field` adds an offset to all three bytes, and keeps all else but R30 and the flags.
+pub fn far_addresses_are_right()
+    ensures addresses { FarAddressesAreRight }
+    ensures fields { FarFieldsAreRight }
+{}
+
+/// The code for a core with RAMPZ is straight but for that of `load_any_far`. It has at least and at most so many steps,
+/// and at most so many words.
+pub fn far_pointers_are_straight()
+    ensures straight { FarPointersAreStraight }
+    ensures steps { FarPointersTake }
+    ensures words { FarPointersHave }
+{}
+
+/// Its items can be placed, and have no labels.
+pub fn far_pointers_are_valid()
+    ensures addresses { FarAddressesAreValid }
+    ensures tables { FarTablesAreValid }
+    ensures accesses { FarAccessesAreValid }
+    ensures labels { FarPointersHaveNoLabel }
 {}

@@ -6,12 +6,17 @@
 //! tells the bank: 0x00 is flash, and 0x80 is data. `specs/Addresses.antt` and `specs/Accesses.antt` have the pieces,
 //! `specs/AddressLaws.antt`, `specs/AccessLaws.antt` and `specs/Form.antt` what they do. R0, R30 and R31 are work
 //! registers.
+//!
+//! On a core with RAMPZ a pointer of three bytes into flash has the whole address. `specs/Far.antt` has the pieces for
+//! these, `specs/FarLaws.antt` and `specs/FarForm.antt` what they do.
 #![tactic(auto)]
 
 mod accesses;
 mod addresses;
+mod far;
 pub mod laws;
 mod memory;
 
 pub use accesses::{load_any, load_data, load_flash, load_table, store_data};
 pub use addresses::{address, field};
+pub use far::{far_address, far_field, load_any_far, load_far, load_far_table};
