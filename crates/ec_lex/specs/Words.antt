@@ -7,8 +7,8 @@ use Rattle.ec_grammar.specs.declared.token.WordKind.{WordKind}
 use Rattle.ec_grammar.specs.declared.token.WordKind.TheVariants.{Break, Char, Const, Continue, Do, Else, Extern, For}
 use Rattle.ec_grammar.specs.declared.token.WordKind.TheVariants.{If, Int, Long, Register, Return, Short, Signed, Sizeof}
 use Rattle.ec_grammar.specs.declared.token.WordKind.TheVariants.{Static, Struct, Unsigned, Void, While, Fract, Accum}
-use Rattle.ec_grammar.specs.declared.token.WordKind.TheVariants.{Sat, Flash, Data, Int8, Uint8, Int16, Uint16, Int32}
-use Rattle.ec_grammar.specs.declared.token.WordKind.TheVariants.{Uint32}
+use Rattle.ec_grammar.specs.declared.token.WordKind.TheVariants.{Sat, Flash, FarFlash, Data, Int8, Uint8, Int16, Uint16}
+use Rattle.ec_grammar.specs.declared.token.WordKind.TheVariants.{Int32, Uint32}
 use Rattle.ec_iohw.specs.declared.operations.IoOp.{IoOp}
 use Rattle.ec_iohw.specs.declared.operations.IoOp.TheVariants as ops
 use Rattle.ec_grammar.specs.declared.token.GroupOp.{GroupOp}
@@ -32,7 +32,7 @@ words =
     ∷ (codes "static", Static) ∷ (codes "struct", Struct) ∷ (codes "unsigned", Unsigned) ∷ (codes "void", Void)
     ∷ (codes "while", While)
     ∷ (codes "_Fract", Fract) ∷ (codes "_Accum", Accum) ∷ (codes "_Sat", Sat)
-    ∷ (codes "__flash", Flash) ∷ (codes "__data", Data) ∷ []
+    ∷ (codes "__flash", Flash) ∷ (codes "__farflash", FarFlash) ∷ (codes "__data", Data) ∷ []
 
 -- after `<stdint.h>` (7.18.1.1)
 abbrev pub stdint_words : List (List ℕ × WordKind)
@@ -63,13 +63,12 @@ group_names =
     (codes "iogroup_acquire", groups.Acquire) ∷ (codes "iogroup_release", groups.Release)
     ∷ (codes "iogroup_map", groups.Map) ∷ []
 
--- Words of C, of TR 18037 and of this compiler without a place in the grammar, and `__farflash`, which has one: no text gives it
--- before the core that has such memory is compiled.
+-- words of C and of TR 18037 without a place in the grammar
 abbrev pub reserved_words : List (List ℕ)
 reserved_words =
     codes "auto" ∷ codes "case" ∷ codes "default" ∷ codes "double" ∷ codes "enum" ∷ codes "float" ∷ codes "goto"
     ∷ codes "inline" ∷ codes "restrict" ∷ codes "switch" ∷ codes "typedef" ∷ codes "union" ∷ codes "volatile"
-    ∷ codes "_Bool" ∷ codes "_Complex" ∷ codes "_Imaginary" ∷ codes "__farflash" ∷ []
+    ∷ codes "_Bool" ∷ codes "_Complex" ∷ codes "_Imaginary" ∷ []
 
 -- What a text has made known up to a place: whether only white space stands before it on its line, the headers that
 -- were included, and the names that were defined as a constant.

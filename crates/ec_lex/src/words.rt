@@ -6,7 +6,7 @@ ghost use Rattle.ec_lex.specs.Words.{same, look_up, plain_word, stdint_word, std
 
 use ec_grammar::{GroupOp, IoOp, TokenKind, WordKind};
 
-static WORDS: [(&[u8], WordKind); 26] = [
+static WORDS: [(&[u8], WordKind); 27] = [
     (b"break", WordKind::Break),
     (b"char", WordKind::Char),
     (b"const", WordKind::Const),
@@ -32,6 +32,7 @@ static WORDS: [(&[u8], WordKind); 26] = [
     (b"_Accum", WordKind::Accum),
     (b"_Sat", WordKind::Sat),
     (b"__flash", WordKind::Flash),
+    (b"__farflash", WordKind::FarFlash),
     (b"__data", WordKind::Data),
 ];
 
@@ -79,7 +80,7 @@ static GROUP_NAMES: [(&[u8], GroupOp); 3] = [
     (b"iogroup_map", GroupOp::Map),
 ];
 
-static RESERVED: [&[u8]; 17] = [
+static RESERVED: [&[u8]; 16] = [
     b"auto",
     b"case",
     b"default",
@@ -96,7 +97,6 @@ static RESERVED: [&[u8]; 17] = [
     b"_Bool",
     b"_Complex",
     b"_Imaginary",
-    b"__farflash",
 ];
 
 /// What the table's first entry with these bytes has.
@@ -157,7 +157,7 @@ pub fn io_word(name: &[u8]) -> Option<TokenKind>
     }
 }
 
-/// Whether the name is reserved: a word without a place in the grammar, or `__farflash`, which no text gives yet.
+/// Whether the name is reserved: a word without a place in the grammar.
 #[tactic(auto, unfolding(crate::specs::Words::is_reserved))]
 pub fn is_reserved(name: &[u8]) -> bool
     ensures { result ≡ is_reserved name.now }

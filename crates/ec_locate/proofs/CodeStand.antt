@@ -1,12 +1,13 @@
 -- The code of a placed program stands in its image: the whole.
-use Rattle.std.proofs.Common.{◌≡◌, ◌+◌, ◌%◌, ◌<◌, ◌≤◌, ℕ, Bool, true, false, List, [], ◌∷◌, ◌++◌, length, Option, Some, None, zero-add}
+use Rattle.std.proofs.Common.{◌≡◌, ◌+◌, ◌*◌, ◌%◌, ◌<◌, ◌≤◌, ℕ, Bool, true, false, List, [], ◌∷◌, ◌++◌, length, Option, Some, None, zero-add}
 use Rattle.std.proofs.Common.{refl, sym, ap, ◌∙◌, subst, arith}
 use Rattle.std.specs.Prelude.{nat_lt, if◌then◌else◌, slice_index, count_by}
 use Rattle.std.specs.List.{list_all}
 use Rattle.std.proofs.lemmas.Bool.{and_parts, ltb-false, eqb-true}
 use Rattle.ec_space.specs.Memory.{flash_size}
+use Rattle.ec_isa.specs.declared.instructions.Instr.TheVariants.{Ldi}
 use Rattle.ec_asm.specs.Change.{Env}
-use Rattle.ec_asm.specs.Items.{code_words}
+use Rattle.ec_asm.specs.Items.{code_words, part_of}
 use Rattle.ec_asm.specs.Placed.{instructions, bytes_of_all, code_image}
 use Rattle.ec_asm.specs.Valid.{sizes_of, is_valid_item, used_label, is_label, stands_once, is_placed}
 use Rattle.ec_asm.specs.declared.items.AsmItem.{AsmItem}
@@ -22,6 +23,7 @@ use Rattle.ec_locate.specs.declared.needs.Needs.{Needs}
 use Rattle.ec_locate.specs.declared.needs.Shortage.{Shortage}
 use Rattle.ec_locate.specs.declared.stop.RegionName.{RegionName}
 use Rattle.ec_locate.specs.declared.stop.RegionName.TheVariants.{Code, Tables, Far, Data, Stack}
+use Rattle.ec_locate.proofs.Ends.{code_is_short}
 use Rattle.ec_locate.proofs.Stand.{known_items, label_below, labels_stand, length_image, length_overwritten, overwritten_holds}
 use Rattle.ec_locate.proofs.Words.{valid_words}
 
@@ -70,25 +72,26 @@ all_fit m n h =
 abbrev HaveSame : (w w' : ℕ → ℕ) → AsmItem → Type 0
 HaveSame w w' i = (l : ℕ) → used_label i ≡ Some l → w l ≡ w' l
 
-same_instructions : (e e' : Env) → e.address_of ≡ e'.address_of → (i : AsmItem) → HaveSame e.word_of e'.word_of i
+same_instructions : (e e' : Env) → e.address_of ≡ e'.address_of → e.far_of ≡ e'.far_of → (i : AsmItem) → HaveSame e.word_of e'.word_of i
     → instructions e i ≡ instructions e' i
-same_instructions e e' a (Plain i) h = refl
-same_instructions e e' a (Label l) h = refl
-same_instructions e e' a (JumpTo l) h = rw (h l refl) refl
-same_instructions e e' a (CallTo l) h = rw (h l refl) refl
-same_instructions e e' a (BranchTo set flag l) h = rw (h l refl) refl
-same_instructions e e' a (LoadPart d o offset part) h = rw a refl
-same_instructions e e' a (LoadObj d o offset) h = rw a refl
-same_instructions e e' a (StoreObj o offset r) h = rw a refl
+same_instructions e e' a f (Plain i) h = refl
+same_instructions e e' a f (Label l) h = refl
+same_instructions e e' a f (JumpTo l) h = rw (h l refl) refl
+same_instructions e e' a f (CallTo l) h = rw (h l refl) refl
+same_instructions e e' a f (BranchTo set flag l) h = rw (h l refl) refl
+same_instructions e e' a f (LoadPart d o offset part) h =
+    λ j. Ldi d (part_of (if nat_lt part 2 then a j o offset else f j o offset) part) ∷ []
+same_instructions e e' a f (LoadObj d o offset) h = rw a refl
+same_instructions e e' a f (StoreObj o offset r) h = rw a refl
 
-same_code : (e e' : Env) (q : AsmItem → Bool) → e.address_of ≡ e'.address_of
+same_code : (e e' : Env) (q : AsmItem → Bool) → e.address_of ≡ e'.address_of → e.far_of ≡ e'.far_of
     → ((i : AsmItem) → q i ≡ true → HaveSame e.word_of e'.word_of i) → (items : List AsmItem) → list_all q items ≡ true
     → code_image e items ≡ code_image e' items
-same_code e e' q a h [] u = refl
-same_code e e' q a h (i ∷ is) u =
+same_code e e' q a f h [] u = refl
+same_code e e' q a f h (i ∷ is) u =
     let (here, more) = and_parts (q i) (list_all q is) u in
-    ap (λ x. bytes_of_all x ++ code_image e is) (same_instructions e e' a i (h i here))
-    ∙ ap (λ x. bytes_of_all (instructions e' i) ++ x) (same_code e e' q a h is more)
+    ap (λ x. bytes_of_all x ++ code_image e is) (same_instructions e e' a f i (h i here))
+    ∙ ap (λ x. bytes_of_all (instructions e' i) ++ x) (same_code e e' q a f h is more)
 
 -- ---- labels that stand once
 
@@ -136,17 +139,19 @@ code-stands p m asm l kind table valid asm_valid located =
     let last = last_of m in
     let e = environment p m asm l kind table in
     let room = (all_fit m (needs p (entries_by m p) asm.frames.items items) located.fits).code in
+    let short = code_is_short m valid in
     let ends = valid.regions_valid.code.ends in
-    let small : code_words items ≤ 16384 = omega (arith, room, ends) in
+    let small : code_words items ≤ 32767 = omega (arith, room, short) in
+    let within : 2 * code_words items ≤ flash_size m.core = omega (arith, room, valid.regions_valid.start, ends) in
     let sizes = sizes_of (object_sizes p) asm.frames.items 64 in
     let words = all_have (is_valid_item sizes) has_words (valid_words sizes) items asm_valid.items in
     let placed : AsmItem → Bool = λ i. is_placed items (used_label i) in
-    let objects = with_objects p.structs y 0 p.objects blank in
+    let objects = with_objects p.structs y 0 p.objects (blank m.core) in
     let code = code_image (resolved items y last) items in
-    let same : code ≡ code_image e items = same_code (resolved items y last) e placed refl (placed_word items) items asm_valid.labels in
+    let same : code ≡ code_image e items = same_code (resolved items y last) e placed refl refl (placed_word items) items asm_valid.labels in
     let flash : l.image.bytes.items ≡ overwritten objects.bytes 0 code = ap (λ f. f.bytes) located.flash in
-    let sized : length l.image.bytes.items ≡ 32768 = l.image.sized ∙ ap flash_size located.core in
-    let before : length objects.bytes ≡ 32768 = sym (length_overwritten objects.bytes 0 code) ∙ ap length (sym flash) ∙ sized in
+    let sized : length l.image.bytes.items ≡ flash_size m.core = l.image.sized ∙ ap flash_size located.core in
+    let before : length objects.bytes ≡ flash_size m.core = sym (length_overwritten objects.bytes 0 code) ∙ ap length (sym flash) ∙ sized in
     let long = length_image (resolved items y last) items in
     let long' = length_image e items in
     let below : (n : ℕ) → label_word items n < 65536 = λ n. let b = label_below items n in omega (arith, b, small) in
@@ -158,9 +163,9 @@ code-stands p m asm l kind table valid asm_valid located =
         λ one. o.1 ∙ sym (zero-add (label_word items n)),
       ));
       image = record {
-        within = omega (arith, long', sized, small);
+        within = omega (arith, long', sized, within);
         bytes_there = λ k less.
-            let held = overwritten_holds objects.bytes 0 code 0 (omega (arith, long, before, small)) k (omega (arith, long, long', less)) in
+            let held = overwritten_holds objects.bytes 0 code 0 (omega (arith, long, before, within)) k (omega (arith, long, long', less)) in
             ap (λ f. slice_index f (0 + k)) flash ∙ held ∙ ap (λ c. slice_index c k) same;
       };
       room = omega (arith, small);

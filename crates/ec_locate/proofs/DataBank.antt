@@ -5,6 +5,7 @@ use Rattle.std.proofs.Common.{Option, Some, None, sym, ap, ◌∙◌, subst, ari
 use Rattle.std.specs.Prelude.{slice_get, option_map}
 use Rattle.std.proofs.lemmas.List.{length-map}
 use Rattle.std.proofs.lemmas.Option.{slice_get-map, slice_get_within, get_or_from_slice_get}
+use Rattle.ec_space.specs.Memory.{data_size as size_of_data}
 use Rattle.ec_space.specs.declared.space.Bank.TheVariants.{Data}
 use Rattle.ec_space.specs.declared.space.Place.{Place}
 use Rattle.ec_asm.specs.declared.items.AsmProgram.{AsmProgram}
@@ -229,7 +230,7 @@ module _ (p : PlainProgram) (m : Map) (asm : AsmProgram) where
 
     pub record Outside (at size : ℕ) : Type 0 where
       pub from_there : 256 ≤ at
-      pub ends : at + size ≤ 2304
+      pub ends : at + size ≤ size_of_data m.core
       pub vars : Clear at size m.vars.first m.vars.size
       pub stack : Clear at size m.stack.first m.stack.size
 
@@ -237,7 +238,7 @@ module _ (p : PlainProgram) (m : Map) (asm : AsmProgram) where
     outside o at s =
         let b = block p m o at in
         let (inside, met) = free_at m (blocks (es p m) p.objects m.places.items) s.found.number b free s.is_block in
-        let (low, high) = in_data_bank o.home at (at + size p m o) s.in_bank inside in
+        let (low, high) = in_data_bank m.core o.home at (at + size p m o) s.in_bank inside in
         let unmet : region_of_bank m b Data ≡ None = subst (λ bank. region_of_bank m b bank ≡ None) s.in_bank met in
         let (vars, stack) = neither_met (name_where_met b m.vars regions.Data) (name_where_met b m.stack regions.Stack) unmet in
         record {

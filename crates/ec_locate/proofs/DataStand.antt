@@ -6,6 +6,7 @@ use Rattle.std.specs.Prelude.{slice_get, slice_index}
 use Rattle.std.proofs.lemmas.Bool.{lt-ltb, le-ltb}
 use Rattle.std.proofs.lemmas.List.{length-map}
 use Rattle.std.proofs.lemmas.Option.{slice_get_within, get_or_from_slice_get}
+use Rattle.ec_space.specs.Memory.{data_size}
 use Rattle.ec_space.specs.declared.space.Bank.TheVariants.{Data}
 use Rattle.ec_space.specs.declared.space.Home.TheVariants.{Data as DataHome}
 use Rattle.ec_space.specs.declared.space.Place.{Place}
@@ -22,26 +23,26 @@ use Rattle.ec_overlay.specs.Chains.{NothingRecurs}
 use Rattle.ec_overlay.specs.Frames.{begin_of, AreOverlaid, FramesAreOverlaid}
 use Rattle.ec_overlay.specs.Objects.{ObjectsAreOverlaid, OverlaidObjectsStandApart}
 use Rattle.ec_overlay.proofs.Programs.{nothing_recurs}
-use Rattle.ec_locate.specs.declared.entries.Entry.{Entry}
 use Rattle.ec_locate.specs.declared.entries.Kept.{Kept}
 use Rattle.ec_locate.specs.declared.entries.Kept.TheVariants.{Packed, Fixed, Register, InFrame}
 use Rattle.ec_locate.specs.declared.placing.Located.{Located}
 use Rattle.ec_locate.specs.Apart.{AreFree}
 use Rattle.ec_locate.specs.Code.{address_of, start_of}
 use Rattle.ec_locate.specs.DataBank.{IsOwnedBy, Names, an_object, scratch, work, IsInMemory, StandsIn, DataStands, DataStandsApart}
-use Rattle.ec_locate.specs.Entries.{fixed_place, is_static, data_sizes, flash_sizes, far_sizes, frame_size, frame_of, owned_of}
+use Rattle.ec_locate.specs.Entries.{fixed_place, is_static, data_sizes, flash_sizes, far_sizes, frame_size, owned_of}
 use Rattle.ec_locate.specs.Entries.{scratch_size, data_need}
 use Rattle.ec_locate.specs.Fixed.{blocks}
 use Rattle.ec_locate.specs.Layout.{LayoutView, place_by, local_at}
 use Rattle.ec_locate.specs.Placing.{IsLocated, layout_by, last_of, needs, scratch_needs}
 use Rattle.ec_locate.proofs.Addresses.{object_start, address_from}
+use Rattle.ec_locate.proofs.Ends.{data_low}
 use Rattle.ec_locate.proofs.CodeStand.{all_fit}
 use Rattle.ec_locate.proofs.InOrders.{places_free}
 use Rattle.ec_locate.proofs.Kept.{kept_known}
 use Rattle.ec_locate.proofs.Objects.{is_object_at, few_objects}
 use Rattle.ec_locate.proofs.Stood.{es, size, entry, entry_there, Stood, stood}
 use Rattle.ec_locate.proofs.Where.{place_at, frame_at}
-use Rattle.ec_locate.proofs.DataBank.{same_place, scratch_from, Inside, packed, of_frame, of_scratch, last, Standing, in_area, fixed}
+use Rattle.ec_locate.proofs.DataBank.{same_place, scratch_from, packed, of_frame, of_scratch, last, Standing, in_area, fixed}
 use Rattle.ec_locate.proofs.DataBank.{named, InVars, in_vars, outside, registers, standing_apart}
 
 same_number : (z : Option ℕ) (a b : ℕ) → z ≡ Some a → z ≡ Some b → a ≡ b
@@ -150,7 +151,7 @@ module _ (laws : OverlayLaws) (p : PlainProgram) (m : Map) (asm : AsmProgram) (l
 
   -- ---- in memory
 
-  memory_of : (at s : ℕ) → InVars p m asm valid map_valid over locals room free at s → IsInMemory at s
+  memory_of : (at s : ℕ) → InVars p m asm valid map_valid over locals room free at s → IsInMemory m.core at s
   memory_of at s v =
       let from = v.from_there in
       let ends = v.ends in
@@ -158,10 +159,15 @@ module _ (laws : OverlayLaws) (p : PlainProgram) (m : Map) (asm : AsmProgram) (l
       let high = map_valid.regions_valid.vars.ends in
       (omega (arith, from, low), omega (arith, ends, high))
 
-  below : (n at s : ℕ) → Standing p m asm n at s → at + s ≤ 2304
+  below : (n at s : ℕ) → Standing p m asm n at s → at + s ≤ data_size m.core
   below n at s (in_area _ _ _ a) = (memory_of at s (in_vars p m asm valid map_valid over locals room free n at s a)).1
   below n at s (fixed _ _ o q a) = (outside p m asm valid map_valid over locals room free o at a).ends
-  below n at s (named _ _ o q a) = let r = (registers p m asm valid map_valid over locals room free n at o q a).ends in omega (arith, r)
+  below n at s (named _ _ o q a) =
+      let r = (registers p m asm valid map_valid over locals room free n at o q a).ends in
+      let low = map_valid.regions_valid.stack.from_there in
+      let some = map_valid.regions_valid.stack.some in
+      let high = map_valid.regions_valid.stack.ends in
+      omega (arith, r, low, some, high)
 
   clear_of_stack : (at s : ℕ) → InVars p m asm valid map_valid over locals room free at s
       → (at + s ≤ m.stack.first) ⊎ (end_of m.stack ≤ at)
@@ -180,7 +186,7 @@ module _ (laws : OverlayLaws) (p : PlainProgram) (m : Map) (asm : AsmProgram) (l
 
   -- what is no named register stands in memory
   memory_unless : (n at s : ℕ) → Standing p m asm n at s
-      → ((o : PlainObject) (first : ℕ) → slice_get p.objects n ≡ Some o → o.storage ≢ register first) → IsInMemory at s
+      → ((o : PlainObject) (first : ℕ) → slice_get p.objects n ≡ Some o → o.storage ≢ register first) → IsInMemory m.core at s
   memory_unless n at s (in_area _ _ _ a) none = memory_of at s (in_vars p m asm valid map_valid over locals room free n at s a)
   memory_unless n at s (fixed _ _ o q a) none =
       let out = outside p m asm valid map_valid over locals room free o at a in
@@ -191,15 +197,15 @@ module _ (laws : OverlayLaws) (p : PlainProgram) (m : Map) (asm : AsmProgram) (l
   same_object i o x q r = let both : Some o ≡ Some x = sym q ∙ r in cc
 
   objects : (i : ℕ) (o : PlainObject) (q : Place) → slice_get p.objects i ≡ Some o → bank_of o.home ≡ Data
-      → slice_get l.places.items i ≡ Some q → StandsIn o.storage q.offset (size p m o)
+      → slice_get l.places.items i ≡ Some q → StandsIn m.core o.storage q.offset (size p m o)
   objects i o q is home at = by_storage o.storage refl
     where
-      unless : (s : PlainStorage) → o.storage ≡ s → ((first : ℕ) → s ≢ register first) → IsInMemory q.offset (size p m o)
+      unless : (s : PlainStorage) → o.storage ≡ s → ((first : ℕ) → s ≢ register first) → IsInMemory m.core q.offset (size p m o)
       unless s e none =
           memory_unless i q.offset (size p m o) (object_standing i o q is home at)
           (λ x first r t. none first (sym e ∙ ap (λ z. z.storage) (same_object i o x is r) ∙ t))
 
-      by_storage : (s : PlainStorage) → o.storage ≡ s → StandsIn s q.offset (size p m o)
+      by_storage : (s : PlainStorage) → o.storage ≡ s → StandsIn m.core s q.offset (size p m o)
       by_storage (static inits) s = unless (static inits) s (λ first e. cc)
       by_storage (local f) s = unless (local f) s (λ first e. cc)
       by_storage (param f) s = unless (param f) s (λ first e. cc)
@@ -226,7 +232,8 @@ module _ (laws : OverlayLaws) (p : PlainProgram) (m : Map) (asm : AsmProgram) (l
   address : (n at s i : ℕ) → Names p asm l n at s → i ≤ s → address_of y (last_of m) n i ≡ at + i
   address n at s i h small =
       let low = below n at s (standing n at s h) in
-      address_from y (last_of m) n at i (start_is n at s h) (omega (arith, low, small))
+      let most = data_low m.core in
+      address_from y (last_of m) n at i (start_is n at s h) (omega (arith, low, most, small))
 
   pub holds : DataStands p m asm l
   holds = record {

@@ -1,5 +1,5 @@
 -- What a placed program keeps in the flash bank stands apart.
-use Rattle.std.proofs.Common.{◌≡◌, ◌≢◌, ◌+◌, ◌≤◌, ℕ, List, Some, refl, sym, ap, ◌∙◌, subst, arith}
+use Rattle.std.proofs.Common.{◌≡◌, ◌≢◌, ◌+◌, ◌%◌, ◌≤◌, ℕ, List, Some, refl, sym, ap, ◌∙◌, subst, arith}
 use Rattle.std.specs.Prelude.{slice_get, option_map, unwrap_or}
 use Rattle.ec_space.specs.declared.space.Bank.TheVariants.{Flash, Data}
 use Rattle.ec_space.specs.declared.space.Home.TheVariants.{Data as DataHome}
@@ -13,18 +13,18 @@ use Rattle.ec_map.specs.Maps.{ValidMap}
 use Rattle.ec_map.specs.declared.map.Map.{Map}
 use Rattle.ec_locate.specs.declared.placing.Located.{Located}
 use Rattle.ec_locate.specs.Apart.{AreFree}
-use Rattle.ec_locate.specs.Code.{address_of}
+use Rattle.ec_locate.specs.Code.{address_of, far_of}
 use Rattle.ec_locate.specs.Entries.{flash_sizes, far_sizes, initial_sizes}
 use Rattle.ec_locate.specs.Fixed.{blocks}
 use Rattle.ec_locate.specs.FlashBank.{IsInFlash, FlashStands, FlashStandsApart}
 use Rattle.ec_locate.specs.Initial.{IsInitialised, values_of}
 use Rattle.ec_locate.specs.Placing.{IsLocated, layout_by, last_of, needs}
-use Rattle.ec_locate.proofs.Addresses.{object_start, address_from}
+use Rattle.ec_locate.proofs.Addresses.{object_start}
 use Rattle.ec_locate.proofs.CodeStand.{AllFit, all_fit}
 use Rattle.ec_locate.proofs.InOrders.{places_free}
 use Rattle.ec_locate.proofs.Objects.{is_object_at}
 use Rattle.ec_locate.proofs.Stood.{Clear, by_order, es, size}
-use Rattle.ec_locate.proofs.Spots.{values_in_flash, Spot, none_in_far, spot, spots_apart, Room, room_of}
+use Rattle.ec_locate.proofs.Spots.{values_in_flash, Spot, spot, spots_apart, Room, room_of}
 
 module _ (p : PlainProgram) (m : Map) (asm : AsmProgram) (l : Located) (valid : Valid p m.io) (map_valid : ValidMap m)
     (located : IsLocated p m asm l) where
@@ -59,27 +59,29 @@ module _ (p : PlainProgram) (m : Map) (asm : AsmProgram) (l : Located) (valid : 
 
   spot_is : (i : ℕ) (o : PlainObject) (q : Place) → IsInFlash p l i o q → Spot p m i o q.offset
   spot_is i o q h = let s = is_static i o q h in subst (Spot p m i o) (place_is i o q h)
-      (spot p m asm i o s.0 (none_in_far p m valid map_valid far_room i o h.is_object) s.1)
+      (spot p m asm i o s.0 s.1)
 
-  room_is : (i : ℕ) (o : PlainObject) (q : Place) → IsInFlash p l i o q → Room p m valid map_valid room free q.offset (size p m o)
+  room_is : (i : ℕ) (o : PlainObject) (q : Place) → IsInFlash p l i o q → Room p m valid map_valid room far_room free o q.offset
   room_is i o q h =
-      room_of p m valid map_valid room free i o q.offset h.is_object (is_object_at p m.io valid i o h.is_object).some (spot_is i o q h)
+      room_of p m valid map_valid room far_room free i o q.offset h.is_object (spot_is i o q h)
 
   apart : (i k : ℕ) (o x : PlainObject) (q r : Place) → i ≢ k → IsInFlash p l i o q → IsInFlash p l k x r
       → Clear q.offset (size p m o) r.offset (size p m x)
   apart i k o x q r differ a b =
       by_order i k q.offset (size p m o) r.offset (size p m x) differ
-      (λ less. spots_apart p m valid map_valid room free i k o x q.offset r.offset less a.is_object b.is_object
+      (λ less. spots_apart p m valid map_valid room far_room free i k o x q.offset r.offset less a.is_object b.is_object
       (spot_is i o q a) (spot_is k x r b))
-      (λ less. spots_apart p m valid map_valid room free k i x o r.offset q.offset less b.is_object a.is_object
+      (λ less. spots_apart p m valid map_valid room far_room free k i x o r.offset q.offset less b.is_object a.is_object
       (spot_is k x r b) (spot_is i o q a))
 
   address : (i : ℕ) (o : PlainObject) (q : Place) (k : ℕ) → IsInFlash p l i o q → k ≤ size p m o
-      → address_of (layout_by p m asm) (last_of m) i k ≡ q.offset + k
+      → address_of (layout_by p m asm) (last_of m) i k ≡ (q.offset + k) % 65536
   address i o q k h small =
-      let within = (room_is i o q h).within in
-      address_from (layout_by p m asm) (last_of m) i q.offset k
-      (object_start p m asm l valid located (last_of m) i o q h.is_object h.is_place) (omega (arith, within, small))
+      ap (λ a. (a + k) % 65536) (object_start p m asm l valid located (last_of m) i o q h.is_object h.is_place)
+
+  far : (i : ℕ) (o : PlainObject) (q : Place) (k : ℕ) → IsInFlash p l i o q → k ≤ size p m o
+      → far_of (layout_by p m asm) (last_of m) i k ≡ q.offset + k
+  far i o q k h small = ap (λ a. a + k) (object_start p m asm l valid located (last_of m) i o q h.is_object h.is_place)
 
   pub holds : FlashStands p m asm l
   holds = record {
@@ -87,9 +89,10 @@ module _ (p : PlainProgram) (m : Map) (asm : AsmProgram) (l : Located) (valid : 
         let r = room_is i o q h in
         let behind = r.behind in
         let some = map_valid.regions_valid.code.some in
-        (omega (arith, behind, some), r.within);
+        (omega (arith, behind, some), r.in_home h.home);
     apart = apart;
     address = address;
+    far = far;
   }
 
 pub flash-stands-apart : FlashStandsApart

@@ -1,5 +1,5 @@
 -- What stands in a region stands in a row.
-use Rattle.std.proofs.Common.{◌≡◌, ◌+◌, ◌≤◌, ℕ, Bool, true, false, List, [], ◌∷◌, Option, Some, None, add-zero}
+use Rattle.std.proofs.Common.{◌≡◌, ◌+◌, ℕ, Bool, true, false, List, [], ◌∷◌, Option, Some, None, add-zero}
 use Rattle.std.proofs.Common.{refl, subst, arith}
 use Rattle.std.specs.Prelude.{sum_by, if◌then◌else◌, position}
 use Rattle.std.proofs.lemmas.List.Sums.{sum_by-cons}
@@ -155,5 +155,5 @@ pub places_free : (m : Map) (i : ℕ) (bs : List Block) → first_clash m i bs �
 places_free m i [] h = tt
 places_free m i (b ∷ bs) h =
     let (here, next) = neither_next i (clash_of m b bs) (first_clash m (i + 1) bs) h in
-    let (inside, met, clear) = free_where (is_in_bank b) (region_met m b) (position (overlaps b) bs) here in
+    let (inside, met, clear) = free_where (is_in_bank m.core b) (region_met m b) (position (overlaps b) bs) here in
     (inside, met, clear, places_free m (i + 1) bs next)

@@ -7,6 +7,7 @@ use Rattle.std.proofs.lemmas.List.{length-replicate, get_or-replicate}
 use Rattle.std.proofs.lemmas.Option.{slice_get-get_or}
 use Rattle.ec_space.specs.Memory.{flash_size as size_of_flash}
 use Rattle.ec_space.specs.Bytes.{little_endian}
+use Rattle.ec_space.specs.declared.space.Home.TheVariants.{Flash as FlashHome, Data as DataHome}
 use Rattle.ec_asm.specs.Items.{code_words}
 use Rattle.ec_asm.specs.Placed.{code_image, HoldsFrom}
 use Rattle.ec_asm.specs.declared.items.AsmProgram.{AsmProgram}
@@ -15,6 +16,7 @@ use Rattle.ec_core.specs.Plain.{PlainObject, PlainProgram}
 use Rattle.ec_core.specs.TypeLaws.{HasLeaves, LeavesFillTheirTypes}
 use Rattle.ec_core.specs.Valid.{Valid, IsObject, IsStored, AreInitialValues}
 use Rattle.ec_core.specs.declared.programs.LeafInit.{LeafInit}
+use Rattle.ec_map.specs.Cores.{home_end}
 use Rattle.ec_map.specs.Maps.{ValidMap}
 use Rattle.ec_map.specs.declared.map.Map.{Map}
 use Rattle.ec_locate.specs.declared.placing.Located.{Located}
@@ -30,7 +32,7 @@ use Rattle.ec_locate.proofs.CodeStand.{AllFit, all_fit}
 use Rattle.ec_locate.proofs.InOrders.{places_free}
 use Rattle.ec_locate.proofs.Objects.{is_object_at}
 use Rattle.ec_locate.proofs.Stood.{Clear}
-use Rattle.ec_locate.proofs.Spots.{Spot, none_in_far, spot, spots_apart, room_of}
+use Rattle.ec_locate.proofs.Spots.{Spot, spot, spots_apart, room_of}
 use Rattle.ec_locate.proofs.Stand.{length_image}
 use Rattle.ec_locate.proofs.Written.{at_index, leaf_length, leaf_stands, Misses, Avoids, IsByte, bytes_of, bytes_outside, bytes_inside}
 use Rattle.ec_locate.proofs.Written.{objects_length, objects_outside, objects_inside}
@@ -47,7 +49,7 @@ module _ (p : PlainProgram) (m : Map) (asm : AsmProgram) (l : Located) (laws : L
   code = code_image (resolved asm.items.items y (last_of m)) asm.items.items
 
   abbrev objects : FlashView
-  objects = with_objects p.structs y 0 p.objects blank
+  objects = with_objects p.structs y 0 p.objects (blank m.core)
 
   abbrev bytes : PlainObject → List LeafInit → List ℕ
   bytes o inits = bytes_of p.structs y o inits
@@ -100,21 +102,26 @@ module _ (p : PlainProgram) (m : Map) (asm : AsmProgram) (l : Located) (laws : L
   code_room = fit.code
 
   spot_of : (i : ℕ) (o : PlainObject) (inits : List LeafInit) → IsInitialised p i o inits → Spot p m i o (at_of i o)
-  spot_of i o inits h = spot p m asm i o inits (none_in_far p m valid map_valid far_room i o h.is_object) h
+  spot_of i o inits h = spot p m asm i o inits h
 
   in_flash : (i : ℕ) (o : PlainObject) (inits : List LeafInit) → IsInitialised p i o inits
-      → (items ≤ at_of i o) × (at_of i o + size o ≤ 32768)
+      → (items ≤ at_of i o) × (at_of i o + size o ≤ size_of_flash m.core)
   in_flash i o inits h =
-      let r = room_of p m valid map_valid room free i o (at_of i o) h.is_object (is_object i o inits h).some (spot_of i o inits h) in
+      let r = room_of p m valid map_valid room far_room free i o (at_of i o) h.is_object (spot_of i o inits h) in
       let behind = r.behind in
       (omega (arith, behind, code_room), r.within)
+
+  ends_low : (i : ℕ) (o : PlainObject) (inits : List LeafInit) → IsInitialised p i o inits → o.home ≡ DataHome
+      → at_of i o + size o ≤ home_end FlashHome m.core
+  ends_low i o inits h of_data =
+      (room_of p m valid map_valid room far_room free i o (at_of i o) h.is_object (spot_of i o inits h)).in_tables of_data
 
   -- the bytes of an object are none of another one's
   apart : (i k : ℕ) (o x : PlainObject) (a b : List LeafInit) → i < k → IsInitialised p i o a → IsInitialised p k x b
       → (t : ℕ) → t < size o → Misses (at_of i o + t) (at_of k x) (length (bytes x b))
   apart i k o x a b less h g t within =
       let n = sized k x b g in
-      let c : Clear (at_of i o) (size o) (at_of k x) (size x) = spots_apart p m valid map_valid room free i k o x (at_of i o)
+      let c : Clear (at_of i o) (size o) (at_of k x) (size x) = spots_apart p m valid map_valid room far_room free i k o x (at_of i o)
       (at_of k x) less h.is_object g.is_object (spot_of i o a h) (spot_of k x b g) in
       ⊎_elim (λ u. inl (omega (arith, u, within))) (λ u. inr (omega (arith, u, n))) c
 
@@ -123,10 +130,10 @@ module _ (p : PlainProgram) (m : Map) (asm : AsmProgram) (l : Located) (laws : L
   final : flash_of l.image ≡ with_bytes objects 0 code
   final = located.flash
 
-  blank_lengths : (length objects.bytes ≡ 32768) × (length objects.written ≡ 32768)
+  blank_lengths : (length objects.bytes ≡ size_of_flash m.core) × (length objects.written ≡ size_of_flash m.core)
   blank_lengths =
-      let n = objects_length p.structs y 0 p.objects blank in
-      (n.0 ∙ length-replicate {A = ℕ} 32768 255, n.1 ∙ length-replicate {A = Bool} 32768 false)
+      let n = objects_length p.structs y 0 p.objects (blank m.core) in
+      (n.0 ∙ length-replicate {A = ℕ} (size_of_flash m.core) 255, n.1 ∙ length-replicate {A = Bool} (size_of_flash m.core) false)
 
   -- behind the code the objects' bytes stay
   stays : (a : ℕ) → items ≤ a
@@ -144,12 +151,12 @@ module _ (p : PlainProgram) (m : Map) (asm : AsmProgram) (l : Located) (laws : L
       let n = sized i o inits h in
       let f = in_flash i o inits h in
       let z : 0 + i ≡ i = zero-add i in
-      let b = length-replicate {A = ℕ} 32768 255 in
-      let w = length-replicate {A = Bool} 32768 false in
+      let b = length-replicate {A = ℕ} (size_of_flash m.core) 255 in
+      let w = length-replicate {A = Bool} (size_of_flash m.core) false in
       let inside : IsByte p.structs y objects (at_of (0 + i) o + t) (get_or (bytes o inits) t 0) =
-      objects_inside p.structs y 0 p.objects blank i o inits t h.is_object h.is_static
-      (subst (λ j. at_of j o + length (bytes o inits) ≤ length blank.bytes) (sym z) (omega (arith, n, f.1, b)))
-      (subst (λ j. at_of j o + length (bytes o inits) ≤ length blank.written) (sym z) (omega (arith, n, f.1, w)))
+      objects_inside p.structs y 0 p.objects (blank m.core) i o inits t h.is_object h.is_static
+      (subst (λ j. at_of j o + length (bytes o inits) ≤ length (blank m.core).bytes) (sym z) (omega (arith, n, f.1, b)))
+      (subst (λ j. at_of j o + length (bytes o inits) ≤ length (blank m.core).written) (sym z) (omega (arith, n, f.1, w)))
       (omega (arith, n, less))
       (λ k x b later q s.
       subst (λ j. Misses (at_of j o + t) (at_of (0 + k) x) (length (bytes x b))) (sym z)
@@ -160,10 +167,10 @@ module _ (p : PlainProgram) (m : Map) (asm : AsmProgram) (l : Located) (laws : L
       let stay = stays (at_of i o + t) (omega (arith, f.0)) in
       (stay.0 ∙ here.0, stay.1 ∙ here.1)
 
-  image_length : length l.image.bytes.items ≡ 32768
+  image_length : length l.image.bytes.items ≡ size_of_flash m.core
   image_length = l.image.sized ∙ ap size_of_flash located.core
 
-  written_length : length l.image.written.items ≡ 32768
+  written_length : length l.image.written.items ≡ size_of_flash m.core
   written_length = l.image.flagged ∙ ap size_of_flash located.core
 
   values_stand : (i : ℕ) (o : PlainObject) (inits : List LeafInit) → IsInitialised p i o inits
@@ -189,22 +196,24 @@ module _ (p : PlainProgram) (m : Map) (asm : AsmProgram) (l : Located) (laws : L
             HoldsFrom l.image.bytes.items (at_of i o + leaf.at) (little_endian (scalar_size leaf.ty) (value_number ps leaf.ty init))) q
             (leaf_stands p y.places l.image.bytes.items (at_of i o) 0 (size o) 0 (leaves_of_type p.structs o.ty) inits inits
             (has_leaves i o inits h).filled (has_values i o inits h) (whole inits) row k leaf init is has);
+        ends = ends_low i o inits h;
       }
 
   -- ---- what is written
 
-  is_read : (a : ℕ) (b : Bool) → a < 32768 → get_or l.image.written.items a false ≡ b → slice_get l.image.written.items a ≡ Some b
+  is_read : (a : ℕ) (b : Bool) → a < size_of_flash m.core → get_or l.image.written.items a false ≡ b → slice_get l.image.written.items a ≡ Some b
   is_read a b less h = slice_get-get_or l.image.written.items a false (omega (arith, less, written_length)) ∙ ap (λ x. Some x) h
 
   written : (a : ℕ) → IsPut p m asm a → slice_get l.image.written.items a ≡ Some true
   written a (of_code _ less) =
       let n = code_length in
+      let start = map_valid.regions_valid.start in
       let ends = map_valid.regions_valid.code.ends in
       let z : 0 + a ≡ a = zero-add a in
-      let b = bytes_inside p.structs y objects 0 code a (omega (arith, n, code_room, ends, blank_lengths.0))
-      (omega (arith, n, code_room, ends, blank_lengths.1)) (omega (arith, n, less)) in
+      let b = bytes_inside p.structs y objects 0 code a (omega (arith, n, code_room, start, ends, blank_lengths.0))
+      (omega (arith, n, code_room, start, ends, blank_lengths.1)) (omega (arith, n, less)) in
       let there = subst (λ j. get_or (with_bytes objects 0 code).written j false ≡ true) z b.1 in
-      is_read a true (omega (arith, less, code_room, ends)) (ap (λ f. get_or f.written a false) final ∙ there)
+      is_read a true (omega (arith, less, code_room, start, ends)) (ap (λ f. get_or f.written a false) final ∙ there)
   written a (of_values _ i o inits h from below) =
       let t = a - at_of i o in
       let q : at_of i o + t ≡ a = omega (arith, from) in
@@ -212,14 +221,14 @@ module _ (p : PlainProgram) (m : Map) (asm : AsmProgram) (l : Located) (laws : L
       let f = in_flash i o inits h in
       is_read a true (omega (arith, below, f.1)) (subst (λ j. get_or l.image.written.items j false ≡ true) q b.1)
 
-  unwritten : (a : ℕ) → a < 32768 → ¬ IsPut p m asm a → slice_get l.image.written.items a ≡ Some false
+  unwritten : (a : ℕ) → a < size_of_flash m.core → ¬ IsPut p m asm a → slice_get l.image.written.items a ≡ Some false
   unwritten a less never =
       let behind : items ≤ a = ⊎_elim (λ u. absurd (never (of_code a u))) (λ u. u) (cases_lt a items) in
       let avoid : Avoids p.structs y 0 0 p.objects a = λ k x inits first q s.
       subst (λ j. Misses a (at_of j x) (length (bytes x inits))) (sym (zero-add k))
       (misses k x inits (record { is_object = q; is_static = s })) in
-      let out = objects_outside p.structs y 0 p.objects blank a avoid in
-      let erased = get_or-replicate 32768 a false false less in
+      let out = objects_outside p.structs y 0 p.objects (blank m.core) a avoid in
+      let erased = get_or-replicate (size_of_flash m.core) a false false less in
       is_read a false less ((stays a behind).1 ∙ out.1 ∙ erased)
     where
       misses : (k : ℕ) (x : PlainObject) (inits : List LeafInit) → IsInitialised p k x inits → Misses a (at_of k x) (length (bytes x inits))

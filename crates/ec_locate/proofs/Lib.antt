@@ -1,6 +1,7 @@
 -- For all crates above.
 pub mod Objects
 -- For this crate alone.
+mod Ends
 mod Sums
 mod Trees
 mod LeafValues

@@ -1,7 +1,8 @@
 -- What is at hand of a program where its regions have room.
-use Rattle.std.proofs.Common.{◌≡◌, ◌+◌, ◌<◌, ℕ, List, length, Option, None, sym, ap, ◌∙◌, arith}
+use Rattle.std.proofs.Common.{◌≡◌, ⊎_elim, ◌+◌, ◌<◌, ℕ, List, length, Option, None, sym, ap, ◌∙◌, arith}
 use Rattle.std.specs.List.{All}
 use Rattle.std.specs.Prelude.{slice_index}
+use Rattle.std.proofs.lemmas.Bool.{cases_lt}
 use Rattle.std.proofs.lemmas.List.{length-map}
 use Rattle.ec_space.specs.Listed.{Listed}
 use Rattle.ec_asm.specs.Items.{code_words}
@@ -23,6 +24,7 @@ use Rattle.ec_locate.specs.declared.needs.Shortage.{Shortage}
 use Rattle.ec_locate.specs.declared.stop.PlaceStop.{PlaceStop}
 use Rattle.ec_locate.specs.declared.stop.PlaceStop.TheVariants.{TooSmall, NoSuchObject, Clash, NoMemory}
 use Rattle.ec_locate.proofs.CodeStand.{AllFit, all_fit}
+use Rattle.ec_locate.proofs.Ends.{flash_home_low, far_home_low, data_low, code_is_short}
 use Rattle.ec_locate.proofs.Kept.{all_below}
 
 pub few_entries : (p : PlainProgram) (m : Map) → Valid p m.io → (es : List Entry) → es ≡ entries_by m p → length es < 4096
@@ -47,22 +49,26 @@ pub flash_room : (p : PlainProgram) (m : Map) (asm : AsmProgram) → ValidMap m 
 flash_room p m asm valid fits =
     let need = (fit p m asm fits).tables in
     let ends = valid.regions_valid.tables.ends in
-    omega (arith, need, ends)
+    let low = flash_home_low m.core in
+    omega (arith, need, ends, low)
 
--- the region `far` has no bytes, so nothing stands there
+-- where the region `far` has no bytes, nothing stands there
 pub far_room : (p : PlainProgram) (m : Map) (asm : AsmProgram) → ValidMap m → shortage p m asm ≡ None
     → m.far.first < 4294967296 → m.far.first + far_sizes (entries_by m p) < 4294967296
 far_room p m asm valid fits low =
     let need = (fit p m asm fits).far in
-    let none = valid.regions_valid.no_far in
-    omega (arith, need, none, low)
+    let most = far_home_low m.core in
+    ⊎_elim (λ none. omega (arith, need, none, low))
+    (λ some. let ends = (valid.regions_valid.far some).lies.ends in omega (arith, need, ends, most))
+    (cases_lt m.far.size 1)
 
 pub ram_room : (p : PlainProgram) (m : Map) (asm : AsmProgram) → ValidMap m → shortage p m asm ≡ None
     → work_area m (rows_of_program p) (entries_by m p) asm.frames.items < 4294967296
 ram_room p m asm valid fits =
     let need = (fit p m asm fits).vars in
     let ends = valid.regions_valid.vars.ends in
-    omega (arith, need, ends)
+    let low = data_low m.core in
+    omega (arith, need, ends, low)
 
 pub shortage_is : (p : PlainProgram) (m : Map) (asm : AsmProgram) (es : List Entry) (n : Needs) → es ≡ entries_by m p
     → n ≡ needs p es asm.frames.items asm.items.items → first_shortage m n ≡ shortage p m asm
@@ -73,8 +79,8 @@ pub code_room : (p : PlainProgram) (m : Map) (asm : AsmProgram) → ValidMap m �
     → code_words asm.items.items < 65536
 code_room p m asm valid fits =
     let need = (fit p m asm fits).code in
-    let ends = valid.regions_valid.code.ends in
-    omega (arith, need, ends)
+    let short = code_is_short m valid in
+    omega (arith, need, short)
 
 -- ---- refusals
 

@@ -1,10 +1,10 @@
 -- The initial values of static objects stand apart in the flash, behind the code.
-use Rattle.std.proofs.Common.{◌≡◌, ◌≢◌, inl, inr, ⊎_elim, ◌+◌, ◌<◌, ◌≤◌, ℕ, Bool, true, false, List, take, Option, Some}
+use Rattle.std.proofs.Common.{◌≡◌, inl, inr, ⊎_elim, ◌+◌, ◌<◌, ◌≤◌, ℕ, Bool, true, false, List, take, Option, Some}
 use Rattle.std.proofs.Common.{None, refl, sym, ap}
 use Rattle.std.proofs.Common.{◌∙◌, subst, arith}
 use Rattle.std.specs.Prelude.{slice_get, option_map, unwrap_or}
 use Rattle.std.specs.Option.{option_or}
-use Rattle.ec_space.specs.declared.space.Bank.{Bank}
+use Rattle.ec_space.specs.Memory.{flash_size as flash_size_of}
 use Rattle.ec_space.specs.declared.space.Bank.TheVariants.{Flash, Data}
 use Rattle.ec_space.specs.declared.space.Home.{Home}
 use Rattle.ec_space.specs.declared.space.Home.TheVariants.{Flash as FlashHome, Far as FarHome, Data as DataHome}
@@ -14,6 +14,7 @@ use Rattle.ec_check_recursion.specs.Rows.{rows_of_program}
 use Rattle.ec_core.specs.Plain.{PlainObject, PlainProgram}
 use Rattle.ec_core.specs.Valid.{Valid}
 use Rattle.ec_core.specs.declared.programs.LeafInit.{LeafInit}
+use Rattle.ec_map.specs.Cores.{home_end}
 use Rattle.ec_map.specs.Maps.{ValidMap}
 use Rattle.ec_map.specs.Regions.{end_of}
 use Rattle.ec_map.specs.declared.map.Map.{Map}
@@ -28,6 +29,7 @@ use Rattle.ec_locate.specs.Image.{values_at}
 use Rattle.ec_locate.specs.Initial.{IsInitialised, values_of}
 use Rattle.ec_locate.specs.Layout.{LayoutView, place_by, local_at}
 use Rattle.ec_locate.specs.Placing.{layout_by}
+use Rattle.ec_locate.proofs.Ends.{home_in_flash}
 use Rattle.ec_locate.proofs.Objects.{is_object_at}
 use Rattle.ec_locate.proofs.Stood.{Clear, turned, es, size, entry, entry_there, block, Stood, in_flash_bank, stood, both_stood}
 use Rattle.ec_locate.proofs.Where.{sum_until, sum_within, place_at, initial_there, free_at, neither_met, clear_of}
@@ -43,27 +45,21 @@ values_in_flash y i DataHome h = cc
 -- ---- where the initial values of an object stand
 
 module _ (p : PlainProgram) (m : Map) where
-  -- among the initial bytes of region `tables`, among its objects of home flash, or where the map puts the object
+  -- among the initial bytes of region `tables`, among its objects of home flash, among the objects of region `far`, or where
+  -- the map puts the object
   pub data Spot (i : ℕ) (o : PlainObject) : ℕ → Type 0 where
-    initial : (at : ℕ) → initial_size (entry p m o) ≡ size p m o
+    initial : (at : ℕ) → o.home ≡ DataHome → initial_size (entry p m o) ≡ size p m o
         → at ≡ m.tables.first + flash_sizes (es p m) + initial_sizes (take i (es p m)) → Spot i o at
-    packed : (at : ℕ) → flash_size (entry p m o) ≡ size p m o → at ≡ m.tables.first + flash_sizes (take i (es p m))
-        → Spot i o at
+    packed : (at : ℕ) → o.home ≡ FlashHome → flash_size (entry p m o) ≡ size p m o
+        → at ≡ m.tables.first + flash_sizes (take i (es p m)) → Spot i o at
+    in_far : (at : ℕ) → o.home ≡ FarHome → far_size (entry p m o) ≡ size p m o
+        → at ≡ m.far.first + far_sizes (take i (es p m)) → Spot i o at
     fixed : (at : ℕ) → bank_of o.home ≡ Flash → o.external ≡ true → is_static o.storage ≡ true
         → fixed_place m.places.items o.name ≡ Some at → Spot i o at
 
-  -- nothing stands in region `far`, which has no bytes
-  pub none_in_far : Valid p m.io → ValidMap m → far_sizes (es p m) ≤ m.far.size → (i : ℕ) (o : PlainObject)
-      → slice_get p.objects i ≡ Some o → far_size (entry p m o) ≢ size p m o
-  none_in_far valid map_valid room i o q s =
-      let within = sum_within far_size (es p m) i (entry p m o) (entry_there p m i o q) in
-      let none = map_valid.regions_valid.no_far in
-      let some = (is_object_at p m.io valid i o q).some in
-      omega (arith, within, none, some, s, room)
-
-  pub spot : (asm : AsmProgram) (i : ℕ) (o : PlainObject) (inits : List LeafInit) → far_size (entry p m o) ≢ size p m o
-      → IsInitialised p i o inits → Spot i o (values_of p m asm i o)
-  spot asm i o inits none h = by_home o.home refl
+  pub spot : (asm : AsmProgram) (i : ℕ) (o : PlainObject) (inits : List LeafInit) → IsInitialised p i o inits
+      → Spot i o (values_of p m asm i o)
+  spot asm i o inits h = by_home o.home refl
     where
       is_there : slice_get (es p m) i ≡ Some (entry p m o)
       is_there = entry_there p m i o h.is_object
@@ -84,8 +80,9 @@ module _ (p : PlainProgram) (m : Map) where
 
       is_packed : (home : Home) → o.home ≡ home → bank_of home ≡ Flash → (entry p m o).kept ≡ Packed → Spot i o (values_of p m asm i o)
       is_packed FlashHome f h k =
-          packed (values_of p m asm i o) (rw (k, f) refl) (in_flash (ap bank_of f) ∙ rw (k, f) refl)
-      is_packed FarHome f h k = absurd (none (rw (k, f) refl))
+          packed (values_of p m asm i o) f (rw (k, f) refl) (in_flash (ap bank_of f) ∙ rw (k, f) refl)
+      is_packed FarHome f h k =
+          in_far (values_of p m asm i o) f (rw (k, f) refl) (in_flash (ap bank_of f) ∙ rw (k, f) refl)
       is_packed DataHome f h k = cc
 
       by_place : bank_of o.home ≡ Flash → (z : Option ℕ) → fixed_place m.places.items o.name ≡ z → o.external ≡ true
@@ -104,7 +101,7 @@ module _ (p : PlainProgram) (m : Map) where
       by_home FlashHome f = by_external (ap bank_of f) o.external refl
       by_home FarHome f = by_external (ap bank_of f) o.external refl
       by_home DataHome f =
-          initial (values_of p m asm i o) (rw (static_there, f) refl)
+          initial (values_of p m asm i o) f (rw (static_there, f) refl)
           (ap (λ b. values_at (layout_by p m asm) i b) f
           ∙ initial_there (es p m) m.tables.first (m.tables.first + flash_sizes (es p m)) i (entry p m o) is_there
           ∙ rw (static_there, f) refl)
@@ -116,14 +113,21 @@ module _ (p : PlainProgram) (m : Map) where
     from_there : m.tables.first ≤ at
     ends : at + size ≤ end_of m.tables
 
-  -- what the map places stands in the flash, outside of both regions
-  record Outside (at size : ℕ) : Type 0 where
-    within : at + size ≤ 32768
-    code : Clear at size m.code.first m.code.size
-    tables : Clear at size m.tables.first m.tables.size
+  -- what stands in region `far`, which then has a byte
+  record InFar (at size : ℕ) : Type 0 where
+    some : 1 ≤ m.far.size
+    from_there : m.far.first ≤ at
+    ends : at + size ≤ end_of m.far
+
+  -- what the map places stands in the flash, outside of its regions
+  record Outside (o : PlainObject) (at : ℕ) : Type 0 where
+    within : at + size p m o ≤ home_end o.home m.core
+    code : Clear at (size p m o) m.code.first m.code.size
+    tables : Clear at (size p m o) m.tables.first m.tables.size
+    far : 1 ≤ m.far.size → Clear at (size p m o) m.far.first m.far.size
 
   module _ (valid : Valid p m.io) (map_valid : ValidMap m) (room : flash_sizes (es p m) + initial_sizes (es p m) ≤ m.tables.size)
-      (free : AreFree m (blocks (es p m) p.objects m.places.items)) where
+      (far_room : far_sizes (es p m) ≤ m.far.size) (free : AreFree m (blocks (es p m) p.objects m.places.items)) where
     initial_in : (i : ℕ) (o : PlainObject) (at : ℕ) → slice_get p.objects i ≡ Some o → initial_size (entry p m o) ≡ size p m o
         → at ≡ m.tables.first + flash_sizes (es p m) + initial_sizes (take i (es p m)) → InTables at (size p m o)
     initial_in i o at q s e =
@@ -136,84 +140,164 @@ module _ (p : PlainProgram) (m : Map) where
         let w = sum_within flash_size (es p m) i (entry p m o) (entry_there p m i o q) in
         record { from_there = omega (arith, e); ends = omega (arith, e, w, s, room) }
 
-    outside : (o : PlainObject) (at : ℕ) → Stood p m Flash o at → Outside at (size p m o)
+    far_in : (i : ℕ) (o : PlainObject) (at : ℕ) → slice_get p.objects i ≡ Some o → far_size (entry p m o) ≡ size p m o
+        → at ≡ m.far.first + far_sizes (take i (es p m)) → InFar at (size p m o)
+    far_in i o at q s e =
+        let w = sum_within far_size (es p m) i (entry p m o) (entry_there p m i o q) in
+        let some = (is_object_at p m.io valid i o q).some in
+        record { some = omega (arith, w, s, some, far_room); from_there = omega (arith, e); ends = omega (arith, e, w, s, far_room) }
+
+    outside : (o : PlainObject) (at : ℕ) → Stood p m Flash o at → Outside o at
     outside o at s =
         let b = block p m o at in
         let (inside, met) = free_at m (blocks (es p m) p.objects m.places.items) s.found.number b free s.is_block in
         let unmet : region_of_bank m b Flash ≡ None = subst (λ bank. region_of_bank m b bank ≡ None) s.in_bank met in
         let in_tables = name_where_met b m.tables regions.Tables in
-        let in_far = name_where_met b m.far regions.Far in
-        let (code, rest) = neither_met (name_where_met b m.code regions.Code) (option_or in_tables in_far) unmet in
-        let (tables, far) = neither_met in_tables in_far rest in
+        let far_met = name_where_met b m.far regions.Far in
+        let (code, rest) = neither_met (name_where_met b m.code regions.Code) (option_or in_tables far_met) unmet in
+        let (tables, far) = neither_met in_tables far_met rest in
         record {
-          within = in_flash_bank o.home at (at + size p m o) s.in_bank inside;
+          within = in_flash_bank m.core o.home at (at + size p m o) s.in_bank inside;
           code = turned m.code.first m.code.size at (size p m o) (clear_of b m.code regions.Code map_valid.regions_valid.code.some code);
           tables = turned m.tables.first m.tables.size at (size p m o)
               (clear_of b m.tables regions.Tables map_valid.regions_valid.tables.some tables);
+          far = λ some. turned m.far.first m.far.size at (size p m o) (clear_of b m.far regions.Far some far);
         }
 
-    beside : (at size to many : ℕ) → Outside at size → InTables to many → Clear at size to many
-    beside at size to many a b =
+    beside : (o : PlainObject) (at to many : ℕ) → Outside o at → InTables to many → Clear at (size p m o) to many
+    beside o at to many a b =
         let from = b.from_there in
         let ends = b.ends in
         ⊎_elim (λ l. inl (omega (arith, l, from))) (λ l. inr (omega (arith, l, ends))) a.tables
 
+    beside_far : (o : PlainObject) (at to many : ℕ) → Outside o at → InFar to many → Clear at (size p m o) to many
+    beside_far o at to many a b =
+        let from = b.from_there in
+        let ends = b.ends in
+        ⊎_elim (λ l. inl (omega (arith, l, from))) (λ l. inr (omega (arith, l, ends))) (a.far b.some)
+
+    -- the two regions share no byte
+    regions_apart : (at size to many : ℕ) → InTables at size → InFar to many → Clear at size to many
+    regions_apart at size to many a b =
+        let a_from = a.from_there in
+        let a_ends = a.ends in
+        let from = b.from_there in
+        let ends = b.ends in
+        ⊎_elim (λ l. inl (omega (arith, l, a_ends, from))) (λ l. inr (omega (arith, l, a_from, ends)))
+        (map_valid.regions_valid.far b.some).tables_apart
+
+    abbrev placed : (i : ℕ) (o : PlainObject) (at : ℕ) → slice_get p.objects i ≡ Some o → bank_of o.home ≡ Flash → o.external ≡ true
+        → is_static o.storage ≡ true → fixed_place m.places.items o.name ≡ Some at → Outside o at
+    placed i o at q a eo so z = outside o at (stood p m valid free Flash i o at q a eo so z)
+
     pub spots_apart : (i k : ℕ) (o x : PlainObject) (at to : ℕ) → i < k → slice_get p.objects i ≡ Some o
         → slice_get p.objects k ≡ Some x
         → Spot i o at → Spot k x to → Clear at (size p m o) to (size p m x)
-    spots_apart i k o x at to l q r (initial _ a e) (initial _ b f) =
+    spots_apart i k o x at to l q r (initial _ h a e) (initial _ g b f) =
         let w = sum_until initial_size (es p m) i k (entry p m o) (entry_there p m i o q) l in
         inl (omega (arith, w, a, e, f))
-    spots_apart i k o x at to l q r (packed _ a e) (packed _ b f) =
+    spots_apart i k o x at to l q r (packed _ h a e) (packed _ g b f) =
         let w = sum_until flash_size (es p m) i k (entry p m o) (entry_there p m i o q) l in
         inl (omega (arith, w, a, e, f))
-    spots_apart i k o x at to l q r (initial _ a e) (packed _ b f) =
+    spots_apart i k o x at to l q r (in_far _ h a e) (in_far _ g b f) =
+        let w = sum_until far_size (es p m) i k (entry p m o) (entry_there p m i o q) l in
+        inl (omega (arith, w, a, e, f))
+    spots_apart i k o x at to l q r (initial _ h a e) (packed _ g b f) =
         let w = sum_within flash_size (es p m) k (entry p m x) (entry_there p m k x r) in
         inr (omega (arith, w, b, e, f))
-    spots_apart i k o x at to l q r (packed _ a e) (initial _ b f) =
+    spots_apart i k o x at to l q r (packed _ h a e) (initial _ g b f) =
         let w = sum_within flash_size (es p m) i (entry p m o) (entry_there p m i o q) in
         inl (omega (arith, w, a, e, f))
-    spots_apart i k o x at to l q r (fixed _ a eo so z) (initial _ b f) =
-        beside at (size p m o) to (size p m x) (outside o at (stood p m valid free Flash i o at q a eo so z)) (initial_in k x to r b f)
-    spots_apart i k o x at to l q r (fixed _ a eo so z) (packed _ b f) =
-        beside at (size p m o) to (size p m x) (outside o at (stood p m valid free Flash i o at q a eo so z)) (packed_in k x to r b f)
-    spots_apart i k o x at to l q r (initial _ b f) (fixed _ a ex sx z) =
+    spots_apart i k o x at to l q r (initial _ h a e) (in_far _ g b f) =
+        regions_apart at (size p m o) to (size p m x) (initial_in i o at q a e) (far_in k x to r b f)
+    spots_apart i k o x at to l q r (packed _ h a e) (in_far _ g b f) =
+        regions_apart at (size p m o) to (size p m x) (packed_in i o at q a e) (far_in k x to r b f)
+    spots_apart i k o x at to l q r (in_far _ g b f) (initial _ h a e) =
         turned to (size p m x) at (size p m o)
-        (beside to (size p m x) at (size p m o) (outside x to (stood p m valid free Flash k x to r a ex sx z)) (initial_in i o at q b f))
-    spots_apart i k o x at to l q r (packed _ b f) (fixed _ a ex sx z) =
+        (regions_apart to (size p m x) at (size p m o) (initial_in k x to r a e) (far_in i o at q b f))
+    spots_apart i k o x at to l q r (in_far _ g b f) (packed _ h a e) =
         turned to (size p m x) at (size p m o)
-        (beside to (size p m x) at (size p m o) (outside x to (stood p m valid free Flash k x to r a ex sx z)) (packed_in i o at q b f))
+        (regions_apart to (size p m x) at (size p m o) (packed_in k x to r a e) (far_in i o at q b f))
+    spots_apart i k o x at to l q r (fixed _ a eo so z) (initial _ h b f) =
+        beside o at to (size p m x) (placed i o at q a eo so z) (initial_in k x to r b f)
+    spots_apart i k o x at to l q r (fixed _ a eo so z) (packed _ h b f) =
+        beside o at to (size p m x) (placed i o at q a eo so z) (packed_in k x to r b f)
+    spots_apart i k o x at to l q r (fixed _ a eo so z) (in_far _ h b f) =
+        beside_far o at to (size p m x) (placed i o at q a eo so z) (far_in k x to r b f)
+    spots_apart i k o x at to l q r (initial _ h b f) (fixed _ a ex sx z) =
+        turned to (size p m x) at (size p m o) (beside x to at (size p m o) (placed k x to r a ex sx z) (initial_in i o at q b f))
+    spots_apart i k o x at to l q r (packed _ h b f) (fixed _ a ex sx z) =
+        turned to (size p m x) at (size p m o) (beside x to at (size p m o) (placed k x to r a ex sx z) (packed_in i o at q b f))
+    spots_apart i k o x at to l q r (in_far _ h b f) (fixed _ a ex sx z) =
+        turned to (size p m x) at (size p m o) (beside_far x to at (size p m o) (placed k x to r a ex sx z) (far_in i o at q b f))
     spots_apart i k o x at to l q r (fixed _ a eo so z) (fixed _ b ex sx w) =
         both_stood p m valid free Flash i k o x at to l q r (stood p m valid free Flash i o at q a eo so z)
         (stood p m valid free Flash k x to r b ex sx w)
 
-    -- in the flash, behind the code
-    pub record Room (at size : ℕ) : Type 0 where
+    -- in the flash, behind the code, and so far as objects of its home can stand there
+    pub record Room (o : PlainObject) (at : ℕ) : Type 0 where
       pub behind : m.code.size ≤ at
-      pub within : at + size ≤ 32768
+      pub within : at + size p m o ≤ flash_size_of m.core
+      pub in_home : bank_of o.home ≡ Flash → at + size p m o ≤ home_end o.home m.core
+      pub in_tables : o.home ≡ DataHome → at + size p m o ≤ home_end FlashHome m.core
 
-    pub room_of : (i : ℕ) (o : PlainObject) (at : ℕ) → slice_get p.objects i ≡ Some o → 1 ≤ size p m o
-        → Spot i o at → Room at (size p m o)
-    room_of i o at q some s = by_spot s
+    pub room_of : (i : ℕ) (o : PlainObject) (at : ℕ) → slice_get p.objects i ≡ Some o → Spot i o at → Room o at
+    room_of i o at q s = by_spot s
       where
-        in_tables : InTables at (size p m o) → Room at (size p m o)
-        in_tables t =
+        some : 1 ≤ size p m o
+        some = (is_object_at p m.io valid i o q).some
+
+        start : m.code.first ≡ 0
+        start = map_valid.regions_valid.start
+
+        in_tables : (bank_of o.home ≡ Flash → o.home ≡ FlashHome) → InTables at (size p m o) → Room o at
+        in_tables home t =
             let from = t.from_there in
             let ends = t.ends in
             let flash = map_valid.regions_valid.tables.ends in
+            let low : at + size p m o ≤ home_end FlashHome m.core = omega (arith, ends, flash) in
+            let most = home_in_flash FlashHome m.core refl in
             let least = map_valid.regions_valid.tables.some in
-            let start = map_valid.regions_valid.start in
-            let most = map_valid.regions_valid.code.some in
-            ⊎_elim (λ a. record { behind = omega (arith, a, from, start); within = omega (arith, ends, flash) })
+            ⊎_elim (λ a. record {
+              behind = omega (arith, a, from, start);
+              within = omega (arith, low, most);
+              in_home = λ f. rw (home f) low;
+              in_tables = λ of_data. low;
+            })
             (λ a. absurd (omega (arith, a, start, least))) map_valid.regions_valid.flash_apart
 
-        out_of_code : Outside at (size p m o) → Room at (size p m o)
-        out_of_code t =
-            let start = map_valid.regions_valid.start in
-            ⊎_elim (λ a. absurd (omega (arith, a, start, some)))
-            (λ a. record { behind = omega (arith, a, start); within = t.within }) t.code
+        far_region : o.home ≡ FarHome → InFar at (size p m o) → Room o at
+        far_region home t =
+            let from = t.from_there in
+            let ends = t.ends in
+            let far = map_valid.regions_valid.far t.some in
+            let flash = far.lies.ends in
+            let low : at + size p m o ≤ home_end FarHome m.core = omega (arith, ends, flash) in
+            let most = home_in_flash FarHome m.core refl in
+            let least = t.some in
+            ⊎_elim (λ a. record {
+              behind = omega (arith, a, from, start);
+              within = omega (arith, low, most);
+              in_home = λ f. rw home low;
+              in_tables = λ of_data. let both : FarHome ≡ DataHome = sym home ∙ of_data in absurd cc;
+            })
+            (λ a. absurd (omega (arith, a, start, least))) far.code_apart
 
-        by_spot : Spot i o at → Room at (size p m o)
-        by_spot (initial _ b f) = in_tables (initial_in i o at q b f)
-        by_spot (packed _ b f) = in_tables (packed_in i o at q b f)
-        by_spot (fixed _ a eo so z) = out_of_code (outside o at (stood p m valid free Flash i o at q a eo so z))
+        out_of_code : bank_of o.home ≡ Flash → Outside o at → Room o at
+        out_of_code home t =
+            let most = home_in_flash o.home m.core home in
+            let within = t.within in
+            ⊎_elim (λ a. absurd (omega (arith, a, start, some)))
+            (λ a. record {
+              behind = omega (arith, a, start);
+              within = omega (arith, within, most);
+              in_home = λ f. within;
+              in_tables = λ of_data. let both : Flash ≡ Data = sym home ∙ ap bank_of of_data in absurd cc;
+            })
+            t.code
+
+        by_spot : Spot i o at → Room o at
+        by_spot (initial _ h b f) = in_tables (λ home. let both : Data ≡ Flash = ap bank_of (sym h) ∙ home in cc) (initial_in i o at q b f)
+        by_spot (packed _ h b f) = in_tables (λ home. h) (packed_in i o at q b f)
+        by_spot (in_far _ h b f) = far_region h (far_in i o at q b f)
+        by_spot (fixed _ a eo so z) = out_of_code a (placed i o at q a eo so z)

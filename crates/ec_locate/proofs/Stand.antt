@@ -12,7 +12,7 @@ use Rattle.ec_isa.specs.Table.{in_table}
 use Rattle.ec_avr.specs.Placed.{code_bytes}
 use Rattle.ec_asm.proofs.ItemWords.{words_cons}
 use Rattle.ec_asm.specs.Change.{Env, words}
-use Rattle.ec_asm.specs.Items.{item_words, code_words, part_of}
+use Rattle.ec_asm.specs.Items.{item_words, code_words, address_part}
 use Rattle.ec_asm.specs.Placed.{instructions, bytes_of_all, code_image, InTable, LabelsStand}
 use Rattle.ec_asm.specs.Valid.{used_label, is_label}
 use Rattle.ec_asm.specs.declared.items.AsmItem.{AsmItem}
@@ -38,7 +38,8 @@ known_item e (BranchTo true flag l) w a h = rw (h, lt-ltb (e.word_of l) 65536 (w
 known_item e (BranchTo false flag l) w a h = rw (h, lt-ltb (e.word_of l) 65536 (w l refl)) refl
 known_item e (LoadPart d o k part) w a h =
     let r = (and_parts (nat_le 16 d && nat_lt d 32) (nat_le part 2) h).0 in
-    rw (r, lt-ltb (part_of (e.address_of o k) part) 256 (mod_below_256 (e.address_of o k / 256 ^ part))) refl
+    let n = if nat_lt part 2 then e.address_of o k else e.far_of o k in
+    rw (r, lt-ltb (address_part e o k part) 256 (mod_below_256 (n / 256 ^ part))) refl
 known_item e (LoadObj d o k) w a h = rw (h, lt-ltb (e.address_of o k) 65536 (a o k)) refl
 known_item e (StoreObj o k r) w a h = rw (h, lt-ltb (e.address_of o k) 65536 (a o k)) refl
 

@@ -4,6 +4,8 @@ use Rattle.std.proofs.Common.{refl, sym, ap, ◌∙◌, subst, arith}
 use Rattle.std.specs.Prelude.{nat_le, slice_get, option_map}
 use Rattle.std.proofs.lemmas.Bool.{and_parts, leb-true, cases_lt}
 use Rattle.std.proofs.lemmas.Option.{slice_get-map, slice_get_within, get_or_from_slice_get}
+use Rattle.ec_space.specs.Memory.{data_size}
+use Rattle.ec_space.specs.declared.Core.{Core}
 use Rattle.ec_space.specs.declared.space.Bank.{Bank}
 use Rattle.ec_space.specs.declared.space.Bank.TheVariants.{Flash, Data}
 use Rattle.ec_space.specs.declared.space.Home.{Home}
@@ -12,6 +14,7 @@ use Rattle.ec_space.specs.Spaces.{bank_of}
 use Rattle.ec_core.specs.Layout.{size_of_type}
 use Rattle.ec_core.specs.Plain.{PlainObject, PlainProgram}
 use Rattle.ec_core.specs.Valid.{Valid, HaveOwnNames}
+use Rattle.ec_map.specs.Cores.{home_end}
 use Rattle.ec_map.specs.declared.map.Map.{Map}
 use Rattle.ec_locate.specs.declared.entries.Entry.{Entry}
 use Rattle.ec_locate.specs.declared.fixed.Block.{Block}
@@ -36,18 +39,19 @@ by_order n k at size to many differ a b =
 
 -- ---- in a bank
 
-pub in_flash_bank : (home : Home) (first end : ℕ) → bank_of home ≡ Flash → lies_in_bank home first end ≡ true → end ≤ 32768
-in_flash_bank FlashHome first end f h = leb-true end 32768 (and_parts (nat_le end 32768) (nat_le end 65535) h).0
-in_flash_bank FarHome first end f h = leb-true end 32768 (and_parts (nat_le end 32768) (nat_le end 131071) h).0
-in_flash_bank DataHome first end f h = cc
+pub in_flash_bank : (core : Core) (home : Home) (first end : ℕ) → bank_of home ≡ Flash → lies_in_bank core home first end ≡ true
+    → end ≤ home_end home core
+in_flash_bank core FlashHome first end f h = leb-true end (home_end FlashHome core) h
+in_flash_bank core FarHome first end f h = leb-true end (home_end FarHome core) h
+in_flash_bank core DataHome first end f h = cc
 
-pub in_data_bank : (home : Home) (first end : ℕ) → bank_of home ≡ Data → lies_in_bank home first end ≡ true
-    → (256 ≤ first) × (end ≤ 2304)
-in_data_bank FlashHome first end f h = cc
-in_data_bank FarHome first end f h = cc
-in_data_bank DataHome first end f h =
-    let (low, high) = and_parts (nat_le 256 first) (nat_le end 2304) h in
-    (leb-true 256 first low, leb-true end 2304 high)
+pub in_data_bank : (core : Core) (home : Home) (first end : ℕ) → bank_of home ≡ Data → lies_in_bank core home first end ≡ true
+    → (256 ≤ first) × (end ≤ data_size core)
+in_data_bank core FlashHome first end f h = cc
+in_data_bank core FarHome first end f h = cc
+in_data_bank core DataHome first end f h =
+    let (low, high) = and_parts (nat_le 256 first) (nat_le end (data_size core)) h in
+    (leb-true 256 first low, leb-true end (data_size core) high)
 
 -- a bank is itself
 same_self : (b : Bank) → same_bank b b ≡ true

@@ -196,7 +196,7 @@ block_there es objects places i e name at f is named =
 -- ---- clear of the regions, and of one another
 
 pub free_at : (m : Map) (bs : List Block) (k : ℕ) (b : Block) → AreFree m bs → slice_get bs k ≡ Some b
-    → (is_in_bank b ≡ true) × (region_met m b ≡ None)
+    → (is_in_bank m.core b ≡ true) × (region_met m b ≡ None)
 free_at m [] k b h q = cc
 free_at m (c ∷ bs) zero b h q = let same : c ≡ b = cc in rw (← same) (h.0, h.1)
 free_at m (c ∷ bs) (suc k) b h q = free_at m bs k b h.3 q

@@ -80,7 +80,7 @@ area_spans p m asm l =
 abbrev pub AreFree : Map → List Block → Type 0
 AreFree m [] = ⊤
 AreFree m (b ∷ bs) =
-    (is_in_bank b ≡ true) × (region_met m b ≡ None) × (position (overlaps b) bs ≡ None) × AreFree m bs
+    (is_in_bank m.core b ≡ true) × (region_met m b ≡ None) × (position (overlaps b) bs ≡ None) × AreFree m bs
 
 -- ---- the whole
 

@@ -25,17 +25,22 @@ start_of y last n =
     else if nat_lt n 2048 then 0
     else slice_index y.initials (n - 2048)
 
--- the address of a byte, modulo 65,536
-abbrev pub address_of : LayoutView → (last : ℕ) → (object offset : ℕ) → ℕ
-address_of y last object offset = (start_of y last object + offset) % 65536
+-- the address of a byte
+abbrev pub far_of : LayoutView → (last : ℕ) → (object offset : ℕ) → ℕ
+far_of y last object offset = start_of y last object + offset
 
--- what is outside the code, as far as its bytes depend on it
+-- the same modulo 65,536
+abbrev pub address_of : LayoutView → (last : ℕ) → (object offset : ℕ) → ℕ
+address_of y last object offset = far_of y last object offset % 65536
+
+-- what is outside the code, as far as its bytes depend on it, which they do neither on the core nor on what stands where
 abbrev pub resolved : List AsmItem → LayoutView → (last : ℕ) → Env
 resolved items y last = record {
   core = Small;
   flash = [];
   word_of = label_word items;
   address_of = address_of y last;
+  far_of = far_of y last;
   base = 65536;
   kind = λ a. Barred;
   table = λ a. Barred;

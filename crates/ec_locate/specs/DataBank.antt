@@ -1,5 +1,7 @@
 -- What a placed program keeps in the data bank, by the numbers of its items, stands apart.
 use Rattle.std.specs.Prelude.{ℕ, ◌≡◌, ◌≢◌, ◌⊎◌, ◌+◌, ◌<◌, ◌≤◌, Some, length, slice_get, IsSomeAnd}
+use Rattle.ec_space.specs.Memory.{data_size}
+use Rattle.ec_space.specs.declared.Core.{Core}
 use Rattle.ec_space.specs.declared.space.Bank.TheVariants.{Data}
 use Rattle.ec_space.specs.Spaces.{bank_of}
 use Rattle.ec_space.specs.declared.space.Place.{Place}
@@ -44,16 +46,16 @@ pub record CanBeLive (p : PlainProgram) (n k : ℕ) : Type 0 where
   pub scratch : (f g : ℕ) → f < length p.functions → g < length p.functions → n ≡ 1024 + f → k ≡ 1024 + g
       → AreOnChain (rows_of_program p) f g
 
--- in the SRAM of the core `small`
-abbrev pub IsInMemory : (at size : ℕ) → Type 0
-IsInMemory at size = (256 ≤ at) × (at + size ≤ 2304)
+-- in the SRAM of a core
+abbrev pub IsInMemory : Core → (at size : ℕ) → Type 0
+IsInMemory core at size = (256 ≤ at) × (at + size ≤ data_size core)
 
 -- a named register stands in its registers, and any other object in memory
-abbrev pub StandsIn : PlainStorage → (at size : ℕ) → Type 0
-StandsIn (static inits) at size = IsInMemory at size
-StandsIn (local f) at size = IsInMemory at size
-StandsIn (param f) at size = IsInMemory at size
-StandsIn (register first) at size = (at ≡ first) × (2 ≤ first) × (first + size ≤ 8)
+abbrev pub StandsIn : Core → PlainStorage → (at size : ℕ) → Type 0
+StandsIn core (static inits) at size = IsInMemory core at size
+StandsIn core (local f) at size = IsInMemory core at size
+StandsIn core (param f) at size = IsInMemory core at size
+StandsIn core (register first) at size = (at ≡ first) × (2 ≤ first) × (first + size ≤ 8)
 
 -- What different numbers name stands apart, where it can be live at one moment, and apart from the stack. It stands in
 -- memory, or in registers, and the address of each byte, and of the end, is the one that the code has
@@ -62,10 +64,10 @@ pub record DataStands (p : PlainProgram) (m : Map) (asm : AsmProgram) (l : Locat
       → Names p asm l k to many → (at + size ≤ to) ⊎ (to + many ≤ at)
   pub stack : (n at size : ℕ) → Names p asm l n at size → (at + size ≤ m.stack.first) ⊎ (end_of m.stack ≤ at)
   pub objects : (i : ℕ) (o : PlainObject) (q : Place) → slice_get p.objects i ≡ Some o → bank_of o.home ≡ Data
-      → slice_get l.places.items i ≡ Some q → StandsIn o.storage q.offset (size_of_type p.structs o.ty)
+      → slice_get l.places.items i ≡ Some q → StandsIn m.core o.storage q.offset (size_of_type p.structs o.ty)
   pub frames : (f frame at : ℕ) → slice_get asm.frames.items f ≡ Some frame → slice_get l.frames.items f ≡ Some at
-      → IsInMemory at (frame_size frame)
-  pub work : IsInMemory l.work 64
+      → IsInMemory m.core at (frame_size frame)
+  pub work : IsInMemory m.core l.work 64
   pub address : (n at size i : ℕ) → Names p asm l n at size → i ≤ size
       → address_of (layout_by p m asm) (last_of m) n i ≡ at + i
 

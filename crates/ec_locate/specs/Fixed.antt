@@ -6,14 +6,14 @@ use Rattle.std.specs.Prelude.{slice_get, codes}
 use Rattle.std.specs.List.{find}
 use Rattle.std.specs.Option.{option_or}
 use Rattle.std.specs.Str.{bytes_eq}
-use Rattle.ec_space.specs.Memory.{flash_size}
-use Rattle.ec_space.specs.declared.Core.TheVariants.{Small}
+use Rattle.ec_space.specs.declared.Core.{Core}
 use Rattle.ec_space.specs.declared.space.Bank.{Bank}
 use Rattle.ec_space.specs.declared.space.Bank.TheVariants.{Flash, Data}
 use Rattle.ec_space.specs.declared.space.Home.{Home}
 use Rattle.ec_space.specs.declared.space.Home.TheVariants.{Flash as FlashHome, Far as FarHome, Data as DataHome}
 use Rattle.ec_space.specs.Spaces.{bank_of}
 use Rattle.ec_core.specs.Plain.{PlainObject}
+use Rattle.ec_map.specs.Cores.{home_end}
 use Rattle.ec_map.specs.declared.map.Fixed1.{Fixed1}
 use Rattle.ec_map.specs.declared.map.Map.{Map}
 use Rattle.ec_map.specs.declared.region.Region.{Region}
@@ -67,15 +67,14 @@ same_bank _ _ = false
 abbrev pub overlaps : Block → Block → Bool
 overlaps a b = same_bank (bank_of a.home) (bank_of b.home) && shares a.at a.size b.at b.size
 
--- Bytes of a home lie wholly in the flash or the SRAM of the core `small`. Those of home flash end by 65,535 and those of
--- home far by 131,071, so that the pointer past the last of them has bytes
-abbrev pub lies_in_bank : Home → (first end : ℕ) → Bool
-lies_in_bank FlashHome first end = nat_le end (flash_size Small) && nat_le end 65535
-lies_in_bank FarHome first end = nat_le end (flash_size Small) && nat_le end 131071
-lies_in_bank DataHome first end = nat_le 256 first && nat_le end 2304
+-- bytes of a home lie wholly in the flash or the SRAM of a core, and the pointer past the last of them has bytes
+abbrev pub lies_in_bank : Core → Home → (first end : ℕ) → Bool
+lies_in_bank core FlashHome first end = nat_le end (home_end FlashHome core)
+lies_in_bank core FarHome first end = nat_le end (home_end FarHome core)
+lies_in_bank core DataHome first end = nat_le 256 first && nat_le end (home_end DataHome core)
 
-abbrev pub is_in_bank : Block → Bool
-is_in_bank b = lies_in_bank b.home b.at (b.at + b.size)
+abbrev pub is_in_bank : Core → Block → Bool
+is_in_bank core b = lies_in_bank core b.home b.at (b.at + b.size)
 
 -- the name of a region that a block meets
 abbrev pub name_where_met : Block → Region → RegionName → Option RegionName
@@ -99,7 +98,7 @@ region_or_later None later = option_map Later later
 -- what a block clashes with, where these are the blocks of later names
 abbrev pub clash_of : Map → Block → List Block → Option Neighbour
 clash_of m b bs =
-    if is_in_bank b then region_or_later (region_met m b) (position (overlaps b) bs) else Some BankEnd
+    if is_in_bank m.core b then region_or_later (region_met m b) (position (overlaps b) bs) else Some BankEnd
 
 -- the first block that clashes, by its place from i on
 abbrev pub or_next : ℕ → Option Neighbour → Option (ℕ × Neighbour) → Option (ℕ × Neighbour)

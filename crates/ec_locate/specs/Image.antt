@@ -3,6 +3,8 @@ use Rattle.std.specs.Prelude.{ℕ, ◌+◌, Bool, true, List, [], ◌∷◌, ◌
 use Rattle.std.specs.Prelude.{option_map, unwrap_or, slice_get, slice_index, false}
 use Rattle.std.specs.Int.{w128, cast_unsigned}
 use Rattle.ec_space.specs.Bytes.{little_endian}
+use Rattle.ec_space.specs.Memory.{flash_size}
+use Rattle.ec_space.specs.declared.Core.{Core}
 use Rattle.ec_space.specs.declared.space.Home.{Home}
 use Rattle.ec_space.specs.declared.space.Home.TheVariants.{Flash, Far, Data}
 use Rattle.ec_space.specs.declared.space.Place.{Place}
@@ -81,11 +83,11 @@ abbrev pub with_objects : List PlainStruct → LayoutView → ℕ → List Plain
 with_objects structs y i [] f = f
 with_objects structs y i (o ∷ os) f = with_objects structs y (i + 1) os (with_values structs y i o o.storage f)
 
--- an erased flash of the core `small`
-abbrev pub blank : FlashView
-blank = record { bytes = replicate 32768 255; written = replicate 32768 false }
+-- an erased flash of a core
+abbrev pub blank : Core → FlashView
+blank core = record { bytes = replicate (flash_size core) 255; written = replicate (flash_size core) false }
 
 -- the initial values, and then the code from address 0 on; everything else is not written
-abbrev pub image : PlainProgram → LayoutView → (last : ℕ) → List AsmItem → FlashView
-image p y last items =
-    with_bytes (with_objects p.structs y 0 p.objects blank) 0 (code_image (resolved items y last) items)
+abbrev pub image : Core → PlainProgram → LayoutView → (last : ℕ) → List AsmItem → FlashView
+image core p y last items =
+    with_bytes (with_objects p.structs y 0 p.objects (blank core)) 0 (code_image (resolved items y last) items)

@@ -1,7 +1,6 @@
 -- What `place` answers for a program, its code and a map.
 use Rattle.std.specs.Prelude.{ℕ, ◌≡◌, ◌⊎◌, ◌+◌, ◌-◌, ◌*◌, ⊤, List, map, Option, Some, None, option_map}
 use Rattle.std.specs.Prelude.{IsSomeAnd}
-use Rattle.ec_space.specs.declared.Core.TheVariants.{Small}
 use Rattle.ec_asm.specs.Items.{code_words}
 use Rattle.ec_asm.specs.declared.items.AsmItem.{AsmItem}
 use Rattle.ec_asm.specs.declared.items.AsmProgram.{AsmProgram}
@@ -113,8 +112,8 @@ pub record IsLocated (p : PlainProgram) (m : Map) (asm : AsmProgram) (l : Locate
   pub frames : l.frames.items ≡ (layout_by p m asm).frames
   pub work : l.work ≡ (layout_by p m asm).work
   pub code_bytes : l.code_bytes ≡ 2 * code_words asm.items.items
-  pub core : l.image.core ≡ Small
-  pub flash : flash_of l.image ≡ image p (layout_by p m asm) (last_of m) asm.items.items
+  pub core : l.image.core ≡ m.core
+  pub flash : flash_of l.image ≡ image m.core p (layout_by p m asm) (last_of m) asm.items.items
 
 -- ---- that no other answers come
 

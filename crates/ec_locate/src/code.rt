@@ -1,13 +1,14 @@
 //! The bytes of code, with its labels and the places of objects put in.
-ghost use Rattle.std.specs.Prelude.{◌≡◌, ◌<◌, ◌≤◌, ◌^◌, ◌++◌, IsTrue, All, OnOk, IfOk, pos, length};
+ghost use Rattle.std.specs.Prelude.{◌≡◌, ◌<◌, ◌≤◌, ◌^◌, ◌++◌, IsTrue, All, OnOk, IfOk, [], pos, length};
 ghost use Rattle.std.specs.Prelude.{map, true, slice_index};
 ghost use Rattle.std.specs.Prelude.{slice_set};
 ghost use Rattle.ec_isa.specs.declared.instructions.Instr.TheVariants.{Jmp, Call};
 ghost use Rattle.ec_isa.specs.Table.{in_table};
 ghost use Rattle.ec_avr.specs.Placed.{code_bytes};
-ghost use Rattle.ec_asm.specs.Items.{branch_unless, part_of, code_words};
+ghost use Rattle.ec_asm.specs.Items.{branch_unless, part_of, address_part, code_words};
 ghost use Rattle.ec_asm.specs.Placed.{bytes_of_all, instructions, code_image};
-ghost use Rattle.ec_locate.specs.Code.{layout_view, label_word, start_of, address_of, resolved, has_words, overwritten};
+ghost use Rattle.ec_locate.specs.Code.{layout_view, label_word, start_of, far_of, address_of, resolved, has_words};
+ghost use Rattle.ec_locate.specs.Code.{overwritten};
 
 use crate::labels::label_word;
 use crate::layout::Layout;
@@ -50,22 +51,40 @@ pub(crate) fn number_at(numbers: &[u32], i: usize) -> u32
 }
 
 /// The address of a byte of what a number names.
+fn far_of(layout: &Layout, last: u32, object: u16, offset: u32) -> u64
+    ensures { result ≡ far_of (layout_view layout.now) last object offset }
+{
+    u64::from(start_of(layout, last, object)) + u64::from(offset)
+}
+
+/// The same modulo 65,536.
 fn address_of(layout: &Layout, last: u32, object: u16, offset: u32) -> u16
     ensures { result ≡ address_of (layout_view layout.now) last object offset }
 {
-    let address = u64::from(start_of(layout, last, object)) + u64::from(offset);
-    (address % 65_536) as u16
+    (far_of(layout, last, object, offset) % 65_536) as u16
 }
 
 /// A byte of an address, 0 the lowest.
-fn part_of(address: u16, part: u8) -> u8
+fn part_of(address: u64, part: u8) -> u8
     requires { part ≤ 2 }
     ensures { result ≡ part_of address part }
 {
     match part {
         0 => (address % 256) as u8,
-        1 => (address / 256) as u8,
-        _ => 0,
+        1 => (address / 256 % 256) as u8,
+        _ => (address / 65_536 % 256) as u8,
+    }
+}
+
+/// A byte of the address of a byte of what a number names: the lower two by modulo 65,536.
+fn address_part(layout: &Layout, last: u32, object: u16, offset: u32, part: u8) -> u8
+    requires { part ≤ 2 }
+    ensures { result ≡ address_part (resolved [] (layout_view layout.now) last) object offset part }
+{
+    if part < 2 {
+        part_of(u64::from(address_of(layout, last, object, offset)), part)
+    } else {
+        part_of(far_of(layout, last, object, offset), part)
     }
 }
 
@@ -145,7 +164,7 @@ fn put_item(
             offset,
             part,
         } => {
-            let k = part_of(address_of(layout, last, object, offset), part);
+            let k = address_part(layout, last, object, offset, part);
             put_instr(out, Instr::Ldi { d, k })
         }
         AsmItem::LoadObj { d, object, offset } => {

@@ -10,7 +10,7 @@ ghost use Rattle.ec_locate.specs.Fixed.{region_or_later, first_clash, region_tex
 use crate::entries::{Entry, is_static};
 use crate::stop::RegionName;
 use ec_core::Obj;
-use ec_map::{Fixed1, Map, Region};
+use ec_map::{Fixed1, Map, Region, home_end};
 use ec_space::{Bank, Core, Home, Name, NoMemory, Seq};
 use std::alloc::Global;
 
@@ -131,16 +131,15 @@ fn overlaps(a: Block, b: Block) -> bool
     same_bank(a.home.bank(), b.home.bank()) && shares(a.at, a.size, b.at, b.size)
 }
 
-/// Whether a block lies wholly in the flash or the SRAM of the core, and the pointer past its last byte has bytes.
-fn is_in_bank(block: Block) -> bool
-    ensures { result ≡ is_in_bank block }
+/// Whether a block lies wholly in the flash or the SRAM of a core, and the pointer past its last byte has bytes.
+fn is_in_bank(core: Core, block: Block) -> bool
+    ensures { result ≡ is_in_bank core block }
 {
     let end = u64::from(block.at) + u64::from(block.size);
-    let flash = u64::from(Core::Small.flash_size());
+    let ends = end <= u64::from(home_end(block.home, core));
     match block.home {
-        Home::Flash => end <= flash && end <= 65_535,
-        Home::Far => end <= flash && end <= 131_071,
-        Home::Data => 256 <= block.at && end <= 2_304,
+        Home::Flash | Home::Far => ends,
+        Home::Data => 256 <= block.at && ends,
     }
 }
 
@@ -185,7 +184,7 @@ fn later(block: Block, blocks: &[Block]) -> Option<usize>
 fn clash_of(map: &Map, block: Block, rest: &[Block]) -> Option<Neighbour>
     ensures { result ≡ clash_of map.now block rest.now }
 {
-    if !is_in_bank(block) {
+    if !is_in_bank(map.core, block) {
         return Some(Neighbour::BankEnd);
     }
     match region_met(map, block) {

@@ -11,7 +11,6 @@ ghost use Rattle.ec_locate.specs.Code.{layout_view, has_words};
 ghost use Rattle.ec_locate.specs.Image.{flash_of, space_of, value_number, value_bytes, leaf_bytes};
 ghost use Rattle.ec_locate.specs.Image.{object_bytes, with_bytes, values_at, with_values, with_objects};
 ghost use Rattle.ec_locate.specs.Image.{image as image_of};
-ghost use Rattle.ec_space.specs.declared.Core.TheVariants.{Small};
 
 use crate::code::{code_of, number_at, write_from};
 use crate::layout::Layout;
@@ -182,9 +181,10 @@ pub(crate) fn write_objects(
     Ok(())
 }
 
-/// The contents of the flash.
+/// The contents of the flash of a core.
 pub(crate) fn image_from(
     alloc: Global,
+    core: Core,
     program: &Program,
     items: &[AsmItem],
     layout: &Layout,
@@ -195,12 +195,12 @@ pub(crate) fn image_from(
         program.now.objs.items }
     requires words { All (λ item. IsTrue (has_words item)) items.now }
     requires room { code_words items.now < 2 ^ 16 }
-    ensures core { IfOk result (λ image. image.core ≡ Small) }
+    ensures core { IfOk result (λ image. image.core ≡ core) }
     ensures flash { IfOk result (λ image. flash_of image
-        ≡ image_of (plain_program program.now) (layout_view layout.now) last items.now) }
+        ≡ image_of core (plain_program program.now) (layout_view layout.now) last items.now) }
 {
     let code = code_of(alloc, items, layout, last)?;
-    let mut image = Image::new(alloc, Core::Small)?;
+    let mut image = Image::new(alloc, core)?;
     let objs = program.objs.as_slice();
     write_objects(alloc, &mut image, &program.structs, layout, objs)?;
     write_from(&mut image, 0, code.as_slice());

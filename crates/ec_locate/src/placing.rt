@@ -20,7 +20,6 @@ ghost use Rattle.ec_locate.specs.Layout.{work_area, layout};
 ghost use Rattle.ec_locate.specs.Needs.{first_shortage};
 ghost use Rattle.ec_locate.specs.Placing.{object_sizes, scratch_needs, needs, IsShort, IsWithoutObject, IsClash};
 ghost use Rattle.ec_locate.specs.Placing.{IsStop, IsLocated, last_of};
-ghost use Rattle.ec_space.specs.declared.Core.TheVariants.{Small};
 
 use crate::calls::call_depth;
 use crate::entries::{Entry, data_sizes, entries_of, far_sizes, flash_sizes, initial_sizes};
@@ -164,14 +163,14 @@ fn locate(
     ensures frames { IfOk result (λ l. l.frames.items ≡ (layout map.now (plain_rows rows.now) entries.now asm.now.frames.items).frames) }
     ensures work { IfOk result (λ l. l.work ≡ (layout map.now (plain_rows rows.now) entries.now asm.now.frames.items).work) }
     ensures code_bytes { IfOk result (λ l. l.code_bytes ≡ 2 * code_words asm.now.items.items) }
-    ensures core { IfOk result (λ l. l.image.core ≡ Small) }
-    ensures flash { IfOk result (λ l. flash_of l.image ≡ image (plain_program program.now)
+    ensures core { IfOk result (λ l. l.image.core ≡ map.now.core) }
+    ensures flash { IfOk result (λ l. flash_of l.image ≡ image map.now.core (plain_program program.now)
         (layout map.now (plain_rows rows.now) entries.now asm.now.frames.items) (last_of map.now) asm.now.items.items) }
 {
     let items = asm.items.as_slice();
     let layout = layout_of(alloc, map, rows, entries, asm.frames.as_slice(), areas)?;
     let last = map.stack.first + map.stack.size - 1;
-    let image = image_from(alloc, program, items, &layout, last)?;
+    let image = image_from(alloc, map.core, program, items, &layout, last)?;
     let Layout {
         places,
         initials: _,

@@ -7,6 +7,7 @@ use Rattle.std.specs.Map.{keys_of, values_of}
 use Rattle.toml.specs.Data.{Data}
 use Rattle.toml.specs.declared.value.Value.{Value}
 use Rattle.toml.specs.View.{view, items_view, members_view}
+use Rattle.ec_space.specs.declared.Core.{Core}
 use Rattle.ec_map.specs.Values.{list_of, entries_of}
 use Rattle.ec_map.specs.Regions.{region_in}
 use Rattle.ec_map.specs.Rules.{are_two_integers, is_write_in}
@@ -50,11 +51,11 @@ not_two_integers (a ∷ []) h = refl
 not_two_integers (a ∷ b ∷ []) h = absurd (h refl)
 not_two_integers (a ∷ b ∷ c ∷ vs) h = refl
 
-pub no_write : (vs : List Value) → length vs ≢ 2 → false ≡ is_write_in (items_view vs)
-no_write [] h = refl
-no_write (a ∷ []) h = refl
-no_write (a ∷ b ∷ []) h = absurd (h refl)
-no_write (a ∷ b ∷ c ∷ vs) h = refl
+pub no_write : (core : Core) (vs : List Value) → length vs ≢ 2 → false ≡ is_write_in core (items_view vs)
+no_write core [] h = refl
+no_write core (a ∷ []) h = refl
+no_write core (a ∷ b ∷ []) h = absurd (h refl)
+no_write core (a ∷ b ∷ c ∷ vs) h = refl
 
 -- the values of a map of values
 pub values-viewed : (p : Data → Bool) (es : List (String Global × Value))

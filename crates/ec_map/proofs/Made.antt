@@ -12,6 +12,7 @@ use Rattle.std.proofs.lemmas.List.{take_more, map-append, length-map, get_or-map
 use Rattle.std.proofs.lemmas.List.Elements.{All-nil, All-cons}
 use Rattle.toml.specs.View.{view, members_view}
 use Rattle.toml.specs.declared.value.Value.{Value}
+use Rattle.ec_space.specs.declared.Core.{Core}
 use Rattle.ec_map.specs.declared.map.Fixed1.{Fixed1}
 use Rattle.ec_map.specs.Values.{entries_of}
 use Rattle.ec_map.specs.Maps.{place_of, place_view, names_of, AreAscending}
@@ -34,27 +35,28 @@ entries-last [] e = refl
 entries-last (x ∷ es) e = ap (λ rest. (string_bytes x.0, view x.1) ∷ rest) (entries-last es e)
 
 -- one place more
-pub placed_more : (made new : List Fixed1) (p : Fixed1) (es : List Entry) (e : Entry)
-    → map place_view made ≡ map place_of (entries_of (members_view es)) → place_view p ≡ place_of (string_bytes e.0, view e.1)
-    → new ≡ made ++ p ∷ []
-    → map place_view new ≡ map place_of (entries_of (members_view (es ++ e ∷ [])))
-placed_more made new p es e done one pushed =
+pub placed_more : (core : Core) (made new : List Fixed1) (p : Fixed1) (es : List Entry) (e : Entry)
+    → map place_view made ≡ map (place_of core) (entries_of (members_view es))
+    → place_view p ≡ place_of core (string_bytes e.0, view e.1) → new ≡ made ++ p ∷ []
+    → map place_view new ≡ map (place_of core) (entries_of (members_view (es ++ e ∷ [])))
+placed_more core made new p es e done one pushed =
     rw (pushed, entries-last es e)
     (map-append place_view made (p ∷ []) ∙ ap (λ zs. zs ++ place_view p ∷ []) done
-    ∙ ap (λ z. map place_of (entries_of (members_view es)) ++ z ∷ []) one
-    ∙ sym (map-append place_of (entries_of (members_view es)) ((string_bytes e.0, view e.1) ∷ [])))
+    ∙ ap (λ z. map (place_of core) (entries_of (members_view es)) ++ z ∷ []) one
+    ∙ sym (map-append (place_of core) (entries_of (members_view es)) ((string_bytes e.0, view e.1) ∷ [])))
 
 names_seen : (ps : List Fixed1) → names_of ps ≡ map (λ q. q.name) (map place_view ps)
 names_seen [] = refl
 names_seen (p ∷ ps) = ap (λ ns. p.name.items ∷ ns) (names_seen ps)
 
-keys_seen : (es : List Entry) → map (λ q. q.name) (map place_of (entries_of (members_view es))) ≡ map string_bytes (keys_of es)
-keys_seen [] = refl
-keys_seen (e ∷ es) = ap (λ ns. string_bytes e.0 ∷ ns) (keys_seen es)
+keys_seen : (core : Core) (es : List Entry)
+    → map (λ q. q.name) (map (place_of core) (entries_of (members_view es))) ≡ map string_bytes (keys_of es)
+keys_seen core [] = refl
+keys_seen core (e ∷ es) = ap (λ ns. string_bytes e.0 ∷ ns) (keys_seen core es)
 
-pub names_told : (ps : List Fixed1) (es : List Entry) → map place_view ps ≡ map place_of (entries_of (members_view es))
-    → names_of ps ≡ map string_bytes (keys_of es)
-names_told ps es h = names_seen ps ∙ ap (λ qs. map (λ q. q.name) qs) h ∙ keys_seen es
+pub names_told : (core : Core) (ps : List Fixed1) (es : List Entry)
+    → map place_view ps ≡ map (place_of core) (entries_of (members_view es)) → names_of ps ≡ map string_bytes (keys_of es)
+names_told core ps es h = names_seen ps ∙ ap (λ qs. map (λ q. q.name) qs) h ∙ keys_seen core es
 
 below_all : (k : String Global) (ks : List (String Global)) → AllByRecursion (λ y. string_cmp k y ≡ Less) ks
     → AllByRecursion (λ y. slice_cmp nat_cmp (string_bytes k) y ≡ Less) (map string_bytes ks)

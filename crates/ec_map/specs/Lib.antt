@@ -1,5 +1,6 @@
 pub mod Judging
 pub mod Values
+pub mod Cores
 pub mod Regions
 pub mod Rules
 pub mod Maps

@@ -5,13 +5,14 @@ use Rattle.std.specs.Ordering.{nat_cmp}
 use Rattle.std.specs.Cmp.Lexicographic.{slice_cmp}
 use Rattle.std.specs.List.Sorted.{IsStrictlySortedBy}
 use Rattle.toml.specs.Data.{Data, at}
-use Rattle.ec_space.specs.declared.Core.TheVariants.{Small}
+use Rattle.ec_space.specs.declared.Core.{Core}
 use Rattle.ec_avr.specs.State.{is_port}
 use Rattle.ec_iohw.specs.Valid.{ValidIo}
 use Rattle.ec_iohw.specs.declared.table.Pair.{Pair}
 use Rattle.ec_iohw.specs.declared.table.Port.{Port}
 use Rattle.ec_iohw.specs.declared.table.PortGroup.{PortGroup}
 use Rattle.ec_map.specs.Values.{entries_at, values_at, number_of}
+use Rattle.ec_map.specs.Cores.{core_of, last_place}
 use Rattle.ec_map.specs.Regions.{regions_of, ValidRegions}
 use Rattle.ec_map.specs.Rules.{ports_of, groups_of, name_of, address_of, width_of, count_of, group_of, broken}
 use Rattle.ec_map.specs.declared.region.Regions.{Regions}
@@ -59,8 +60,8 @@ pub record PlaceView : Type 0 where
   pub name : List ℕ
   pub at : ℕ
 
-abbrev pub place_of : List ℕ × Data → PlaceView
-place_of e = record { name = e.0; at = unwrap_or (number_of 65535 e.1) 0 }
+abbrev pub place_of : Core → List ℕ × Data → PlaceView
+place_of core e = record { name = e.0; at = unwrap_or (number_of (last_place core) e.1) 0 }
 
 -- ---- maps without the room of their lists
 
@@ -76,13 +77,13 @@ place_view p = record { name = p.name.items; at = p.at }
 abbrev pub regions : Map → Regions
 regions m = record { code = m.code; tables = m.tables; far = m.far; vars = m.vars; stack = m.stack }
 
--- the map that a table is, for the core `small`
+-- the map that a table is
 pub record IsMapOf (d : Data) (m : Map) : Type 0 where
-  pub core_told : m.core ≡ Small
-  pub regions_told : regions_of d ≡ Some (regions m)
+  pub core_told : m.core ≡ core_of d
+  pub regions_told : regions_of (core_of d) d ≡ Some (regions m)
   pub ports_told : map port_view m.io.ports.items ≡ map (port_of (groups_of d)) (ports_of d)
   pub groups_told : map group_view m.io.groups.items ≡ map port_group_of (groups_of d)
-  pub places_told : map place_view m.places.items ≡ map place_of (entries_at (codes "place") d)
+  pub places_told : map place_view m.places.items ≡ map (place_of (core_of d)) (entries_at (codes "place") d)
 
 -- a map and the table that it is, which keeps all rules
 pub record IsMap (m : Map) (d : Data) : Type 0 where
@@ -92,18 +93,18 @@ pub record IsMap (m : Map) (d : Data) : Type 0 where
 -- ---- what holds of every map that is read
 
 -- all bytes of a port, or of those that follow one another, are ports of the core
-abbrev pub HasPorts : Port → Type 0
-HasPorts p = (k : ℕ) → k < p.width * p.count → IsTrue (is_port Small (p.address + k))
+abbrev pub HasPorts : Core → Port → Type 0
+HasPorts core p = (k : ℕ) → k < p.width * p.count → IsTrue (is_port core (p.address + k))
 
-abbrev pub WritesPorts : List Pair → Type 0
-WritesPorts pairs = All (λ pair. IsTrue (is_port Small pair.port)) pairs
+abbrev pub WritesPorts : Core → List Pair → Type 0
+WritesPorts core pairs = All (λ pair. IsTrue (is_port core pair.port)) pairs
 
 -- what is written to acquire and to release a group is written to ports of the core
-abbrev pub HasWrites : PortGroup → Type 0
-HasWrites g = WritesPorts g.acquire.items × WritesPorts g.release.items
+abbrev pub HasWrites : Core → PortGroup → Type 0
+HasWrites core g = WritesPorts core g.acquire.items × WritesPorts core g.release.items
 
-abbrev pub IsPlaced : Fixed1 → Type 0
-IsPlaced p = (1 ≤ p.at) × (p.at ≤ 65535)
+abbrev pub IsPlaced : Core → Fixed1 → Type 0
+IsPlaced core p = (1 ≤ p.at) × (p.at ≤ last_place core)
 
 -- the names of places stand by rising bytes, so no two are the same
 abbrev pub names_of : List Fixed1 → List (List ℕ)
@@ -114,8 +115,8 @@ AreAscending names = IsStrictlySortedBy (slice_cmp nat_cmp) names
 
 pub record ValidMap (m : Map) : Type 0 where
   pub io : ValidIo m.io
-  pub regions_valid : ValidRegions (regions m)
-  pub ports : All HasPorts m.io.ports.items
-  pub writes : All HasWrites m.io.groups.items
-  pub places : All IsPlaced m.places.items
+  pub regions_valid : ValidRegions m.core (regions m)
+  pub ports : All (HasPorts m.core) m.io.ports.items
+  pub writes : All (HasWrites m.core) m.io.groups.items
+  pub places : All (IsPlaced m.core) m.places.items
   pub ascending : AreAscending (names_of m.places.items)

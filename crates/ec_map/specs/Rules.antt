@@ -7,13 +7,15 @@ use Rattle.std.specs.Option.{option_map_or}
 use Rattle.std.specs.List.{list_all, list_any, range_with_len}
 use Rattle.std.specs.Str.{bytes_eq}
 use Rattle.toml.specs.Data.{Data, Items, no_items, item, get, as_integer, as_array, as_table}
-use Rattle.ec_space.specs.declared.Core.TheVariants.{Small}
+use Rattle.ec_space.specs.declared.Core.{Core}
+use Rattle.ec_space.specs.declared.Core.TheVariants.{Small, Large}
 use Rattle.ec_avr.specs.State.{is_port}
 use Rattle.ec_map.specs.Judging.{first_broken}
 use Rattle.ec_map.specs.Values.{array_of, array_at, values_at, keys, entries_at, text_at, number_of, number_at}
+use Rattle.ec_map.specs.Cores.{core_at, core_of, last_place}
 use Rattle.ec_map.specs.Regions.{regions_of, are_in_banks, is_code, are_apart}
 use Rattle.ec_map.specs.declared.keys.Kind.{Kind}
-use Rattle.ec_map.specs.declared.keys.Kind.TheVariants.{WholeMap, RegionTable, PortTable, GroupTable}
+use Rattle.ec_map.specs.declared.keys.Kind.TheVariants.{WholeMap, RegionTable, FarRegionTable, PortTable, GroupTable}
 
 -- ---- keys
 
@@ -21,12 +23,14 @@ use Rattle.ec_map.specs.declared.keys.Kind.TheVariants.{WholeMap, RegionTable, P
 abbrev pub needed : Kind → List (List ℕ)
 needed WholeMap = codes "core" ∷ codes "region" ∷ []
 needed RegionTable = codes "code" ∷ codes "tables" ∷ codes "data" ∷ codes "stack" ∷ []
+needed FarRegionTable = codes "code" ∷ codes "tables" ∷ codes "data" ∷ codes "stack" ∷ []
 needed PortTable = codes "name" ∷ codes "address" ∷ codes "width" ∷ []
 needed GroupTable = codes "name" ∷ codes "acquire" ∷ codes "release" ∷ []
 
 abbrev pub optional : Kind → List (List ℕ)
 optional WholeMap = codes "port" ∷ codes "group" ∷ codes "place" ∷ []
 optional RegionTable = []
+optional FarRegionTable = codes "far" ∷ []
 optional PortTable = codes "count" ∷ codes "group" ∷ []
 optional GroupTable = []
 
@@ -102,11 +106,11 @@ has_size d =
     ((width_of d == 1) || ((width_of d == 2) || (width_of d == 4)))
     && (nat_le 1 (count_of d) && nat_le (count_of d) 220)
 
-abbrev pub are_ports : (first many : ℕ) → Bool
-are_ports first many = list_all (is_port Small) (range_with_len first many)
+abbrev pub are_ports : Core → (first many : ℕ) → Bool
+are_ports core first many = list_all (is_port core) (range_with_len first many)
 
-abbrev pub has_ports : Data → Bool
-has_ports d = are_ports (address_of d) (width_of d * count_of d)
+abbrev pub has_ports : Core → Data → Bool
+has_ports core d = are_ports core (address_of d) (width_of d * count_of d)
 
 -- the place of the group that a port names, among the groups
 abbrev pub group_named : List Data → List ℕ → Option ℕ
@@ -137,20 +141,21 @@ abbrev pub has_lists : Data → Bool
 has_lists d = has_pairs (codes "acquire") d && has_pairs (codes "release") d
 
 -- a port address and a byte
-abbrev pub is_write : Option ℕ → Option ℕ → Bool
-is_write (Some port) (Some byte) = is_port Small port
-is_write _ _ = false
+abbrev pub is_write : Core → Option ℕ → Option ℕ → Bool
+is_write core (Some port) (Some byte) = is_port core port
+is_write core _ _ = false
 
-abbrev pub is_write_in : Items → Bool
-is_write_in (item a (item b no_items)) = is_write (number_of 255 a) (number_of 255 b)
-is_write_in _ = false
+abbrev pub is_write_in : Core → Items → Bool
+is_write_in core (item a (item b no_items)) = is_write core (number_of 255 a) (number_of 255 b)
+is_write_in core _ = false
 
-abbrev pub is_port_pair : Data → Bool
-is_port_pair d = option_map_or is_write_in (as_array d) false
+abbrev pub is_port_pair : Core → Data → Bool
+is_port_pair core d = option_map_or (is_write_in core) (as_array d) false
 
-abbrev pub has_writes : Data → Bool
-has_writes d =
-    list_all is_port_pair (values_at (codes "acquire") d) && list_all is_port_pair (values_at (codes "release") d)
+abbrev pub has_writes : Core → Data → Bool
+has_writes core d =
+    list_all (is_port_pair core) (values_at (codes "acquire") d)
+    && list_all (is_port_pair core) (values_at (codes "release") d)
 
 -- ---- the rules
 
@@ -158,29 +163,35 @@ has_writes d =
 abbrev pub rule_1 : Data → Bool
 rule_1 d = is_table_of WholeMap d
 
--- 2. `core` is the string `small`
+-- 2. `core` is the string `small` or `large`
 abbrev pub rule_2 : Data → Bool
-rule_2 d = option_map_or (λ name. bytes_eq name (codes "small")) (text_at (codes "core") d) false
+rule_2 d = is_some (core_at d)
 
--- 3. `region` is a table with exactly the keys `code`, `tables`, `data` and `stack`
+-- 3. `region` is a table with the keys `code`, `tables`, `data`, `stack`, and no other but, where `core` is `large`, `far`
+abbrev pub region_table : Core → Kind
+region_table Small = RegionTable
+region_table Large = FarRegionTable
+
 abbrev pub rule_3 : Data → Bool
-rule_3 d = option_map_or (is_table_of RegionTable) (get (codes "region") d) false
+rule_3 d = option_map_or (is_table_of (region_table (core_of d))) (get (codes "region") d) false
 
 -- 4. each region is an array of two integers, the first address from 0 and the size from 1, both at most 131,072
 abbrev pub rule_4 : Data → Bool
-rule_4 d = is_some (regions_of d)
+rule_4 d = is_some (regions_of (core_of d) d)
 
--- 5. `code` and `tables` end by 32,768; `data` and `stack` begin at 256 or later and end by 2,304
+-- 5. on `small`, `code` and `tables` end by 32,768, and `data` and `stack` begin at 256 or later and end by 2,304; on
+-- `large`, `code` ends by 131,072, `far` by 131,071 and `tables` by 65,535, and `data` and `stack` begin at 256 or later
+-- and end by 16,640
 abbrev pub rule_5 : Data → Bool
-rule_5 d = option_map_or are_in_banks (regions_of d) false
+rule_5 d = option_map_or (are_in_banks (core_of d)) (regions_of (core_of d) d) false
 
 -- 6. `code` begins at 0 and its size is even
 abbrev pub rule_6 : Data → Bool
-rule_6 d = option_map_or is_code (regions_of d) false
+rule_6 d = option_map_or is_code (regions_of (core_of d) d) false
 
--- 7. `code` and `tables` share no byte, nor do `data` and `stack`
+-- 7. no two of `code`, `tables` and `far` share a byte, nor do `data` and `stack`
 abbrev pub rule_7 : Data → Bool
-rule_7 d = option_map_or are_apart (regions_of d) false
+rule_7 d = option_map_or are_apart (regions_of (core_of d) d) false
 
 -- 8. `port`, where present, is an array of at most 64 tables, each with `name`, `address`, `width` and no other key but
 -- `count` and `group`
@@ -195,9 +206,9 @@ rule_9 d = are_named (ports_of d)
 abbrev pub rule_10 : Data → Bool
 rule_10 d = list_all has_size (ports_of d)
 
--- 11. each address is an integer, and all width * count bytes from it are ports
+-- 11. each address is an integer, and all width * count bytes from it are ports of the core
 abbrev pub rule_11 : Data → Bool
-rule_11 d = list_all has_ports (ports_of d)
+rule_11 d = list_all (has_ports (core_of d)) (ports_of d)
 
 -- 12. `group`, where present, is an array of at most 16 tables with exactly `name`, `acquire` and `release`
 abbrev pub rule_12 : Data → Bool
@@ -211,9 +222,9 @@ rule_13 d = are_named (groups_of d)
 abbrev pub rule_14 : Data → Bool
 rule_14 d = list_all has_lists (groups_of d)
 
--- 15. each first integer is a port address, each second is from 0 to 255
+-- 15. each first integer is the address of a port of the core, each second is from 0 to 255
 abbrev pub rule_15 : Data → Bool
-rule_15 d = list_all has_writes (groups_of d)
+rule_15 d = list_all (has_writes (core_of d)) (groups_of d)
 
 -- 16. each port's `group` is a string that names a group
 abbrev pub rule_16 : Data → Bool
@@ -223,12 +234,12 @@ rule_16 d = list_all (has_group (groups_of d)) (ports_of d)
 abbrev pub rule_17 : Data → Bool
 rule_17 d = option_map_or (λ v. is_some (as_table v)) (get (codes "place") d) true
 
--- 18. each of its values is an integer from 1 to 65,535
-abbrev pub is_place : Data → Bool
-is_place d = option_map_or (nat_le 1) (number_of 65535 d) false
+-- 18. each of its values is an integer from 1 to 65,535 on `small`, and to 131,071 on `large`
+abbrev pub is_place : Core → Data → Bool
+is_place core d = option_map_or (nat_le 1) (number_of (last_place core) d) false
 
 abbrev pub rule_18 : Data → Bool
-rule_18 d = list_all (λ e. is_place e.1) (entries_at (codes "place") d)
+rule_18 d = list_all (λ e. is_place (core_of d) e.1) (entries_at (codes "place") d)
 
 -- whether each rule is kept, in order
 abbrev pub kept : Data → List Bool

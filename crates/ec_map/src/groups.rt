@@ -8,6 +8,7 @@ ghost use Rattle.ec_map.specs.Rules.{is_write, is_write_in, is_port_pair, has_wr
 
 use crate::ports::{byte_of, is_port};
 use crate::values::{array_at, values_at};
+use ec_space::Core;
 use toml::Value;
 
 fn are_two_integers(values: &[Value]) -> bool
@@ -56,49 +57,49 @@ pub(crate) fn has_lists(group: &Value) -> bool
     has_pairs(group, "acquire") && has_pairs(group, "release")
 }
 
-fn is_write(port: Option<u8>, byte: Option<u8>) -> bool
-    ensures { result ≡ is_write port byte }
+fn is_write(core: Core, port: Option<u8>, byte: Option<u8>) -> bool
+    ensures { result ≡ is_write core port byte }
 {
     match port {
-        Some(port) => byte.is_some() && is_port(u32::from(port)),
+        Some(port) => byte.is_some() && is_port(core, u32::from(port)),
         None => false,
     }
 }
 
-fn is_write_in(values: &[Value]) -> bool
-    ensures { result ≡ is_write_in (items_view values.now) }
+fn is_write_in(core: Core, values: &[Value]) -> bool
+    ensures { result ≡ is_write_in core (items_view values.now) }
 {
     match values {
-        [port, byte] => is_write(byte_of(port), byte_of(byte)),
+        [port, byte] => is_write(core, byte_of(port), byte_of(byte)),
         _ => false,
     }
 }
 
-fn is_port_pair(value: &Value) -> bool
-    ensures { result ≡ is_port_pair (view value.now) }
+fn is_port_pair(core: Core, value: &Value) -> bool
+    ensures { result ≡ is_port_pair core (view value.now) }
 {
     match value.as_array() {
-        Some(values) => is_write_in(values.as_slice()),
+        Some(values) => is_write_in(core, values.as_slice()),
         None => false,
     }
 }
 
-fn each_is_port_pair(values: &[Value]) -> bool
-    ensures { result ≡ list_all (λ value. is_port_pair (view value)) values.now }
+fn each_is_port_pair(core: Core, values: &[Value]) -> bool
+    ensures { result ≡ list_all (λ value. is_port_pair core (view value)) values.now }
 {
-    values.iter().all(|value| is_port_pair(value))
+    values.iter().all(|value| is_port_pair(core, value))
 }
 
 /// Whether each value of the array at a key is a port's address and a byte.
-fn are_port_pairs(group: &Value, key: &str) -> bool
-    ensures { result ≡ list_all is_port_pair (values_at key.now (view group.now)) }
+fn are_port_pairs(core: Core, group: &Value, key: &str) -> bool
+    ensures { result ≡ list_all (is_port_pair core) (values_at key.now (view group.now)) }
 {
-    each_is_port_pair(values_at(group, key))
+    each_is_port_pair(core, values_at(group, key))
 }
 
 /// Whether each of what is written to acquire and release a group is a port's address and a byte.
-pub(crate) fn has_writes(group: &Value) -> bool
-    ensures { result ≡ has_writes (view group.now) }
+pub(crate) fn has_writes(core: Core, group: &Value) -> bool
+    ensures { result ≡ has_writes core (view group.now) }
 {
-    are_port_pairs(group, "acquire") && are_port_pairs(group, "release")
+    are_port_pairs(core, group, "acquire") && are_port_pairs(core, group, "release")
 }

@@ -14,8 +14,10 @@ use toml::{Table, Value};
 pub(crate) enum Kind {
     /// The whole document.
     WholeMap,
-    /// `region`
+    /// `region`, where it has no `far`
     RegionTable,
+    /// `region`, where it may have `far`
+    FarRegionTable,
     /// One of `port`
     PortTable,
     /// One of `group`
@@ -31,6 +33,10 @@ fn is_key(kind: Kind, key: &str) -> bool
             key == "core" || key == "region" || key == "port" || key == "group" || key == "place"
         }
         Kind::RegionTable => key == "code" || key == "tables" || key == "data" || key == "stack",
+        Kind::FarRegionTable => {
+            let flash = key == "code" || key == "tables" || key == "far";
+            flash || key == "data" || key == "stack"
+        }
         Kind::PortTable => {
             let needed = key == "name" || key == "address" || key == "width";
             needed || key == "count" || key == "group"
@@ -45,7 +51,7 @@ fn has_needed(kind: Kind, table: &Value) -> bool
 {
     match kind {
         Kind::WholeMap => table.get("core").is_some() && table.get("region").is_some(),
-        Kind::RegionTable => {
+        Kind::RegionTable | Kind::FarRegionTable => {
             let flash = table.get("code").is_some() && table.get("tables").is_some();
             flash && table.get("data").is_some() && table.get("stack").is_some()
         }

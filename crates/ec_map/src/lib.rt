@@ -1,6 +1,7 @@
 //! The map of a chip: where code, objects and the stack stand, and its ports.
 #![tactic(auto)]
 
+mod cores;
 mod groups;
 mod keys;
 mod map;
@@ -10,6 +11,7 @@ mod region;
 mod rules;
 mod values;
 
+pub use cores::home_end;
 pub use map::{Fixed1, Map};
 pub use read::{MapStop, read_map};
 pub use region::{Region, Regions};

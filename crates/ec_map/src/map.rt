@@ -3,10 +3,12 @@ ghost use Rattle.std.specs.Prelude.{◌≡◌, ◌<◌, ◌^◌, map, length, co
 ghost use Rattle.toml.specs.View.{view, table_view};
 ghost use Rattle.ec_map.specs.Values.{values_at, entries, entries_at, entries_of};
 ghost use Rattle.ec_map.specs.Rules.{groups_of, ports_of, group_of, broken};
+ghost use Rattle.ec_map.specs.Cores.{core_of};
 ghost use Rattle.ec_map.specs.Regions.{regions_of};
 ghost use Rattle.ec_map.specs.Maps.{byte_in, pair_of, port_of, port_group_of, place_of, port_view, group_view};
 ghost use Rattle.ec_map.specs.Maps.{place_view, names_of, AreAscending, IsMapOf};
 
+use crate::cores::{core_of, last_place};
 use crate::ports::{address_of, byte_of, count_of, group_of, name_of, width_of};
 use crate::region::{Region, Regions, regions_of};
 use crate::rules::{groups_of, ports_of};
@@ -21,7 +23,7 @@ use toml::{Table, Value};
 pub struct Fixed1 {
     /// The object's name.
     pub name: Name,
-    /// The address of its first byte in its home bank, from 1 to 65,535.
+    /// The address of its first byte in its home bank, from 1 to 65,535 on the core `small` and to 131,071 on `large`.
     pub at: u32,
 }
 
@@ -33,7 +35,7 @@ pub struct Map {
     pub code: Region,
     /// Flash objects and initial bytes, in flash.
     pub tables: Region,
-    /// Far objects, in flash. Its size is 0 where the map has none, as on the core `small`.
+    /// Far objects, in flash. It begins at 0 with size 0 where the map has none, as on the core `small`.
     pub far: Region,
     /// The region `data`, in SRAM.
     pub vars: Region,
@@ -163,49 +165,49 @@ fn groups_from(alloc: Global, groups: &[Value]) -> Result<Seq<PortGroup>, NoMemo
     Ok(made)
 }
 
-fn place_from(alloc: Global, name: &str, value: &Value) -> Result<Fixed1, NoMemory>
-    ensures { IfOk result (λ p. place_view p ≡ place_of (name.now, view value.now)) }
+fn place_from(alloc: Global, core: Core, name: &str, value: &Value) -> Result<Fixed1, NoMemory>
+    ensures { IfOk result (λ p. place_view p ≡ place_of core (name.now, view value.now)) }
 {
     let name = name_from(alloc, name)?;
     Ok(Fixed1 {
         name,
-        at: number_of(value, 65_535).unwrap_or(0),
+        at: number_of(value, last_place(core)).unwrap_or(0),
     })
 }
 
-fn places_in(alloc: Global, table: &Table) -> Result<Seq<Fixed1>, NoMemory>
+fn places_in(alloc: Global, core: Core, table: &Table) -> Result<Seq<Fixed1>, NoMemory>
     ensures told { IfOk result (λ made. map place_view made.items
-        ≡ map place_of (entries_of (table_view table.now))) }
+        ≡ map (place_of core) (entries_of (table_view table.now))) }
     ensures ascending { IfOk result (λ made. AreAscending (names_of made.items)) }
 {
     let mut made = Seq::new(alloc);
     'places: for (name, value) in table.iter() {
-        made.push(place_from(alloc, name.as_str(), value)?)?;
+        made.push(place_from(alloc, core, name.as_str(), value)?)?;
     }
     Ok(made)
 }
 
-fn places_of(alloc: Global, value: &Value) -> Result<Seq<Fixed1>, NoMemory>
-    ensures told { IfOk result (λ made. map place_view made.items ≡ map place_of (entries (view value.now))) }
+fn places_of(alloc: Global, core: Core, value: &Value) -> Result<Seq<Fixed1>, NoMemory>
+    ensures told { IfOk result (λ made. map place_view made.items ≡ map (place_of core) (entries (view value.now))) }
     ensures ascending { IfOk result (λ made. AreAscending (names_of made.items)) }
 {
     match value.as_table() {
         Some(table) => {
-            let made = places_in(alloc, table)?;
+            let made = places_in(alloc, core, table)?;
             Ok(made)
         }
         None => Ok(Seq::new(alloc)),
     }
 }
 
-fn places_from(alloc: Global, root: &Value) -> Result<Seq<Fixed1>, NoMemory>
+fn places_from(alloc: Global, core: Core, root: &Value) -> Result<Seq<Fixed1>, NoMemory>
     ensures told { IfOk result (λ made. map place_view made.items
-        ≡ map place_of (entries_at (codes "place") (view root.now))) }
+        ≡ map (place_of core) (entries_at (codes "place") (view root.now))) }
     ensures ascending { IfOk result (λ made. AreAscending (names_of made.items)) }
 {
     match root.get("place") {
         Some(places) => {
-            let made = places_of(alloc, places)?;
+            let made = places_of(alloc, core, places)?;
             Ok(made)
         }
         None => Ok(Seq::new(alloc)),
@@ -228,9 +230,9 @@ fn io_from(alloc: Global, root: &Value) -> Result<IoTable, NoMemory>
 /// The regions of a table that keeps the rules.
 fn regions_from(root: &Value) -> Regions
     requires { broken (view root.now) ≡ None }
-    ensures { regions_of (view root.now) ≡ Some result }
+    ensures { regions_of (core_of (view root.now)) (view root.now) ≡ Some result }
 {
-    match regions_of(root) {
+    match regions_of(core_of(root), root) {
         Some(regions) => regions,
         None => unreachable!(),
     }
@@ -242,6 +244,7 @@ pub(crate) fn map_from(alloc: Global, root: &Value) -> Result<Map, NoMemory>
     ensures told { IfOk result (IsMapOf (view root.now)) }
     ensures ascending { IfOk result (λ m. AreAscending (names_of m.places.items)) }
 {
+    let core = core_of(root);
     let Regions {
         code,
         tables,
@@ -250,13 +253,13 @@ pub(crate) fn map_from(alloc: Global, root: &Value) -> Result<Map, NoMemory>
         stack,
     } = regions_from(root);
     Ok(Map {
-        core: Core::Small,
+        core,
         code,
         tables,
         far,
         vars,
         stack,
         io: io_from(alloc, root)?,
-        places: places_from(alloc, root)?,
+        places: places_from(alloc, core, root)?,
     })
 }

@@ -4,13 +4,13 @@ ghost use Rattle.std.specs.List.{list_all, list_any, range_with_len};
 ghost use Rattle.std.specs.Str.{bytes_eq};
 ghost use Rattle.toml.specs.View.{view, items_view};
 ghost use Rattle.ec_avr.specs.State.{is_port as is_port_at};
-ghost use Rattle.ec_space.specs.declared.Core.TheVariants.{Small};
 ghost use Rattle.ec_map.specs.Values.{number_of};
 ghost use Rattle.ec_map.specs.Rules.{is_letter, is_word, is_identifier, are_distinct, name_of, has_name, are_named};
 ghost use Rattle.ec_map.specs.Rules.{width_of, count_of, address_of, has_size, are_ports, has_ports, group_named};
 ghost use Rattle.ec_map.specs.Rules.{byte_at, group_of, has_group};
 
 use crate::values::{number_of, text_at};
+use ec_space::Core;
 use toml::Value;
 
 /// A letter or `_`.
@@ -139,27 +139,26 @@ pub(crate) fn has_size(port: &Value) -> bool
     (width == 1 || width == 2 || width == 4) && 1 <= count && count <= 220
 }
 
-/// Whether an address is that of a port of the core: below 256 and not of R0 to R31, SPL, SPH or SREG.
-pub(crate) fn is_port(address: u32) -> bool
-    ensures { result ≡ is_port_at Small address }
+/// Whether an address is that of a port of a core: below 256, and that of none of the core's own registers.
+pub(crate) fn is_port(core: Core, address: u32) -> bool
+    ensures { result ≡ is_port_at core address }
 {
-    let is_register = address < 32 || address == 0x5D || address == 0x5E || address == 0x5F;
-    address < 256 && !is_register
+    address < 256 && ec_isa::is_port(core, address as u16)
 }
 
-fn are_ports(first: u32, many: u32) -> bool
+fn are_ports(core: Core, first: u32, many: u32) -> bool
     requires { first + many < 2 ^ 32 }
-    ensures { result ≡ are_ports first many }
+    ensures { result ≡ are_ports core first many }
 {
-    (first..first + many).all(|address| is_port(address))
+    (first..first + many).all(|address| is_port(core, address))
 }
 
 /// Whether all bytes of a port, or of those that follow one another, are ports of the core.
-pub(crate) fn has_ports(port: &Value) -> bool
-    ensures { result ≡ has_ports (view port.now) }
+pub(crate) fn has_ports(core: Core, port: &Value) -> bool
+    ensures { result ≡ has_ports core (view port.now) }
 {
     let many = u32::from(width_of(port)) * u32::from(count_of(port));
-    are_ports(u32::from(address_of(port)), many)
+    are_ports(core, u32::from(address_of(port)), many)
 }
 
 /// The place of the first group with a name.

@@ -68,27 +68,30 @@ fn judge(alloc: Global, root: &Value) -> Result<Map, MapStop>
 
 /// The map of a text, or the first rule that it breaks.
 ///
-/// A map is a TOML document for the core `small`. Each rule is judged where all rules before it are kept:
+/// A map is a TOML document. Each rule is judged where all rules before it are kept:
 ///
 /// 1. Its keys are among `core`, `region`, `port`, `group` and `place`, and `core` and `region` are there.
-/// 2. `core` is the string `small`.
-/// 3. `region` is a table with exactly the keys `code`, `tables`, `data` and `stack`.
+/// 2. `core` is the string `small` or `large`.
+/// 3. `region` is a table with the keys `code`, `tables`, `data`, `stack`, and no other but, where `core` is `large`,
+///    `far`.
 /// 4. Each is an array of two integers, the first address from 0 and the size from 1, both at most 131,072.
-/// 5. `code` and `tables` end by 32,768; `data` and `stack` begin at 256 or later and end by 2,304.
+/// 5. On `small`, `code` and `tables` end by 32,768, and `data` and `stack` begin at 256 or later and end by 2,304. On
+///    `large`, `code` ends by 131,072, `far` by 131,071 and `tables` by 65,535, and `data` and `stack` begin at 256 or
+///    later and end by 16,640.
 /// 6. `code` begins at 0 and its size is even.
-/// 7. `code` and `tables` share no byte, nor do `data` and `stack`.
+/// 7. No two of `code`, `tables` and `far` share a byte, nor do `data` and `stack`.
 /// 8. `port`, where present, is an array of at most 64 tables, each with `name`, `address`, `width` and no other key
 ///    but `count` and `group`.
 /// 9. Each port's name is an identifier, and no two ports have the same.
 /// 10. Each width is 1, 2 or 4; each `count`, 1 where absent, is from 1 to 220.
-/// 11. Each address is an integer, and all `width * count` bytes from it are ports.
+/// 11. Each address is an integer, and all `width * count` bytes from it are ports of the core.
 /// 12. `group`, where present, is an array of at most 16 tables with exactly `name`, `acquire` and `release`.
 /// 13. Each group's name is an identifier, and no two groups have the same.
 /// 14. `acquire` and `release` are arrays of at most 32 arrays of two integers.
-/// 15. Each first integer is a port address, each second is from 0 to 255.
+/// 15. Each first integer is the address of a port of the core, each second is from 0 to 255.
 /// 16. Each port's `group` is a string that names a group.
 /// 17. `place`, where present, is a table.
-/// 18. Each of its values is an integer from 1 to 65,535.
+/// 18. Each of its values is an integer from 1 to 65,535 on `small`, and to 131,071 on `large`.
 pub fn read_map(alloc: Global, bytes: &Seq<u8>) -> Result<Map, MapStop>
     ensures read { IfOk result (λ m. IsUtf8 bytes.now.items × IsSomeAnd (document bytes.now.items) (IsMap m)) }
     ensures valid { IfOk result ValidMap }

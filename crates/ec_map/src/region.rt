@@ -2,10 +2,12 @@
 ghost use Rattle.std.specs.Prelude.{◌≡◌, ◌+◌, ◌<◌, ◌^◌};
 ghost use Rattle.toml.specs.View.{view, items_view};
 ghost use Rattle.ec_map.specs.Regions.{region_in, region_of, region_at, regions_in, regions_of, bytes_from, no_bytes};
-ghost use Rattle.ec_map.specs.Regions.{lies_in, are_in_banks, is_code, share_no_byte, are_apart};
+ghost use Rattle.ec_map.specs.Regions.{far_of, lies_in, are_in_flash, are_in_sram, are_in_banks, is_code, share_no_byte, are_apart};
 
+use crate::cores::home_end;
 use crate::rules::lie_in;
 use crate::values::number_of;
+use ec_space::{Core, Home};
 use toml::Value;
 
 /// Bytes of a bank that follow one another.
@@ -83,24 +85,37 @@ fn region_at(table: &Value, key: &str) -> Option<Region>
     }
 }
 
-fn regions_in(table: &Value) -> Option<Regions>
-    ensures { result ≡ regions_in (view table.now) }
+/// The region `far`, which the core `small` does not have, and `large` may have.
+fn far_of(core: Core, table: &Value) -> Option<Region>
+    ensures { result ≡ far_of core (view table.now) }
+{
+    match core {
+        Core::Small => Some(no_bytes()),
+        Core::Large => match table.get("far") {
+            Some(value) => region_of(value),
+            None => Some(no_bytes()),
+        },
+    }
+}
+
+fn regions_in(core: Core, table: &Value) -> Option<Regions>
+    ensures { result ≡ regions_in core (view table.now) }
 {
     Some(Regions {
         code: region_at(table, "code")?,
         tables: region_at(table, "tables")?,
-        far: no_bytes(),
+        far: far_of(core, table)?,
         vars: region_at(table, "data")?,
         stack: region_at(table, "stack")?,
     })
 }
 
 /// The regions of a map. None where one of them is no array of two numbers in their ranges.
-pub(crate) fn regions_of(map: &Value) -> Option<Regions>
-    ensures { result ≡ regions_of (view map.now) }
+pub(crate) fn regions_of(core: Core, map: &Value) -> Option<Regions>
+    ensures { result ≡ regions_of core (view map.now) }
 {
     match map.get("region") {
-        Some(table) => regions_in(table),
+        Some(table) => regions_in(core, table),
         None => None,
     }
 }
@@ -132,12 +147,29 @@ impl Region {
 }
 
 impl Regions {
-    /// Whether the regions lie in the flash and the SRAM of the core.
-    pub(crate) fn are_in_banks(self) -> bool
-        ensures { result ≡ are_in_banks self }
+    /// Whether code, tables and far lie in the flash of a core, where tables and far end with the objects of their homes.
+    fn are_in_flash(self, core: Core) -> bool
+        ensures { result ≡ are_in_flash core self }
     {
-        let flash = self.code.lies_in(0, 32_768) && self.tables.lies_in(0, 32_768);
-        flash && self.vars.lies_in(256, 2_304) && self.stack.lies_in(256, 2_304)
+        let code = self.code.lies_in(0, core.flash_size());
+        let tables = self.tables.lies_in(0, home_end(Home::Flash, core));
+        let far = self.far.lies_in(0, home_end(Home::Far, core));
+        code && tables && far
+    }
+
+    /// Whether data and stack lie in the SRAM of a core.
+    fn are_in_sram(self, core: Core) -> bool
+        ensures { result ≡ are_in_sram core self }
+    {
+        let end = core.data_size();
+        self.vars.lies_in(256, end) && self.stack.lies_in(256, end)
+    }
+
+    /// Whether the regions lie in the flash and the SRAM of a core.
+    pub(crate) fn are_in_banks(self, core: Core) -> bool
+        ensures { result ≡ are_in_banks core self }
+    {
+        self.are_in_flash(core) && self.are_in_sram(core)
     }
 
     /// Whether the code begins at address 0 and has whole words.
@@ -151,6 +183,8 @@ impl Regions {
     pub(crate) fn are_apart(self) -> bool
         ensures { result ≡ are_apart self }
     {
-        self.code.shares_no_byte(self.tables) && self.vars.shares_no_byte(self.stack)
+        let code = self.code.shares_no_byte(self.tables) && self.code.shares_no_byte(self.far);
+        let flash = code && self.tables.shares_no_byte(self.far);
+        flash && self.vars.shares_no_byte(self.stack)
     }
 }

@@ -9,13 +9,15 @@ ghost use Rattle.ec_map.specs.Values.{entries};
 ghost use Rattle.ec_map.specs.Rules.{rule_1, rule_2, rule_3, rule_4, rule_5, rule_6, rule_7, rule_8, rule_9};
 ghost use Rattle.ec_map.specs.Rules.{rule_10, rule_11, rule_12, rule_13, rule_14, rule_15, rule_16, rule_17, rule_18};
 ghost use Rattle.ec_map.specs.Rules.{ports_of, groups_of, has_size, has_ports, has_lists, has_writes, has_group};
-ghost use Rattle.ec_map.specs.Rules.{is_place, kept, broken};
+ghost use Rattle.ec_map.specs.Rules.{region_table, is_place, kept, broken};
 
+use crate::cores::{core_at, core_of, last_place};
 use crate::groups::{has_lists, has_writes};
 use crate::keys::{Kind, is_array_of, is_table_of};
 use crate::ports::{are_named, has_group, has_ports, has_size};
 use crate::region::regions_of;
-use crate::values::{number_of, text_at, values_at};
+use crate::values::{number_of, values_at};
+use ec_space::Core;
 use toml::{Table, Value};
 
 /// Whether `size` bytes from address `first` on begin at address `from` or later and end by address `to`, which is one
@@ -68,9 +70,16 @@ fn rule_1(root: &Value) -> bool
 fn rule_2(root: &Value) -> bool
     ensures { result ≡ rule_2 (view root.now) }
 {
-    match text_at(root, "core") {
-        Some(core) => core == "small",
-        None => false,
+    core_at(root).is_some()
+}
+
+/// The kind of the table of regions on a core.
+fn region_table(core: Core) -> Kind
+    ensures { result ≡ region_table core }
+{
+    match core {
+        Core::Small => Kind::RegionTable,
+        Core::Large => Kind::FarRegionTable,
     }
 }
 
@@ -78,7 +87,7 @@ fn rule_3(root: &Value) -> bool
     ensures { result ≡ rule_3 (view root.now) }
 {
     match root.get("region") {
-        Some(table) => is_table_of(Kind::RegionTable, table),
+        Some(table) => is_table_of(region_table(core_of(root)), table),
         None => false,
     }
 }
@@ -86,14 +95,15 @@ fn rule_3(root: &Value) -> bool
 fn rule_4(root: &Value) -> bool
     ensures { result ≡ rule_4 (view root.now) }
 {
-    regions_of(root).is_some()
+    regions_of(core_of(root), root).is_some()
 }
 
 fn rule_5(root: &Value) -> bool
     ensures { result ≡ rule_5 (view root.now) }
 {
-    match regions_of(root) {
-        Some(regions) => regions.are_in_banks(),
+    let core = core_of(root);
+    match regions_of(core, root) {
+        Some(regions) => regions.are_in_banks(core),
         None => false,
     }
 }
@@ -101,7 +111,7 @@ fn rule_5(root: &Value) -> bool
 fn rule_6(root: &Value) -> bool
     ensures { result ≡ rule_6 (view root.now) }
 {
-    match regions_of(root) {
+    match regions_of(core_of(root), root) {
         Some(regions) => regions.is_code(),
         None => false,
     }
@@ -110,7 +120,7 @@ fn rule_6(root: &Value) -> bool
 fn rule_7(root: &Value) -> bool
     ensures { result ≡ rule_7 (view root.now) }
 {
-    match regions_of(root) {
+    match regions_of(core_of(root), root) {
         Some(regions) => regions.are_apart(),
         None => false,
     }
@@ -143,16 +153,16 @@ fn rule_10(root: &Value) -> bool
     each_has_size(ports_of(root))
 }
 
-fn each_has_ports(ports: &[Value]) -> bool
-    ensures { result ≡ list_all (λ port. has_ports (view port)) ports.now }
+fn each_has_ports(core: Core, ports: &[Value]) -> bool
+    ensures { result ≡ list_all (λ port. has_ports core (view port)) ports.now }
 {
-    ports.iter().all(|port| has_ports(port))
+    ports.iter().all(|port| has_ports(core, port))
 }
 
 fn rule_11(root: &Value) -> bool
     ensures { result ≡ rule_11 (view root.now) }
 {
-    each_has_ports(ports_of(root))
+    each_has_ports(core_of(root), ports_of(root))
 }
 
 fn rule_12(root: &Value) -> bool
@@ -182,16 +192,16 @@ fn rule_14(root: &Value) -> bool
     each_has_lists(groups_of(root))
 }
 
-fn each_has_writes(groups: &[Value]) -> bool
-    ensures { result ≡ list_all (λ group. has_writes (view group)) groups.now }
+fn each_has_writes(core: Core, groups: &[Value]) -> bool
+    ensures { result ≡ list_all (λ group. has_writes core (view group)) groups.now }
 {
-    groups.iter().all(|group| has_writes(group))
+    groups.iter().all(|group| has_writes(core, group))
 }
 
 fn rule_15(root: &Value) -> bool
     ensures { result ≡ rule_15 (view root.now) }
 {
-    each_has_writes(groups_of(root))
+    each_has_writes(core_of(root), groups_of(root))
 }
 
 fn each_has_group(groups: &[Value], ports: &[Value]) -> bool
@@ -215,26 +225,26 @@ fn rule_17(root: &Value) -> bool
     }
 }
 
-fn is_place(value: &Value) -> bool
-    ensures { result ≡ is_place (view value.now) }
+fn is_place(core: Core, value: &Value) -> bool
+    ensures { result ≡ is_place core (view value.now) }
 {
-    match number_of(value, 65_535) {
+    match number_of(value, last_place(core)) {
         Some(at) => 1 <= at,
         None => false,
     }
 }
 
-fn each_is_place(places: &Table) -> bool
-    ensures { result ≡ list_all (λ value. is_place (view value)) (values_of places.now.entries) }
+fn each_is_place(core: Core, places: &Table) -> bool
+    ensures { result ≡ list_all (λ value. is_place core (view value)) (values_of places.now.entries) }
 {
-    places.values().all(|value| is_place(value))
+    places.values().all(|value| is_place(core, value))
 }
 
-fn are_places(places: &Value) -> bool
-    ensures { result ≡ list_all (λ e. is_place e.1) (entries (view places.now)) }
+fn are_places(core: Core, places: &Value) -> bool
+    ensures { result ≡ list_all (λ e. is_place core e.1) (entries (view places.now)) }
 {
     match places.as_table() {
-        Some(table) => each_is_place(table),
+        Some(table) => each_is_place(core, table),
         None => true,
     }
 }
@@ -243,7 +253,7 @@ fn rule_18(root: &Value) -> bool
     ensures { result ≡ rule_18 (view root.now) }
 {
     match root.get("place") {
-        Some(places) => are_places(places),
+        Some(places) => are_places(core_of(root), places),
         None => true,
     }
 }

@@ -49,5 +49,5 @@ TellFirst front flags =
 
 -- the flags tell of each kind whether it may stand behind the tokens
 pub record AreStanding (front : List Placed) (flags : List Bool) : Type 0 where
-  pub all : length flags ≡ 84
+  pub all : length flags ≡ 85
   pub each : TellFirst front flags

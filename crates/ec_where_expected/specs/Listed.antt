@@ -42,7 +42,7 @@ whole_to flags class zero = true
 whole_to flags class (suc n) = whole_to flags class n && is_kept flags class n
 
 abbrev pub is_whole : List Bool → Class → Bool
-is_whole flags class = whole_to flags class 84
+is_whole flags class = whole_to flags class 85
 
 -- a class of the kind is told as a whole
 abbrev pub is_covered : List Bool → Classes → Bool
@@ -90,4 +90,4 @@ classes_text flags (suc n) text = added (class_name flags n) (classes_text flags
 
 -- all names
 abbrev pub listed : List Bool → List ℕ
-listed flags = classes_text flags 5 (rows_text flags 84 [])
+listed flags = classes_text flags 5 (rows_text flags 85 [])

@@ -8,8 +8,7 @@ use ec_grammar::{GroupOp, IoOp, PragmaKind, PragmaState, PunctKind, TokenKind, W
 use ec_space::Seq;
 use std::alloc::Global;
 
-/// A kind of token, of which the grammar reads each the same. Reserved words have no place in the grammar, but for
-/// `__farflash`, which no text gives and so no list names.
+/// A kind of token, of which the grammar reads each the same. Reserved words have no place in the grammar.
 #[derive(Clone, Copy)]
 pub enum Candidate {
     Word(WordKind),
@@ -124,7 +123,7 @@ pub fn token_of(alloc: Global, candidate: Candidate) -> TokenKind
 }
 
 /// All kinds, in the order in which they are told: how each is told, and the classes that it is of.
-pub static ROWS: [(Candidate, &str, Classes); 84] = [
+pub static ROWS: [(Candidate, &str, Classes); 85] = [
     (Candidate::Punct(PunctKind::Semicolon), "`;`", NO_CLASS),
     (Candidate::Punct(PunctKind::Comma), "`,`", NO_CLASS),
     (
@@ -215,6 +214,11 @@ pub static ROWS: [(Candidate, &str, Classes); 84] = [
     (Candidate::Word(WordKind::Accum), "`_Accum`", SPECIFIER),
     (Candidate::Word(WordKind::Sat), "`_Sat`", SPECIFIER),
     (Candidate::Word(WordKind::Flash), "`__flash`", SPECIFIER),
+    (
+        Candidate::Word(WordKind::FarFlash),
+        "`__farflash`",
+        SPECIFIER,
+    ),
     (Candidate::Word(WordKind::Data), "`__data`", SPECIFIER),
     (Candidate::Word(WordKind::Int8), "`int8_t`", SPECIFIER),
     (Candidate::Word(WordKind::Uint8), "`uint8_t`", SPECIFIER),

@@ -60,7 +60,7 @@ pub fn standing(alloc: Global, tokens: Seq<Token>, k: u32) -> Result<Seq<bool>, 
         kind: TokenKind::End,
     };
     tried.push(end)?;
-    'kinds: for i in 0..84 {
+    'kinds: for i in 0..85 {
         let mut stand = false;
         if let Some(candidate) = candidate_at(i) {
             let token = Token {

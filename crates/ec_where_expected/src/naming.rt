@@ -96,7 +96,7 @@ fn is_whole(flags: &[bool], class: Class) -> bool
     ensures { result ≡ is_whole flags.now class }
 {
     let mut whole = true;
-    'rows: for i in 0..84 {
+    'rows: for i in 0..85 {
         whole = whole && is_kept(flags, class, i);
     }
     whole
@@ -166,9 +166,9 @@ fn add(text: &mut String, name: Option<&str>) -> Result<(), AllocError>
 
 #[tactic(auto, unfolding(crate::specs::Listed::rows_text))]
 fn put_rows(text: &mut String, flags: &[bool]) -> Result<(), AllocError>
-    ensures { OnOk result (string_bytes text.new ≡ rows_text flags.now 84 (string_bytes text.old)) }
+    ensures { OnOk result (string_bytes text.new ≡ rows_text flags.now 85 (string_bytes text.old)) }
 {
-    'rows: for i in 0..84 {
+    'rows: for i in 0..85 {
         add(text, row_name(flags, i))?;
     }
     Ok(())

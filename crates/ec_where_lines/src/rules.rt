@@ -9,7 +9,7 @@ pub static CONSTRAINTS: [&str; 40] = [
     "one list of qualifiers names at most one address space (Embedded C 5.1.2)",
     "an address space qualifies file-scope objects and what a pointer points to, and no block object, parameter, \
     member, named register or result (Embedded C 5.1.2)",
-    "an object in `__flash` cannot be written: add `const` (C99 6.7.3)",
+    "an object in `__flash` or `__farflash` cannot be written: add `const` (C99 6.7.3)",
     "this name is declared in this scope already, or a parameter of a function definition has no name (C99 6.7, 6.9.1)",
     "this name is declared before with another type, space or linkage, or it is defined twice: write `extern` where \
     it is only declared (C99 6.2.2, 6.7, 6.9)",
@@ -49,8 +49,8 @@ pub static CONSTRAINTS: [&str; 40] = [
     pointer (C99 6.5.16.1)",
     "a pointer is converted without a cast only to a space that encloses its own: cast it where the object is known \
     to lie there (Embedded C 5.1.3)",
-    "the conversion would drop `const` from what is pointed to: what lies in `__flash` is pointed to by `const __flash T *` (C99 \
-    6.5.16.1)",
+    "the conversion would drop `const` from what is pointed to: what lies in `__flash` is pointed to by `const __flash T *`, in \
+    `__farflash` by `const __farflash T *` (C99 6.5.16.1)",
     "a cast is between arithmetic types, between pointers to one type whose spaces nest, or of 0 to a pointer; a fixed address \
     is a port of the map (<iohw.h>), or of an object that `place` of the map puts there (C99 6.5.4, Embedded C 5.1.3)",
     "two pointers meet here and neither space encloses the other (Embedded C 5.1.3)",
@@ -70,24 +70,26 @@ pub static CONSTRAINTS: [&str; 40] = [
 /// What each rule of a map asks, by its number. The first row is rule 1.
 pub static MAP_RULES: [&str; 18] = [
     "a map has the keys `core` and `region`, and may have `port`, `group` and `place`, and no other",
-    "`core` is the string \"small\"",
-    "`region` is a table with exactly the keys `code`, `tables`, `data` and `stack`",
+    "`core` is the string \"small\" or \"large\"",
+    "`region` is a table with the keys `code`, `tables`, `data` and `stack`, and no other but `far` on the core large",
     "each region is an array of two integers: the first address from 0, and the size from 1, each at most 131072",
-    "`code` and `tables` end by 32768; `data` and `stack` begin at 256 or later and end by 2304",
+    "on the core small `code` and `tables` end by 32768, and `data` and `stack` by 2304; on the core large `code` ends by 131072, \
+    `far` by 131071, `tables` by 65535, and `data` and `stack` by 16640; `data` and `stack` begin at 256 or later",
     "`code` begins at 0, and its size is even",
-    "`code` and `tables` share no byte, and neither do `data` and `stack`",
+    "no two of `code`, `tables` and `far` share a byte, and neither do `data` and `stack`",
     "`port` is an array of at most 64 tables with `name`, `address` and `width`, and no other keys but `count` and \
     `group`",
     "the name of each port is an identifier, and no two ports have one name",
     "a width is 1, 2 or 4, and a count is from 1 to 220",
-    "an address is an integer, and all bytes of the port are ports: 0x20 to 0xFF but for 0x5D, 0x5E and 0x5F",
+    "an address is an integer, and all bytes of the port are ports: 0x20 to 0xFF but for 0x5D, 0x5E and 0x5F, and on the core large \
+    0x5B",
     "`group` is an array of at most 16 tables with exactly `name`, `acquire` and `release`",
     "the name of each group is an identifier, and no two groups have one name",
     "`acquire` and `release` are arrays of at most 32 arrays of two integers",
     "each pair is the address of a port and a byte from 0 to 255",
     "the `group` of a port is a string that names a group of the map",
     "`place` is a table",
-    "a place is an integer from 1 to 65535",
+    "a place is an integer from 1 to 65535, and on the core large to 131071",
 ];
 
 /// What each rule of a line of a script asks, by its number. The first row is rule 1.
@@ -207,7 +209,7 @@ pub static RECORDS: [(&str, &str); 4] = [
     ),
     (
         "out of flash",
-        "a byte of this record lies past the 32768 bytes of flash",
+        "a byte of this record lies past the flash, which has 32768 bytes on the core small and 131072 on the core large",
     ),
     (
         "twice",

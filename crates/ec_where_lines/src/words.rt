@@ -103,7 +103,7 @@ pub static DIRECTIVE: &str =
 pub static UNCLOSED: &str = "this comment or character constant has no end (C99 6.4.4.4, 6.4.9)";
 
 /// What is told of each reserved word of C that the language leaves out.
-pub static RESERVED: [(&str, &str); 17] = [
+pub static RESERVED: [(&str, &str); 16] = [
     (
         "switch",
         "there is no `switch`: write `if (..) .. else if (..) .. else ..`",
@@ -162,10 +162,6 @@ pub static RESERVED: [(&str, &str); 17] = [
     (
         "_Imaginary",
         "there is no `_Imaginary`: write a struct of two numbers",
-    ),
-    (
-        "__farflash",
-        "there is no `__farflash`: write `__flash`, which reaches all constants of the map",
     ),
 ];
 

@@ -13,7 +13,7 @@ places-preserved c =
     let one = rw c.as_str.ensures.value at c.in_ok-place_from.ensures in (
       done ++ e ∷ [],
       all,
-      placed_more c.places.made.items c.push.new.self.items c.in_ok-place_from.field-0 done e told one c.in_ok-push.ensures.ok,
+      placed_more c.args.core c.places.made.items c.push.new.self.items c.in_ok-place_from.field-0 done e told one c.in_ok-push.ensures.ok,
     )
 
 pub returns-clause-ascending : goal.returns-clause-ascending
@@ -21,4 +21,4 @@ returns-clause-ascending c =
     let (done, whole, told) = c.places.invariant in
     let none : c.places.name-iterator ≡ [] = grind (arith, common_steps) in
     let all : c.args.table.now.entries ≡ done = whole ∙ rw none (append-nil done) in
-    rw (names_told c.places.made.items done told, ← all) (ascending (keys_of c.args.table.now.entries) c.iter-name-items.ensures.ordered)
+    rw (names_told c.args.core c.places.made.items done told, ← all) (ascending (keys_of c.args.table.now.entries) c.iter-name-items.ensures.ordered)

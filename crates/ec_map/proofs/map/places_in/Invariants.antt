@@ -9,4 +9,4 @@ use Rattle.ec_map.proofs.map.places_in.Given as goal
 abbrev pub invariant-places : goal.invariant-places
 invariant-places l =
     (done : List Entry) × (l.table.entries ≡ done ++ l.name-iterator)
-    × (map place_view l.made.items ≡ map place_of (entries_of (members_view done)))
+    × (map place_view l.made.items ≡ map (place_of l.core) (entries_of (members_view done)))

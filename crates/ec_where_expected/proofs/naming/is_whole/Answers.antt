@@ -4,5 +4,5 @@ use Rattle.ec_where_expected.proofs.naming.is_whole.Goals as goal
 
 pub returns : goal.returns
 returns c =
-    let last : c.rows.i ≡ 84 = omega arith in
+    let last : c.rows.i ≡ 85 = omega arith in
     c.rows.invariant ∙ ap (whole_to c.args.flags.now c.args.class) last

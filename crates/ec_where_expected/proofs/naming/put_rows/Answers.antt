@@ -5,5 +5,5 @@ use Rattle.ec_where_expected.proofs.naming.put_rows.Goals as goal
 
 pub returns : goal.returns
 returns c =
-    let last : c.rows.i ≡ 84 = omega arith in
+    let last : c.rows.i ≡ 85 = omega arith in
     c.rows.invariant ∙ ap (λ n. rows_text c.args.flags.now n (string_bytes c.args.text.now)) last
