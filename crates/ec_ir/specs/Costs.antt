@@ -20,6 +20,10 @@ use Rattle.ec_ir.specs.declared.operations.Temp.{Temp}
 abbrev pub copy_words : ℕ → ℕ
 copy_words bytes = 5 * bytes
 
+-- so many bytes brought from a known place, which may lie in flash past the first 65,536 bytes
+abbrev pub load_words : ℕ → ℕ
+load_words bytes = 2 + copy_words bytes
+
 -- an address in a work register, and so many bytes stored there
 abbrev pub store_words : ℕ → ℕ
 store_words bytes = 30 + 5 * bytes
@@ -69,7 +73,7 @@ op_words (address t o offset) = copy_words t.bytes
 op_words (field ptr space offset) = member_words
 op_words (load_at to ptr space) = simple_words (max to.bytes (width space))
 op_words (store_at ptr space from) = store_words (max from.bytes (width space))
-op_words (load_object t o offset) = copy_words t.bytes
+op_words (load_object t o offset) = load_words t.bytes
 op_words (store_object o offset t) = copy_words t.bytes
 op_words (binary_op op ty mode to a aty b bty) = binary_words op ty aty bty
 op_words (unary_op op ty mode to a) = unary_words ty

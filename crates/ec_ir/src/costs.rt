@@ -119,9 +119,9 @@ pub fn op_words(i: &Ir) -> u32
     ensures bound { result ≤ 2_700_000 }
 {
     match i {
-        Ir::Const(t, _) | Ir::Addr(t, _, _) | Ir::LoadObj(t, _, _) | Ir::StoreObj(_, _, t) => 5
-            * t.bytes as u32,
+        Ir::Const(t, _) | Ir::Addr(t, _, _) | Ir::StoreObj(_, _, t) => 5 * t.bytes as u32,
         Ir::Copy(to, _) => 5 * to.bytes as u32,
+        Ir::LoadObj(t, _, _) => 2 + 5 * t.bytes as u32,
         Ir::Field { .. } => 30,
         Ir::Load { to, space, .. } => simple_words(to.bytes.max(width(*space))),
         Ir::Store { from, space, .. } => 30 + 5 * from.bytes.max(width(*space)) as u32,

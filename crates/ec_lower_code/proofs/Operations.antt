@@ -331,17 +331,17 @@ one_or_two (suc (suc b)) h = inr (omega arith)
 
 -- the row pays for two integers, with both copies of the place
 integers_paid : (b w c : ℕ) → 1 ≤ b → c ≤ b → ((m : ℕ) → 2 ≤ m → b ≤ m → w ≤ 30 * m + (150 + 40 * m + 40 * (m * m)))
-    → w + 10 * c ≤ update_words b
+    → w + (2 + 10 * c) ≤ update_words b
 integers_paid b w c some le f = by_size (one_or_two b some)
   where
-    by_size : (b ≡ 1) ⊎ (2 ≤ b) → w + 10 * c ≤ update_words b
+    by_size : (b ≡ 1) ⊎ (2 ≤ b) → w + (2 + 10 * c) ≤ update_words b
     by_size (inl e) = let x = f 2 (omega arith) (omega (arith, e)) in let q : b * b ≡ 1 = ap (λ (z : ℕ). z * z) e in
         omega (arith, x, e, q, le)
     by_size (inr h) = let x = f b h (omega arith) in omega (arith, x, h, le)
 
 module _ (op : BinOp) where
   usual_pays : (x y : Arithmetic) → words_of op (record { left = converted_beside x y; right = converted_beside y x; result = common x y })
-      (type_of x) (type_of y) + 10 * size x ≤ update_words (most_of x y)
+      (type_of x) (type_of y) + (2 + 10 * size x) ≤ update_words (most_of x y)
   usual_pays (Integer s) (Integer t) =
       integers_paid (most_of (Integer s) (Integer t)) _ s.bytes (omega arith) (omega arith)
       (λ m two h. integer_words op s t (common_integer s t) (common_integer t s) (common_integer s t) m two (omega (arith, h))
@@ -364,7 +364,7 @@ module _ (op : BinOp) where
       let q = square b (omega arith) in omega (arith, x, q)
 
   product_pays : (x y : Arithmetic) → words_of op (record { left = factor_beside x y; right = factor_beside y x; result = common x y })
-      (type_of x) (type_of y) + 10 * size x ≤ update_words (most_of x y)
+      (type_of x) (type_of y) + (2 + 10 * size x) ≤ update_words (most_of x y)
   product_pays (Integer s) (Integer t) =
       integers_paid (most_of (Integer s) (Integer t)) _ s.bytes (omega arith) (omega arith) (λ m two h. integer_words op s t s t
       (common_integer s t) m two (omega (arith, h)) (omega (arith, h)) (omega (arith, h)) (omega (arith, h))
@@ -374,7 +374,7 @@ module _ (op : BinOp) where
   product_pays (Fixed s) (Fixed t) = usual_pays (Fixed s) (Fixed t)
 
   shift_pays : (x y : Arithmetic) → IsIntegerKind y → words_of op (record { left = promoted_type x; right = y; result = promoted_type x })
-      (type_of x) (type_of y) + 10 * size x ≤ update_words (most_of x y)
+      (type_of x) (type_of y) + (2 + 10 * size x) ≤ update_words (most_of x y)
   shift_pays (Integer s) (Integer t) i =
       integers_paid (most_of (Integer s) (Integer t)) _ s.bytes (omega arith) (omega arith) (λ m two h. integer_words op s t (promoted s) t
       (promoted s) m two (omega (arith, h)) (omega (arith, h)) (promoted_size s m two (omega (arith, h))) (omega (arith, h))
@@ -387,7 +387,7 @@ module _ (op : BinOp) where
 
 -- the row of a compound assignment pays for it
 pub update_pays : (op : BinOp) (x y : Arithmetic) → HaveCompoundArithmetic op x y → words_of op (update_types op x y) (type_of x)
-    (type_of y) + 10 * size x ≤ update_words (most_of x y)
+    (type_of y) + (2 + 10 * size x) ≤ update_words (most_of x y)
 update_pays Add x y h = usual_pays Add x y
 update_pays Sub x y h = usual_pays Sub x y
 update_pays Mul x y h = product_pays Mul x y
@@ -418,7 +418,7 @@ step_words op x = words_of op (record {
 }) (type_of x) int + conversion_words (type_of x) (type_of (converted_beside x (Integer int_type)))
 
 -- the row of a step pays for it, with both copies of the place and the constant
-added_pays : (op : BinOp) (x : Arithmetic) → step_words op x + 10 * size x + 10 ≤ update_words (max (size x) 1)
+added_pays : (op : BinOp) (x : Arithmetic) → step_words op x + (2 + 10 * size x) + 10 ≤ update_words (max (size x) 1)
 added_pays op (Integer s) = by_size (one_or_two (max s.bytes 1) (omega arith))
   where
     words : (m : ℕ) → 2 ≤ m → s.bytes ≤ m → step_words op (Integer s) ≤ 40 * m + (150 + 40 * m + 40 * (m * m))
@@ -431,7 +431,7 @@ added_pays op (Integer s) = by_size (one_or_two (max s.bytes 1) (omega arith))
         (omega (arith, two)) h c in
         omega (arith, a, b)
 
-    by_size : (max s.bytes 1 ≡ 1) ⊎ (2 ≤ max s.bytes 1) → step_words op (Integer s) + 10 * s.bytes + 10 ≤ update_words (max s.bytes 1)
+    by_size : (max s.bytes 1 ≡ 1) ⊎ (2 ≤ max s.bytes 1) → step_words op (Integer s) + (2 + 10 * s.bytes) + 10 ≤ update_words (max s.bytes 1)
     by_size (inl e) = let x = words 2 (omega arith) (omega (arith, e)) in let q : max s.bytes 1 * max s.bytes 1 ≡ 1 =
         ap (λ (z : ℕ). z * z) e in omega (arith, x, e, q)
     by_size (inr h) = let x = words (max s.bytes 1) h (omega arith) in omega (arith, x, h)
@@ -445,8 +445,8 @@ added_pays op (Fixed s) = by_size (one_or_two (max (size (Fixed s)) 1) (omega ar
         let d = binary_within op (type_of (Fixed s)) (type_of (Fixed s)) int m (omega (arith, two)) h h two in
         omega (arith, a, c, d)
 
-    by_size : (max (size (Fixed s)) 1 ≡ 1) ⊎ (2 ≤ max (size (Fixed s)) 1) → step_words op (Fixed s) + 10 * size
-        (Fixed s) + 10 ≤ update_words (max (size (Fixed s)) 1)
+    by_size : (max (size (Fixed s)) 1 ≡ 1) ⊎ (2 ≤ max (size (Fixed s)) 1) → step_words op (Fixed s) + (2 + 10 * size
+        (Fixed s)) + 10 ≤ update_words (max (size (Fixed s)) 1)
     by_size (inl e) = let x = words 2 (omega arith) (omega (arith, e)) in let q : max (size (Fixed s)) 1 * max (size (Fixed s)) 1 ≡ 1 =
         ap (λ (z : ℕ). z * z) e in omega (arith, x, e, q)
     by_size (inr h) = let x = words (max (size (Fixed s)) 1) h (omega arith) in omega (arith, x, h)
@@ -455,7 +455,7 @@ abbrev pub step_cost : Bool → Arithmetic → ℕ
 step_cost up x = words_of (step_operator up) (update_types (step_operator up) x (Integer int_type)) (type_of x) int + conversion_words
     (type_of x) (type_of (update_types (step_operator up) x (Integer int_type)).left)
 
-pub step_pays : (up : Bool) (x : Arithmetic) → step_cost up x + 10 * size x + 10 ≤ update_words (max (size x) 1)
+pub step_pays : (up : Bool) (x : Arithmetic) → step_cost up x + (2 + 10 * size x) + 10 ≤ update_words (max (size x) 1)
 step_pays true x = added_pays Add x
 step_pays false x = added_pays Sub x
 
@@ -564,23 +564,23 @@ moving_words op ty right m two h k =
 -- ---- rows in types as they stand
 
 pub update_row : (op : BinOp) (ty right : PlainType) → IsNumeric ty → IsNumeric right → HaveCompoundArithmetic op (number_type ty)
-    (number_type right) → words_of op (update_types op (number_type ty) (number_type right)) ty right + 10 * scalar_size ty ≤ update_words
+    (number_type right) → words_of op (update_types op (number_type ty) (number_type right)) ty right + (2 + 10 * scalar_size ty) ≤ update_words
     (max (scalar_size ty) (max (scalar_size right) 1))
 update_row op ty right p q h =
-    subst (λ (z : PlainType). words_of op (update_types op (number_type ty) (number_type right)) z right + 10 * scalar_size z ≤ update_words
+    subst (λ (z : PlainType). words_of op (update_types op (number_type ty) (number_type right)) z right + (2 + 10 * scalar_size z) ≤ update_words
     (max (scalar_size z) (max (scalar_size right) 1))) (type_back ty p)
     (subst (λ (z : PlainType). words_of op (update_types op (number_type ty) (number_type right)) (type_of (number_type ty))
-    z + 10 * scalar_size (type_of (number_type ty)) ≤ update_words (max (scalar_size (type_of (number_type ty))) (max (scalar_size z) 1)))
+    z + (2 + 10 * scalar_size (type_of (number_type ty))) ≤ update_words (max (scalar_size (type_of (number_type ty))) (max (scalar_size z) 1)))
     (type_back right q)
     (update_pays op (number_type ty) (number_type right) h))
 
 pub step_row : (up : Bool) (ty : PlainType) → IsNumeric ty → words_of (step_operator up) (update_types (step_operator up) (number_type ty)
-    (number_type int)) ty int + conversion_words ty (type_of (update_types (step_operator up) (number_type ty) (number_type int)).left) + 10
-    * scalar_size ty + 10 ≤ update_words (max (scalar_size ty) 1)
+    (number_type int)) ty int + conversion_words ty (type_of (update_types (step_operator up) (number_type ty) (number_type int)).left) + (2 + 10
+    * scalar_size ty) + 10 ≤ update_words (max (scalar_size ty) 1)
 step_row up ty p =
     subst (λ (z : PlainType). words_of (step_operator up) (update_types (step_operator up) (number_type ty) (number_type int)) z
-    int + conversion_words z (type_of (update_types (step_operator up) (number_type ty) (number_type int)).left) + 10 * scalar_size
-    z + 10 ≤ update_words (max (scalar_size z) 1)) (type_back ty p)
+    int + conversion_words z (type_of (update_types (step_operator up) (number_type ty) (number_type int)).left) + (2 + 10 * scalar_size
+    z) + 10 ≤ update_words (max (scalar_size z) 1)) (type_back ty p)
     (step_pays up (number_type ty))
 
 pub update_more : (op : BinOp) (ty right : PlainType) (m : ℕ) → IsNumeric ty → IsNumeric right → HaveCompoundArithmetic op (number_type ty)

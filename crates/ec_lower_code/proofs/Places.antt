@@ -57,7 +57,7 @@ module _ (program : PlainProgram) where
   pub load_paid : (p : PlainPlace) (t v : ℕ) (ty : PlainType) → Root p t
       → op_words (load_from (temp v ty) (site program p t)) ≤ simple_words (widest (ty ∷ pointer_types p []))
   load_paid p t v ty (in_object o offset e f g) =
-      let x : op_words (load_from (temp v ty) (site program p t)) ≡ 5 * scalar_size ty = ap (λ z. op_words (load_from (temp v ty) z)) e in
+      let x : op_words (load_from (temp v ty) (site program p t)) ≡ 2 + 5 * scalar_size ty = ap (λ z. op_words (load_from (temp v ty) z)) e in
       let y : widest (ty ∷ pointer_types p []) ≡ max (scalar_size ty) 1 = ap (λ z. widest (ty ∷ z)) (f []) in omega (arith, x, y)
   load_paid p t v ty (at_pointer space const to e f g) =
       let x : op_words (load_from (temp v ty) (site program p t)) ≡ 30 + 10 * max (scalar_size ty) (width space) =
@@ -92,7 +92,7 @@ module _ (program : PlainProgram) where
   place_words s v u ty = op_words (load_from (temp v ty) s) + op_words (store_to s (temp u ty)) + settle_words s ty
 
   in_object_words : (p : PlainPlace) (t v u : ℕ) (ty : PlainType) (o offset : ℕ) → site program p t ≡ named o offset
-      → place_words (site program p t) v u ty ≡ 5 * scalar_size ty + 5 * scalar_size ty + 0
+      → place_words (site program p t) v u ty ≡ 2 + 5 * scalar_size ty + 5 * scalar_size ty + 0
   in_object_words p t v u ty o offset e = ap (λ z. place_words z v u ty) e
 
   at_pointer_words : (p : PlainPlace) (t v u : ℕ) (ty to : PlainType) (const : Bool) (space : SpaceId) → site program p t ≡ pointed

@@ -41,7 +41,7 @@ double : (m : ℕ) → 2 ≤ m → 2 * m ≤ m * m
 double m h = let x : m * 2 ≤ m * m = mul-le-mul_left m h in omega (arith, x)
 
 by_whole : (b other : ℕ) (ks : List Shape) (own once each : ℕ) → 1 ≤ b → Bound ks own once each
-    → (b ≡ 1 → (10 + other + own ≤ 540) × (once ≤ 560) × (10 + other + each ≤ 160))
+    → (b ≡ 1 → (12 + other + own ≤ 540) × (once ≤ 560) × (12 + other + each ≤ 160))
     → (2 ≤ b → (15 + 14 * b + other + own ≤ update_words b) × (once ≤ update_words b + 20) × (15 + 14 * b + other + each ≤ 120 + 40 * b))
     → Within b other ks
 by_whole b other ks own once each some f x g u = by_size (one_or_two b some)
@@ -74,7 +74,7 @@ small program (struct k) h = absurd h
 -- sums for m bytes, the greater of b and 2
 by_bytes : (b other : ℕ) (ks : List Shape) (own once each : ℕ → ℕ) → 1 ≤ b
     → ((m : ℕ) → 2 ≤ m → b ≤ m → Bound ks (own m) (once m) (each m))
-    → (10 + other + own 2 ≤ 540) → (once 2 ≤ 560) → (10 + other + each 2 ≤ 160)
+    → (12 + other + own 2 ≤ 540) → (once 2 ≤ 560) → (12 + other + each 2 ≤ 160)
     → (2 ≤ b → (15 + 14 * b + other + own b ≤ update_words b) × (once b ≤ update_words b + 20) × (15 + 14 * b + other + each b ≤ 120 + 40 * b))
     → Within b other ks
 by_bytes b other ks own once each some f x y z g u = by_size (one_or_two b some)

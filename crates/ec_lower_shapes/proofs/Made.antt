@@ -54,7 +54,7 @@ made s = form_made s.form s
 
 -- a load, a store and a copy, in an object or where a pointer of at most so many bytes leads to
 abbrev pub place_words : ℕ → ℕ
-place_words b = if nat_le b 1 then 10 * b else 15 + 14 * b
+place_words b = if nat_le b 1 then 10 * b + 2 else 15 + 14 * b
 
 abbrev pub form_own : Form → ℕ → ℕ
 form_own (compound_form op own) b = place_words b
@@ -67,11 +67,11 @@ own s = form_own s.form s.bytes
 abbrev pub Pays : Shape → Type 0
 Pays s = IsPaid made own op_row shape_row s
 
-pub one_place : (b : ℕ) → b ≡ 1 → place_words b ≡ 10
+pub one_place : (b : ℕ) → b ≡ 1 → place_words b ≡ 12
 one_place b e = ap place_words e
 
 pub more_place : (b : ℕ) → 2 ≤ b → place_words b ≡ 15 + 14 * b
-more_place b h = ap (λ c. if c then 10 * b else 15 + 14 * b) (lt-leb b 1 (omega (arith, h)))
+more_place b h = ap (λ c. if c then 10 * b + 2 else 15 + 14 * b) (lt-leb b 1 (omega (arith, h)))
 
 -- ---- one operation for each
 

@@ -40,7 +40,7 @@ module _ (program : PlainProgram) where
   pub load_fits : (p : PlainPlace) (t v : ℕ) (ty : PlainType) → Root p t
       → own_words (load_from (temp v ty) (site program p t)) ≤ simple_words (widest (ty ∷ pointer_types p []))
   load_fits p t v ty (in_object o offset e f) =
-      let x : own_words (load_from (temp v ty) (site program p t)) ≡ 5 * scalar_size ty = ap (λ z. own_words (load_from (temp v ty) z)) e in
+      let x : own_words (load_from (temp v ty) (site program p t)) ≡ 2 + 5 * scalar_size ty = ap (λ z. own_words (load_from (temp v ty) z)) e in
       let y : widest (ty ∷ pointer_types p []) ≡ max (scalar_size ty) 1 = ap (λ z. widest (ty ∷ z)) (f []) in omega (arith, x, y)
   load_fits p t v ty (at_pointer space const to e f) =
       let x : own_words (load_from (temp v ty) (site program p t)) ≡ 10 + 6 * max (scalar_size ty) (width space) =
@@ -81,17 +81,17 @@ module _ (program : PlainProgram) where
     pub near : IsNear b ty right
     pub words : place_code_words (site program p t) v u ty ≤ place_words b
 
-  place_most : (b s : ℕ) → s ≤ b → 10 * s ≤ place_words b
+  place_most : (b s : ℕ) → s ≤ b → 2 + 10 * s ≤ place_words b
   place_most b s h = by_test (nat_le b 1)
     where
-      by_test : (c : Bool) → 10 * s ≤ (if c then 10 * b else 15 + 14 * b)
+      by_test : (c : Bool) → 2 + 10 * s ≤ (if c then 10 * b + 2 else 15 + 14 * b)
       by_test true = omega (arith, h)
       by_test false = omega (arith, h)
 
   pub compound_update : (p : PlainPlace) (t v u : ℕ) (ty right : PlainType) → IsScalar ty → Root p t
       → IsUpdate p t v u ty right (widest (ty ∷ pointer_types p (right ∷ [])))
   compound_update p t v u ty right i (in_object o offset e f) =
-      let x : place_code_words (site program p t) v u ty ≡ 5 * scalar_size ty + 5 * scalar_size ty + 0 =
+      let x : place_code_words (site program p t) v u ty ≡ 2 + 5 * scalar_size ty + 5 * scalar_size ty + 0 =
       ap (λ z. place_code_words z v u ty) e in
       let y : widest (ty ∷ pointer_types p (right ∷ [])) ≡ max (scalar_size ty) (max (scalar_size right) 1) =
       ap (λ z. widest (ty ∷ z)) (f (right ∷ [])) in
@@ -115,7 +115,7 @@ module _ (program : PlainProgram) where
   pub step_update : (p : PlainPlace) (t v u : ℕ) (ty : PlainType) → IsScalar ty → Root p t
       → IsUpdate p t v u ty ty (widest (ty ∷ pointer_types p []))
   step_update p t v u ty i (in_object o offset e f) =
-      let x : place_code_words (site program p t) v u ty ≡ 5 * scalar_size ty + 5 * scalar_size ty + 0 =
+      let x : place_code_words (site program p t) v u ty ≡ 2 + 5 * scalar_size ty + 5 * scalar_size ty + 0 =
       ap (λ z. place_code_words z v u ty) e in
       let y : widest (ty ∷ pointer_types p []) ≡ max (scalar_size ty) 1 = ap (λ z. widest (ty ∷ z)) (f []) in
       let z = place_most (widest (ty ∷ pointer_types p [])) (scalar_size ty) (omega (arith, y)) in
