@@ -5,6 +5,7 @@ use Rattle.std.specs.Prelude.{Option, Some, None, option_map, slice_get, get_or}
 use Rattle.std.proofs.lemmas.Option.{slice_get-map, slice_get_read}
 use Rattle.std.proofs.lemmas.Bool.{eqb-true}
 use Rattle.std.proofs.lemmas.Bool.Decides.{nat_tests}
+use Rattle.ec_space.specs.declared.Core.{Core}
 use Rattle.ec_asm.specs.declared.items.AsmItem.{AsmItem}
 use Rattle.ec_asm.specs.declared.items.AsmItem.TheVariants.{Label}
 use Rattle.ec_asm.specs.declared.items.AsmProgram.{AsmProgram}
@@ -88,15 +89,15 @@ no_tables p ts = record { live = λ f g l. absurd (omega arith); least = λ f g 
 -- ---- functions
 
 -- a function behind those before it
-pub one_more_function : (p : PlainIrProgram) (routines : PlainIr → Option ℕ) (tables : ℕ → ℕ → Need) (f : ℕ) (g : PlainIrFunction)
-    (start old new : List AsmItem) → slice_get p.functions f ≡ Some g → old ≡ start ++ functions_with p routines tables f
-    → new ≡ old ++ code_of p routines (tables f) f (Some g) → new ≡ start ++ functions_with p routines tables (f + 1)
-one_more_function p routines tables f g start old new e w more =
-    let code = code_of p routines (tables f) f (Some g) in
-    let all : functions_with p routines tables (suc f) ≡ functions_with p routines tables f ++ code = rw e refl in
+pub one_more_function : (core : Core) (p : PlainIrProgram) (routines : PlainIr → Option ℕ) (tables : ℕ → ℕ → Need) (f : ℕ) (g : PlainIrFunction)
+    (start old new : List AsmItem) → slice_get p.functions f ≡ Some g → old ≡ start ++ functions_with core p routines tables f
+    → new ≡ old ++ code_of core p routines (tables f) f (Some g) → new ≡ start ++ functions_with core p routines tables (f + 1)
+one_more_function core p routines tables f g start old new e w more =
+    let code = code_of core p routines (tables f) f (Some g) in
+    let all : functions_with core p routines tables (suc f) ≡ functions_with core p routines tables f ++ code = rw e refl in
     let next : suc f ≡ f + 1 = omega arith in
-    more ∙ ap (λ (x : List AsmItem). x ++ code) w ∙ append_assoc start (functions_with p routines tables f) code
-    ∙ ap (λ (x : List AsmItem). start ++ x) (sym all) ∙ ap (λ (n : ℕ). start ++ functions_with p routines tables n) next
+    more ∙ ap (λ (x : List AsmItem). x ++ code) w ∙ append_assoc start (functions_with core p routines tables f) code
+    ∙ ap (λ (x : List AsmItem). start ++ x) (sym all) ∙ ap (λ (n : ℕ). start ++ functions_with core p routines tables n) next
 
 -- the labels of the function behind one
 pub next_first : (fs : List PlainIrFunction) (f : ℕ) (g : PlainIrFunction) → slice_get fs f ≡ Some g
@@ -136,9 +137,10 @@ numbers_length all [] = refl
 numbers_length all (i ∷ code) = ap suc (numbers_length all code)
 
 -- the code of a function as it was written is its code in the program
-pub added : (p : PlainIrProgram) (routines : PlainIr → Option ℕ) (f first : ℕ) (g : PlainIrFunction) (k : Linking) (labels : ℕ → Need)
+pub added : (core : Core) (p : PlainIrProgram) (routines : PlainIr → Option ℕ) (f first : ℕ) (g : PlainIrFunction) (k : Linking) (labels : ℕ → Need)
     → NeededFunctionsAreWritten → first ≡ first_label p.functions f
     → k ≡ record {
+      core = core;
       first_label = first;
       first_entry = 1;
       homes = homes_of f g.code;
@@ -148,12 +150,12 @@ pub added : (p : PlainIrProgram) (routines : PlainIr → Option ℕ) (f first : 
     → let at = facts_of labels g.code in
     written_function (data_of p) (linkage k) f (wanted_bytes at g.code) (kept_rows g.slots at g.code) (right_numbers g.code)
     (map routines g.code) g.code
-    ≡ code_of p routines labels f (Some g)
-added p routines f first g k labels written e q =
+    ≡ code_of core p routines labels f (Some g)
+added core p routines f first g k labels written e q =
     let at = facts_of labels g.code in
     let w = written (data_of p) (linkage k) routines f labels g.code in
     let slots : k.slots ≡ g.slots = ap (λ (x : Linking). x.slots) q in
-    let link : routed (linkage k) routines ≡ linkage_of p function_label f g.slots (made_with p routines labels f g) =
+    let link : routed (linkage k) routines ≡ linkage_of core p function_label f g.slots (made_with p routines labels f g) =
     ap (λ (x : Linking). routed (linkage x) routines) q ∙ rw e refl in
     subst (λ (s : ℕ). written_function (data_of p) (linkage k) f (wanted_bytes at g.code) (kept_rows s at g.code)
     (right_numbers g.code) (map routines g.code) g.code ≡ function_code (data_of p) (routed (linkage k) routines) f labels g.code) slots w
@@ -162,33 +164,33 @@ added p routines f first g k labels written e q =
 -- ---- the whole program
 
 -- functions and routines, as they were written
-pub written : (p : PlainIrProgram) (ts : List (List (List ℕ))) (us : List Use) (rows : List Row) (first : ℕ)
+pub written : (core : Core) (p : PlainIrProgram) (ts : List (List (List ℕ))) (us : List Use) (rows : List Row) (first : ℕ)
     (start middle items : List AsmItem) → AreTables p (tables_in ts) (length p.functions)
-    → us ≡ program_uses p (tables_in ts) → rows ≡ rows_of us → first ≡ routines_begin p
-    → middle ≡ start ++ functions_with p (routine_among first rows) (tables_in ts) (length p.functions)
-    → items ≡ middle ++ routines_among first rows → AreWritten p start items
-written p ts us rows first start middle items are_tables uses e begins functions routines = record {
+    → us ≡ program_uses core p (tables_in ts) → rows ≡ rows_of us → first ≡ routines_begin p
+    → middle ≡ start ++ functions_with core p (routine_among first rows) (tables_in ts) (length p.functions)
+    → items ≡ middle ++ routines_among first rows → AreWritten core p start items
+written core p ts us rows first start middle items are_tables uses e begins functions routines = record {
   tables = tables_in ts;
   are_tables = are_tables;
   items_are =
-      let here : rows ≡ rows_of (program_uses p (tables_in ts)) = e ∙ ap rows_of uses in
+      let here : rows ≡ rows_of (program_uses core p (tables_in ts)) = e ∙ ap rows_of uses in
       let both : first ≡ routines_begin p = begins in
       routines ∙ ap (λ (x : List AsmItem). x ++ routines_among first rows) functions
-      ∙ append_assoc start (functions_with p (routine_among first rows) (tables_in ts) (length p.functions)) (routines_among first rows)
-      ∙ (λ j. start ++ (functions_with p (routine_among (both j) (here j)) (tables_in ts) (length p.functions)
+      ∙ append_assoc start (functions_with core p (routine_among first rows) (tables_in ts) (length p.functions)) (routines_among first rows)
+      ∙ (λ j. start ++ (functions_with core p (routine_among (both j) (here j)) (tables_in ts) (length p.functions)
       ++ routines_among (both j) (here j)));
 }
 
-pub selected : (p : PlainIrProgram) (asm : AsmProgram) (start items : List AsmItem)
+pub selected : (core : Core) (p : PlainIrProgram) (asm : AsmProgram) (start items : List AsmItem)
     → start ≡ Label entry_label ∷ startup_code (spans_of p) (function_label p.main)
-    → AreWritten p start items → asm.items.items ≡ items
-    → asm.frames.items ≡ map (λ g. g.slots) p.functions → asm.entry ≡ entry_label → IsSelection p asm
-selected p asm start items begins w own frames entry = record {
+    → AreWritten core p start items → asm.items.items ≡ items
+    → asm.frames.items ≡ map (λ g. g.slots) p.functions → asm.entry ≡ entry_label → IsSelection core p asm
+selected core p asm start items begins w own frames entry = record {
   tables = w.tables;
   are_tables = w.are_tables;
   items =
       own ∙ w.items_are
-      ∙ ap (λ (x : List AsmItem). x ++ (functions_code p w.tables (length p.functions) ++ routines_code p w.tables)) begins;
+      ∙ ap (λ (x : List AsmItem). x ++ (functions_code core p w.tables (length p.functions) ++ routines_code core p w.tables)) begins;
   frames = frames;
   entry = entry;
 }

@@ -6,6 +6,7 @@ use Rattle.std.proofs.lemmas.Bool.{false≢true}
 use Rattle.ec_asm.specs.declared.items.AsmItem.{AsmItem}
 use Rattle.ec_asm.specs.declared.pieces.Location.{Location}
 use Rattle.ec_asm.specs.Items.{code_words}
+use Rattle.ec_space.specs.declared.Core.{Core}
 use Rattle.ec_core.specs.declared.expressions.BinOp.{BinOp}
 use Rattle.ec_core.specs.declared.expressions.BinOp.TheVariants.{Add, Sub, Mul, Div, Rem, And, Or, Xor, Lt, Gt, Le, Ge}
 use Rattle.ec_core.specs.declared.expressions.BinOp.TheVariants.{Eq, Ne, Shl, Shr}
@@ -205,54 +206,58 @@ integer_alike slots to a b ty aty bty known telling left right p q r n op mode s
 other_code : (x : Bool) (a b c : List AsmItem) → x ≡ false → code_words (if x then a else c) ≤ code_words (if x then b else c)
 other_code x a b c e = rw e (omega arith)
 
-none_kind : (x y : Bool) (a b c d e : List AsmItem) → x ≡ false → y ≡ false → code_words c ≤ code_words e
-    → code_words (by_kind x a (by_kind y b c)) ≤ code_words (by_kind x d (by_kind y b e))
-none_kind x y a b c d e f g h = rw (f, g) h
+none_kind : (x y : Bool) (a b c d g e : List AsmItem) → x ≡ false → y ≡ false → code_words c ≤ code_words e
+    → code_words (by_kind x a (by_kind y b c)) ≤ code_words (by_kind x d (by_kind y g e))
+none_kind x y a b c d g e n m h = rw (n, m) h
 
 first_kind : (x : Bool) (a b c d : List AsmItem) → x ≡ true → code_words a ≤ code_words c
     → code_words (by_kind x a b) ≤ code_words (by_kind x c d)
 first_kind x a b c d e h = rw e h
 
-second_kind : (x y : Bool) (a b c d e : List AsmItem) → x ≡ false → y ≡ true
-    → code_words (by_kind x a (by_kind y b c)) ≤ code_words (by_kind x d (by_kind y b e))
-second_kind x y a b c d e f g = rw (f, g) (omega arith)
+second_kind : (x y : Bool) (a b c d g e : List AsmItem) → x ≡ false → y ≡ true → code_words b ≤ code_words g
+    → code_words (by_kind x a (by_kind y b c)) ≤ code_words (by_kind x d (by_kind y g e))
+second_kind x y a b c d g e n m h = rw (n, m) h
 
+-- for one core
 pub alike : (p : PlainProgram) (results : ℕ → ℕ) (f : ℕ) (called : List ℕ) (slots : ℕ) (at : Temp → Location) (k l : Linkage)
     (told telling : Option Told) (known : Option RightNumber) (n : ℕ) (kept others : Need) (i : PlainIr) (s : Shape)
-    → IsCovered p results f called slots i → HasOperandTypes i → op_shapes i ≡ s ∷ []
+    → k.core ≡ l.core → IsCovered p results f called slots i → HasOperandTypes i → op_shapes i ≡ s ∷ []
     → code_words (operation_code p at k told telling known n kept i) ≤ code_words (operation_code p at l None None None n others i)
-alike p results f called slots at k l told telling known n kept others (binary_op op ty mode to a aty b bty) s (inl i) h e =
-    let pointed = pointer_binary (is_pointer aty) (is_pointer bty) p op aty bty (at a) (at b) (at to) a.bytes b.bytes n in
+alike p results f called slots at k l told telling known n kept others (binary_op op ty mode to a aty b bty) s c (inl i) h e =
+    let pointed = λ (core : Core). pointer_binary core (is_pointer aty) (is_pointer bty) p op aty bty (at a) (at b) (at to) a.bytes
+    b.bytes n in
     none_kind (is_fixed aty || is_fixed bty) (is_pointer aty || is_pointer bty)
-    (fixed_binary telling op ty aty bty mode (at a) (at b) (at to) a.bytes n) pointed
+    (fixed_binary telling op ty aty bty mode (at a) (at b) (at to) a.bytes n) (pointed k.core)
     (integer_binary known telling op (is_signed aty) (is_signed bty) (at a) (at b) (at to) a.bytes n)
-    (fixed_binary None op ty aty bty mode (at a) (at b) (at to) a.bytes n)
+    (fixed_binary None op ty aty bty mode (at a) (at b) (at to) a.bytes n) (pointed l.core)
     (integer_binary None None op (is_signed aty) (is_signed bty) (at a) (at b) (at to) a.bytes n)
     (no_fixed (family_of op) slots to a b ty aty bty i) (no_pointer (family_of op) slots to a b ty aty bty i)
     (integer_alike slots to a b ty aty bty known telling (is_signed aty) (is_signed bty) (at a) (at b) (at to) n op mode s i h e)
-alike p results f called slots at k l told telling known n kept others (binary_op op ty mode to a aty b bty) s (inr (inl i)) h e =
-    let pointed = pointer_binary (is_pointer aty) (is_pointer bty) p op aty bty (at a) (at b) (at to) a.bytes b.bytes n in
-    let rest = λ (x : Option RightNumber) (y : Option Told). by_kind (is_pointer aty || is_pointer bty) pointed
+alike p results f called slots at k l told telling known n kept others (binary_op op ty mode to a aty b bty) s c (inr (inl i)) h e =
+    let rest = λ (core : Core) (x : Option RightNumber) (y : Option Told). by_kind (is_pointer aty || is_pointer bty)
+    (pointer_binary core (is_pointer aty) (is_pointer bty) p op aty bty (at a) (at b) (at to) a.bytes b.bytes n)
     (integer_binary x y op (is_signed aty) (is_signed bty) (at a) (at b) (at to) a.bytes n) in
     let whole = λ (y : Option Told). operator_code y (family_of op) (is_signed aty) (is_signed bty) (at a) (at b) (at to) a.bytes n in
     let other = if is_placed op mode ty aty bty && not (same_location (at b) (at to))
     then placed_binary op (is_signed aty) (at a) (at b) (at to) a.bytes n
     else answer_code (fixed_binary_code op ty aty bty mode (at a) (at b) answer_location work_location) (at to) n in
     first_kind (is_fixed aty || is_fixed bty) (fixed_binary telling op ty aty bty mode (at a) (at b) (at to) a.bytes n)
-    (rest known telling) (fixed_binary None op ty aty bty mode (at a) (at b) (at to) a.bytes n) (rest None None)
+    (rest k.core known telling) (fixed_binary None op ty aty bty mode (at a) (at b) (at to) a.bytes n) (rest l.core None None)
     (either_fixed aty bty i.types.fixed)
     (other_code (is_on_integers (family_of op) mode ty aty bty) (whole telling) (whole None) other
     (not_on_integers op mode ty aty bty i.types
     (not_exact op (are_exact op mode ty (aty ∷ bty ∷ [])) (counts_fixed ty || any_fixed (aty ∷ bty ∷ []))
     (counts_pointer ty || any_pointer (aty ∷ bty ∷ [])) (widest (ty ∷ aty ∷ bty ∷ [])) (binary_shape op ty mode aty bty) s e)))
-alike p results f called slots at k l told telling known n kept others (binary_op op ty mode to a aty b bty) s (inr (inr i)) h e =
-    let pointed = pointer_binary (is_pointer aty) (is_pointer bty) p op aty bty (at a) (at b) (at to) a.bytes b.bytes n in
+alike p results f called slots at k l told telling known n kept others (binary_op op ty mode to a aty b bty) s c (inr (inr i)) h e =
+    let pointed = λ (core : Core). pointer_binary core (is_pointer aty) (is_pointer bty) p op aty bty (at a) (at b) (at to) a.bytes
+    b.bytes n in
     second_kind (is_fixed aty || is_fixed bty) (is_pointer aty || is_pointer bty)
-    (fixed_binary telling op ty aty bty mode (at a) (at b) (at to) a.bytes n) pointed
+    (fixed_binary telling op ty aty bty mode (at a) (at b) (at to) a.bytes n) (pointed k.core)
     (integer_binary known telling op (is_signed aty) (is_signed bty) (at a) (at b) (at to) a.bytes n)
-    (fixed_binary None op ty aty bty mode (at a) (at b) (at to) a.bytes n)
+    (fixed_binary None op ty aty bty mode (at a) (at b) (at to) a.bytes n) (pointed l.core)
     (integer_binary None None op (is_signed aty) (is_signed bty) (at a) (at b) (at to) a.bytes n)
     (pointers_only op ty aty bty i.pointer i.types).0 i.pointer
-alike p results f called slots at k l told telling known n kept others (unary_op op ty mode to a) s c h e = omega arith
-alike p results f called slots at k l told telling known n kept others (conversion to ty mode a aty) s c h e = omega arith
-alike p results f called slots at k l told telling known n kept others i s c h e = absurd cc
+    (subst (λ core. code_words (pointed k.core) ≤ code_words (pointed core)) c (omega arith))
+alike p results f called slots at k l told telling known n kept others (unary_op op ty mode to a) s c i h e = omega arith
+alike p results f called slots at k l told telling known n kept others (conversion to ty mode a aty) s c i h e = omega arith
+alike p results f called slots at k l told telling known n kept others i s c j h e = absurd cc

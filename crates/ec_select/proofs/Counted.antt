@@ -8,6 +8,7 @@ use Rattle.std.proofs.lemmas.Bool.Decides.{nat_tests}
 use Rattle.std.proofs.lemmas.List.Folds.{sum_by-zero}
 use Rattle.std.proofs.lemmas.List.Sums.{sum_by-append}
 use Rattle.std.proofs.lemmas.Option.{slice_get_within}
+use Rattle.ec_space.specs.declared.Core.{Core}
 use Rattle.ec_asm.specs.declared.items.AsmItem.{AsmItem}
 use Rattle.ec_asm.specs.declared.items.AsmItem.TheVariants.{Label}
 use Rattle.ec_asm.specs.Items.{chain}
@@ -171,10 +172,10 @@ first_label_above functions (suc k) = let r = first_label_above functions k in o
 
 -- ---- the functions of a program
 
-module _ (p : PlainIrProgram) (valid : ValidIr p) (has : HasCode p) (leaves : LeavesFillTheirTypes)
+module _ (core : Core) (p : PlainIrProgram) (valid : ValidIr p) (has : HasCode p) (leaves : LeavesFillTheirTypes)
     (pieces : ItemLaws) (tables : ℕ → ℕ → Need) where
   abbrev pub link : ℕ → PlainIrFunction → Linkage
-  link f g = linkage_of p function_label f g.slots (made_with p (routine_of p tables) (tables f) f g)
+  link f g = linkage_of core p function_label f g.slots (made_with p (routine_of core p tables) (tables f) f g)
 
   -- an item that fits is not the place of a label
   is_other : (x : ℕ) → AsmItem → Bool
@@ -253,7 +254,7 @@ module _ (p : PlainIrProgram) (valid : ValidIr p) (has : HasCode p) (leaves : Le
       (ops_code (data_of p) (home (link f g).homes) (link f g) at next code) ∙ rw (here, rest) refl
 
   function_places : (x f : ℕ) (g : PlainIrFunction) → slice_get p.functions f ≡ Some g
-      → count_by (is_label x) (code_of p (routine_of p tables) (tables f) f (Some g))
+      → count_by (is_label x) (code_of core p (routine_of core p tables) (tables f) f (Some g))
       ≡ cond (1 + f == x) 1 0 + placed_in x (link f g).label_of g.code
   function_places x f g e =
       let at = facts_of (tables f) g.code in
@@ -264,7 +265,7 @@ module _ (p : PlainIrProgram) (valid : ValidIr p) (has : HasCode p) (leaves : Le
 
   -- a function has no label that is not its own
   abbrev OwnNone : (x f : ℕ) → Option PlainIrFunction → Type 0
-  OwnNone x f o = count_by (is_label x) (code_of p (routine_of p tables) (tables f) f o) ≡ 0
+  OwnNone x f o = count_by (is_label x) (code_of core p (routine_of core p tables) (tables f) f o) ≡ 0
 
   no_start : (x f : ℕ) (g : PlainIrFunction) → slice_get p.functions f ≡ Some g → 1 + f ≢ x
       → placed_in x (link f g).label_of g.code ≡ 0 → OwnNone x f (Some g)
@@ -280,13 +281,13 @@ module _ (p : PlainIrProgram) (valid : ValidIr p) (has : HasCode p) (leaves : Le
       let above = first_label_above p.functions f in
       no_start x f g e d (placed_below x (first_label p.functions f) g.code (omega arith))
 
-  pub entry_is_apart : count_by (is_label 0) (functions_code p tables (length p.functions)) ≡ 0
+  pub entry_is_apart : count_by (is_label 0) (functions_code core p tables (length p.functions)) ≡ 0
   entry_is_apart =
-      none_of 0 (λ f. code_of p (routine_of p tables) (tables f) f (slice_get p.functions f)) (length p.functions)
+      none_of 0 (λ f. code_of core p (routine_of core p tables) (tables f) f (slice_get p.functions f)) (length p.functions)
       (λ k l. none_before 0 k (omega arith) (λ q. absurd (omega arith)) (slice_get p.functions k) refl)
 
   one_start : (f : ℕ) (g : PlainIrFunction) → slice_get p.functions f ≡ Some g
-      → count_by (is_label (function_label f)) (code_of p (routine_of p tables) (tables f) f (Some g)) ≡ 1
+      → count_by (is_label (function_label f)) (code_of core p (routine_of core p tables) (tables f) f (Some g)) ≡ 1
   one_start f g e =
       let l = slice_get_within p.functions f g e in
       let above = first_label_above p.functions f in
@@ -295,10 +296,10 @@ module _ (p : PlainIrProgram) (valid : ValidIr p) (has : HasCode p) (leaves : Le
       function_places (1 + f) f g e ∙ rw (q, none) refl
 
   pub function_stands : (f : ℕ) (g : PlainIrFunction) → slice_get p.functions f ≡ Some g
-      → count_by (is_label (function_label f)) (functions_code p tables (length p.functions)) ≡ 1
+      → count_by (is_label (function_label f)) (functions_code core p tables (length p.functions)) ≡ 1
   function_stands f g e =
       let l = slice_get_within p.functions f g e in
-      one_of (1 + f) (λ k. code_of p (routine_of p tables) (tables k) k (slice_get p.functions k)) (length p.functions) f l
+      one_of (1 + f) (λ k. code_of core p (routine_of core p tables) (tables k) k (slice_get p.functions k)) (length p.functions) f l
       (λ k m d. none_before (1 + f) k (omega arith) (λ q. d (omega arith)) (slice_get p.functions k) refl)
       (rw e (one_start f g e))
 
@@ -329,7 +330,7 @@ module _ (p : PlainIrProgram) (valid : ValidIr p) (has : HasCode p) (leaves : Le
             placed_below (first_label p.functions f + m) (first_label p.functions k) h.code (omega arith)
 
   own_label : (f m : ℕ) (g : PlainIrFunction) → slice_get p.functions f ≡ Some g → count m g.code ≡ 1
-      → count_by (is_label (first_label p.functions f + m)) (code_of p (routine_of p tables) (tables f) f (Some g)) ≡ 1
+      → count_by (is_label (first_label p.functions f + m)) (code_of core p (routine_of core p tables) (tables f) f (Some g)) ≡ 1
   own_label f m g e one =
       let l = slice_get_within p.functions f g e in
       let above = first_label_above p.functions f in
@@ -346,10 +347,10 @@ module _ (p : PlainIrProgram) (valid : ValidIr p) (has : HasCode p) (leaves : Le
         let none = none_above m code w in absurd (omega (arith, none, one))
 
   pub label_stands : (f m : ℕ) (g : PlainIrFunction) → slice_get p.functions f ≡ Some g → count m g.code ≡ 1
-      → count_by (is_label (first_label p.functions f + m)) (functions_code p tables (length p.functions)) ≡ 1
+      → count_by (is_label (first_label p.functions f + m)) (functions_code core p tables (length p.functions)) ≡ 1
   label_stands f m g e one =
       let l = slice_get_within p.functions f g e in
-      one_of (first_label p.functions f + m) (λ k. code_of p (routine_of p tables) (tables k) k (slice_get p.functions k))
+      one_of (first_label p.functions f + m) (λ k. code_of core p (routine_of core p tables) (tables k) k (slice_get p.functions k))
       (length p.functions) f l
       (λ k w d. none_beside f m k g e (bounded m g.code one) d w (slice_get p.functions k) refl) (rw e (own_label f m g e one))
 
@@ -369,9 +370,9 @@ module _ (p : PlainIrProgram) (valid : ValidIr p) (has : HasCode p) (leaves : Le
       (placed_is (first_label p.functions f) n g.code ∙ none_above n g.code (omega arith)))
 
   pub routine_is_apart : (x : ℕ) → first_label p.functions (length p.functions) ≤ x
-      → count_by (is_label x) (functions_code p tables (length p.functions)) ≡ 0
+      → count_by (is_label x) (functions_code core p tables (length p.functions)) ≡ 0
   routine_is_apart x l =
-      none_of x (λ f. code_of p (routine_of p tables) (tables f) f (slice_get p.functions f)) (length p.functions)
+      none_of x (λ f. code_of core p (routine_of core p tables) (tables f) f (slice_get p.functions f)) (length p.functions)
       (λ k m. none_past x k l (slice_get p.functions k) refl)
 
   -- a label of a function stands below them

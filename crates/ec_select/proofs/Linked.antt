@@ -3,6 +3,7 @@ use Rattle.std.proofs.Common.{◌≡◌, ℕ, zero, suc, ◌+◌, ◌^◌, ◌<�
 use Rattle.std.specs.Prelude.{Option, Some, None, slice_get, slice_index, get_or, if◌then◌else◌, Bool, true, false, ◌++◌}
 use Rattle.std.specs.List.{AllByRecursion}
 use Rattle.std.proofs.lemmas.Bool.{false≢true}
+use Rattle.ec_space.specs.declared.Core.{Core}
 use Rattle.ec_core.specs.TypeLaws.{LeavesFillTheirTypes}
 use Rattle.ec_ir.specs.Operations.{PlainIr, constant, copy, address, field, load_at, store_at, load_object}
 use Rattle.ec_ir.specs.Operations.{store_object, binary_op, unary_op, conversion, label, jump, branch_zero}
@@ -87,24 +88,24 @@ module _ (p : PlainIrProgram) (valid : ValidIr p) (leaves : LeavesFillTheirTypes
   behind_is labels need i s = refl
 
   -- what is measured can be written
-  pub all_used : (h : Homes) (at : Facts) (code : List PlainIr) → AreCovered (data_of p) results f (called_in all) slots code
-      → AllByRecursion (ValidOperation p valid.results f slots all) code → CanBeUses (data_of p) h (wanted_bytes at code) code
-  all_used h at [] c v j i e s = absurd cc
-  all_used h at (x ∷ code) c v zero i e s =
+  pub all_used : (core : Core) (h : Homes) (at : Facts) (code : List PlainIr) → AreCovered (data_of p) results f (called_in all) slots code
+      → AllByRecursion (ValidOperation p valid.results f slots all) code → CanBeUses core (data_of p) h (wanted_bytes at code) code
+  all_used core h at [] c v j i e s = absurd cc
+  all_used core h at (x ∷ code) c v zero i e s =
       let q : x ≡ i = cc in
       let need = needs at code in
       let n = wanted_behind at.needed need x in
       let shaped : is_shaped x ≡ true = ap is_shaped q ∙ s in
-      let own = shaped_emits p valid leaves results f slots (alone h) all 0 (omega arith) refl need x shaped c.0 v.0 in
-      let there : CanBeEmitted (data_of p) (alone h) n x =
-      subst (λ (m : ℕ). CanBeEmitted (data_of p) (alone h) m x) (sym (behind_is at.needed need x shaped)) own in
-      subst (λ (y : PlainIr). CanBeEmitted (data_of p) (alone h) n y × CanBeCalled n y) q
+      let own = shaped_emits p valid leaves results f slots (alone core h) all 0 (omega arith) refl need x shaped c.0 v.0 in
+      let there : CanBeEmitted (data_of p) (alone core h) n x =
+      subst (λ (m : ℕ). CanBeEmitted (data_of p) (alone core h) m x) (sym (behind_is at.needed need x shaped)) own in
+      subst (λ (y : PlainIr). CanBeEmitted (data_of p) (alone core h) n y × CanBeCalled n y) q
       (there, called_there p results f (called_in all) slots at (x ∷ code) c zero x refl)
-  all_used h at (x ∷ code) c v (suc j) i e s = all_used h at code c.1 v.1 j i e s
+  all_used core h at (x ∷ code) c v (suc j) i e s = all_used core h at code c.1 v.1 j i e s
 
 -- ---- what holds of each use of a shape in a program
 
-module _ (p : PlainIrProgram) (valid : ValidIr p) (has : HasCode p) (P : PlainIr → Type 0)
+module _ (core : Core) (p : PlainIrProgram) (valid : ValidIr p) (has : HasCode p) (P : PlainIr → Type 0)
     (each : (f : ℕ) (g : PlainIrFunction) (i : PlainIr) → slice_get p.functions f ≡ Some g
     → IsCovered (data_of p) has.results f (called_in g.code) g.slots i → ValidOperation p valid.results f g.slots g.code i
     → is_shaped i ≡ true → P i) where
@@ -117,42 +118,42 @@ module _ (p : PlainIrProgram) (valid : ValidIr p) (has : HasCode p) (P : PlainIr
 
   module _ (f : ℕ) (g : PlainIrFunction) (e : slice_get p.functions f ≡ Some g) (h : Homes) where
     of_one : (n : ℕ) (i : PlainIr) → IsCovered (data_of p) has.results f (called_in g.code) g.slots i
-        → ValidOperation p valid.results f g.slots g.code i → AllByRecursion Held (uses_of (data_of p) h n i)
+        → ValidOperation p valid.results f g.slots g.code i → AllByRecursion Held (uses_of core (data_of p) h n i)
     of_one n i c v = by_test (is_shaped i) refl
       where
-        by_test : (b : Bool) → is_shaped i ≡ b → AllByRecursion Held (if b then use_of (data_of p) h n i ∷ [] else [])
+        by_test : (b : Bool) → is_shaped i ≡ b → AllByRecursion Held (if b then use_of core (data_of p) h n i ∷ [] else [])
         by_test true s = (each f g i e c v s, tt)
         by_test false s = tt
 
     of_code : (wanted : List ℕ) (code : List PlainIr) → AreCovered (data_of p) has.results f (called_in g.code) g.slots code
         → AllByRecursion (ValidOperation p valid.results f g.slots g.code) code
-        → AllByRecursion Held (uses_in (data_of p) h wanted code)
+        → AllByRecursion Held (uses_in core (data_of p) h wanted code)
     of_code [] code c v = tt
     of_code (n ∷ wanted) [] c v = tt
     of_code (n ∷ wanted) (i ∷ code) c v =
-        joined_all (uses_of (data_of p) h n i) (uses_in (data_of p) h wanted code) (of_one n i c.0 v.0) (of_code wanted code c.1 v.1)
+        joined_all (uses_of core (data_of p) h n i) (uses_in core (data_of p) h wanted code) (of_one n i c.0 v.0) (of_code wanted code c.1 v.1)
 
   from_function : (tables : ℕ → ℕ → Need) (f : ℕ) (gs : List PlainIrFunction)
       → ((j : ℕ) (g : PlainIrFunction) → slice_get gs j ≡ Some g → slice_get p.functions (f + j) ≡ Some g)
-      → AllByRecursion Held (uses_from p tables f gs)
+      → AllByRecursion Held (uses_from core p tables f gs)
   from_function tables f [] there = tt
   from_function tables f (g ∷ gs) there =
       let z : f + 0 ≡ f = omega arith in
       let here : slice_get p.functions f ≡ Some g = subst (λ k. slice_get p.functions k ≡ Some g) z (there 0 g refl) in
-      joined_all (function_uses p (tables f) f g) (uses_from p tables (f + 1) gs)
+      joined_all (function_uses core p (tables f) f g) (uses_from core p tables (f + 1) gs)
       (of_code f g here (homes_of f g.code) (wanted_bytes (facts_of (tables f) g.code) g.code) g.code (has.functions f g here)
       (function_valid p valid f g here).code)
       (from_function tables (f + 1) gs
       (λ j x e. let q : f + suc j ≡ f + 1 + j = omega arith in subst (λ k. slice_get p.functions k ≡ Some x) q (there (suc j) x e)))
 
-  pub each_use : (tables : ℕ → ℕ → Need) → AllByRecursion Held (program_uses p tables)
+  pub each_use : (tables : ℕ → ℕ → Need) → AllByRecursion Held (program_uses core p tables)
   each_use tables =
       from_function tables 0 p.functions
       (λ j g e. let q : j ≡ 0 + j = omega arith in subst (λ k. slice_get p.functions k ≡ Some g) q e)
 
 -- the emitter may write their routines
-pub uses_ready : (p : PlainIrProgram) → ValidIr p → HasCode p → (tables : ℕ → ℕ → Need)
-    → AllByRecursion (λ u. HasRoutine u.operation) (program_uses p tables)
-uses_ready p valid has tables =
-    each_use p valid has HasRoutine
+pub uses_ready : (core : Core) (p : PlainIrProgram) → ValidIr p → HasCode p → (tables : ℕ → ℕ → Need)
+    → AllByRecursion (λ u. HasRoutine u.operation) (program_uses core p tables)
+uses_ready core p valid has tables =
+    each_use core p valid has HasRoutine
     (λ f g i e c v s. (s, can_be_routine (data_of p) has.results f (called_in g.code) g.slots i c)) tables

@@ -33,13 +33,12 @@ use Rattle.ec_ir.specs.Temporaries.{low_bytes}
 use Rattle.ec_select_bytes.specs.Values.{constant_code, test_code, extend_code}
 use Rattle.ec_select_places.specs.Conversions.{embed_code}
 use Rattle.ec_select_places.specs.Distances.{elements_code}
-use Rattle.ec_select_places.specs.Steps.{scale_index_code, advance_code, compared_bytes}
+use Rattle.ec_select_places.specs.Steps.{scale_index_code}
 use Rattle.ec_select_pointers.specs.Accesses.{store_data_code}
-use Rattle.ec_select_pointers.specs.Addresses.{field_code}
 use Rattle.ec_select_pointers.specs.Form.{HasPlaces as HasPointerPlaces}
 use Rattle.ec_space.specs.Spaces.{width}
-use Rattle.ec_space.specs.declared.space.Bank.{Bank}
-use Rattle.ec_space.specs.declared.space.Bank.TheVariants.{Flash as FlashBank, Data as DataBank}
+use Rattle.ec_space.specs.declared.space.Home.{Home}
+use Rattle.ec_space.specs.declared.space.Home.TheVariants.{Flash as FlashHome, Far as FarHome, Data as DataHome}
 use Rattle.ec_select_order.specs.declared.relations.Relation.{Relation}
 use Rattle.ec_select_order.specs.declared.relations.Relation.TheVariants.{Less, NotLess, Equal, NotEqual}
 use Rattle.ec_select_order.specs.Relations.{relation_code, flag_of, is_set}
@@ -70,8 +69,8 @@ use Rattle.ec_select_operations.specs.Code.{negated_unary}
 use Rattle.ec_select_fixed.specs.Types.{format_in}
 use Rattle.ec_select_operations.specs.Emitted.{second_bytes}
 use Rattle.ec_select_operations.proofs.OneFormat.{placed_bytes}
-use Rattle.ec_select_operations.specs.Code.{fixed_conversion, addressed_code, load_code, banked_code, offset_code}
-use Rattle.ec_select_operations.specs.Code.{pointers_code, is_difference, pointer_binary, pointer_conversion}
+use Rattle.ec_select_operations.specs.Code.{fixed_conversion, addressed_code, member_code, load_code, banked_code, moved_code, offset_code}
+use Rattle.ec_select_operations.specs.Code.{related_bytes, pointers_code, is_difference, pointer_binary, pointer_conversion}
 use Rattle.ec_select_functions.specs.Covered.{AreIntegers}
 use Rattle.ec_select_functions.specs.Covered.{HasIndex, HasScalarAt, IsBinary, IsFixedBinary, IsFixedUnary}
 use Rattle.ec_select_functions.specs.Covered.{AreConverted, IsFixedConversion, IsPointerBinary, IsPointerConversion}
@@ -85,7 +84,7 @@ use Rattle.ec_ir_known.specs.declared.known.RightNumber.{RightNumber}
 use Rattle.ec_select_operations.specs.Needs.{Need, Facts, wanted, wanted_result, needs, is_fixed, number_taken, compared_bytes as bytes_compared}
 use Rattle.ec_select.proofs.ByNumber.{changed_by_fits, compared_with_fits}
 use Rattle.ec_select_operations.specs.Places.{object_location}
-use Rattle.ec_select_operations.specs.Pointers.{is_pointer, is_into_data, home_of, IsPointerSize}
+use Rattle.ec_select_operations.specs.Pointers.{is_pointer, is_into_data, kept_in, IsPointerSize}
 use Rattle.ec_select_operations.specs.Ports.{in_code, out_code}
 use Rattle.ec_select.proofs.FixedItems.{FixedItemLaws, plain_fits, has_places, answer_fits, own_fits, others_fit}
 use Rattle.ec_select.proofs.Carried.{carried_fits}
@@ -97,9 +96,9 @@ use Rattle.ec_select.proofs.Fitting.{registers_fit, fewer_fit}
 use Rattle.ec_select.proofs.Pieces.{copy_fits, transfer_fits, operate_fits, compare_fits, relation_fits, constant_fits, test_fits}
 use Rattle.ec_select.proofs.Pieces.{extend_fits}
 use Rattle.ec_select.proofs.Pieces.{complement_fits, negation_fits}
-use Rattle.ec_select.proofs.PointerItems.{PointerItemLaws, fewer_places, few_compared, addressed_fits, field_fits}
-use Rattle.ec_select.proofs.PointerItems.{load_fits}
-use Rattle.ec_select.proofs.PointerItems.{store_fits, table_fits, scale_fits, advance_fits, elements_fit, embed_fits}
+use Rattle.ec_select.proofs.PointerItems.{PointerItemLaws, fewer_places, few_related, addressed_fits, member_fits}
+use Rattle.ec_select.proofs.PointerItems.{load_fits, far_object_fits}
+use Rattle.ec_select.proofs.PointerItems.{store_fits, table_fits, scale_fits, moved_fits, elements_fit, embed_fits}
 use Rattle.ec_select.proofs.PointerTypes.{some_width, two_pointers, first_pointer, second_pointer, pointers_only}
 use Rattle.ec_select.proofs.PointerTypes.{pointer_converted, stays_within, at_least_two, no_pointer, none_pointed}
 use Rattle.ec_select.proofs.PortItems.{IndexFits, in_fits, out_fits}
@@ -477,34 +476,35 @@ module _ (sizes : Sizes) where
     -- a pointer comes to the place of the result, and goes on there
     offset_fits : (minus signed : Bool) (from index to : Temp) (size n : ℕ) → HasHome k.slots from → HasHome k.slots index
         → HasHome k.slots to → 2 ≤ from.bytes → to.bytes ≡ from.bytes
-        → Fit sizes (offset_code minus signed (home k.homes from) (home k.homes index) (home k.homes to) from.bytes index.bytes size n)
+        → Fit sizes (offset_code k.core minus signed (home k.homes from) (home k.homes index) (home k.homes to) from.bytes index.bytes size n)
     offset_fits minus signed from index to size n x y z some same =
         let a = home k.homes from in let b = home k.homes index in let c = home k.homes to in
         let pair = low_leaves to 2 z (omega (arith, some, same)) in
-        unless_none n (scale_index_code b signed index.bytes (size % 65536) ++ (move_code a c from.bytes ++ advance_code minus c))
-        (joined (fits sizes) (scale_index_code b signed index.bytes (size % 65536)) (move_code a c from.bytes ++ advance_code minus c)
+        let moved = moved_code k.core from.bytes minus c in
+        unless_none n (scale_index_code b signed index.bytes (size % 65536) ++ (move_code a c from.bytes ++ moved))
+        (joined (fits sizes) (scale_index_code b signed index.bytes (size % 65536)) (move_code a c from.bytes ++ moved)
         (scale_fits sizes laws.pointers b c signed index.bytes (size % 65536) y.some (omega arith)
         (home_leaves k.homes k.slots room index y) pair)
-        (joined (fits sizes) (move_code a c from.bytes) (advance_code minus c)
+        (joined (fits sizes) (move_code a c from.bytes) moved
         (move_fits a c from.bytes (at_home from x) (low_home to from.bytes z (omega (arith, same))))
-        (advance_fits sizes laws.pointers a c minus 2 (omega arith) (low_leaves from 2 x some) pair)))
+        (moved_fits sizes laws.pointers k.core c minus from.bytes some (low_leaves to from.bytes z (omega (arith, same))))))
 
     pointers_fit : (family : Family) (a b to : Temp) (size n : ℕ) → HasHome k.slots a → HasHome k.slots b
         → HasHome k.slots to → 2 ≤ a.bytes → b.bytes ≡ a.bytes → to.bytes ≡ 2 → n ≤ to.bytes
-        → Fit sizes (pointers_code family (home k.homes a) (home k.homes b) (home k.homes to) a.bytes size n)
+        → Fit sizes (pointers_code k.core family (home k.homes a) (home k.homes b) (home k.homes to) a.bytes size n)
     pointers_fit (Combined op) a b to size n x y z some same two l =
         unless_none n (elements_code (home k.homes a) (home k.homes b) (home k.homes to) size)
         (elements_fit sizes laws.pointers (home k.homes a) (home k.homes b) (home k.homes to) size (low_leaves a 2 x some)
         (low_leaves b 2 y (omega (arith, some, same))) (low_leaves to 2 z (omega (arith, two))))
     pointers_fit (Compared r false) a b to size n x y z some same two l =
-        let few = few_compared r a.bytes some in
-        compared_fit r false (home k.homes a) (home k.homes b) (home k.homes to) (compared_bytes r a.bytes) n
-        (low_home a (compared_bytes r a.bytes) x few) (low_home b (compared_bytes r a.bytes) y (omega (arith, few, same)))
+        let few = few_related k.core r a.bytes some in
+        compared_fit r false (home k.homes a) (home k.homes b) (home k.homes to) (related_bytes k.core r a.bytes) n
+        (low_home a (related_bytes k.core r a.bytes) x few) (low_home b (related_bytes k.core r a.bytes) y (omega (arith, few, same)))
         (low_home to n z l)
     pointers_fit (Compared r true) a b to size n x y z some same two l =
-        let few = few_compared r a.bytes some in
-        compared_fit r false (home k.homes b) (home k.homes a) (home k.homes to) (compared_bytes r a.bytes) n
-        (low_home b (compared_bytes r a.bytes) y (omega (arith, few, same))) (low_home a (compared_bytes r a.bytes) x few)
+        let few = few_related k.core r a.bytes some in
+        compared_fit r false (home k.homes b) (home k.homes a) (home k.homes to) (related_bytes k.core r a.bytes) n
+        (low_home b (related_bytes k.core r a.bytes) y (omega (arith, few, same))) (low_home a (related_bytes k.core r a.bytes) x few)
         (low_home to n z l)
     pointers_fit Multiplied a b to size n x y z some same two l = refl
     pointers_fit (Shifted up) a b to size n x y z some same two l = refl
@@ -512,11 +512,11 @@ module _ (sizes : Sizes) where
 
     pointer_binary_fits : (op : BinOp) (to a b : Temp) (ty aty bty : PlainType) (n : ℕ)
         → IsPointerBinary p k.slots op to a b ty aty bty → n ≤ to.bytes
-        → Fit sizes (pointer_binary (is_pointer aty) (is_pointer bty) p op aty bty (home k.homes a) (home k.homes b)
+        → Fit sizes (pointer_binary k.core (is_pointer aty) (is_pointer bty) p op aty bty (home k.homes a) (home k.homes b)
         (home k.homes to) a.bytes b.bytes n)
     pointer_binary_fits op to a b ty aty bty n h l = by_kinds (is_pointer aty) (is_pointer bty) refl refl where
       by_kinds : (x y : Bool) → is_pointer aty ≡ x → is_pointer bty ≡ y
-          → Fit sizes (pointer_binary x y p op aty bty (home k.homes a) (home k.homes b) (home k.homes to) a.bytes b.bytes n)
+          → Fit sizes (pointer_binary k.core x y p op aty bty (home k.homes a) (home k.homes b) (home k.homes to) a.bytes b.bytes n)
       by_kinds true true d e =
           let t = two_pointers op ty aty bty d e h.types in
           let s = t.some in let m = t.same in let r = t.result in
@@ -641,13 +641,13 @@ module _ (sizes : Sizes) where
         → Fit sizes (by_kind (is_fixed aty || is_fixed bty)
         (fixed_binary telling op ty aty bty mode (home k.homes a) (home k.homes b) (home k.homes to) a.bytes n)
         (by_kind (is_pointer aty || is_pointer bty)
-        (pointer_binary (is_pointer aty) (is_pointer bty) p op aty bty (home k.homes a) (home k.homes b) (home k.homes to)
+        (pointer_binary k.core (is_pointer aty) (is_pointer bty) p op aty bty (home k.homes a) (home k.homes b) (home k.homes to)
         a.bytes b.bytes n)
         (integer_binary known telling op (is_signed aty) (is_signed bty) (home k.homes a) (home k.homes b) (home k.homes to)
         a.bytes n)))
     of_binary known telling op ty aty bty mode to a b n (inl h) l =
         let own = fixed_binary telling op ty aty bty mode (home k.homes a) (home k.homes b) (home k.homes to) a.bytes n in
-        let pointed = pointer_binary (is_pointer aty) (is_pointer bty) p op aty bty (home k.homes a) (home k.homes b)
+        let pointed = pointer_binary k.core (is_pointer aty) (is_pointer bty) p op aty bty (home k.homes a) (home k.homes b)
         (home k.homes to) a.bytes b.bytes n in
         let usual = integer_binary known telling op (is_signed aty) (is_signed bty) (home k.homes a) (home k.homes b)
         (home k.homes to) a.bytes n in
@@ -658,7 +658,7 @@ module _ (sizes : Sizes) where
         (taking_fits op known telling to a b ty aty bty (is_signed aty) (is_signed bty) n h l))
     of_binary known telling op ty aty bty mode to a b n (inr (inl h)) l =
         let own = fixed_binary telling op ty aty bty mode (home k.homes a) (home k.homes b) (home k.homes to) a.bytes n in
-        let pointed = pointer_binary (is_pointer aty) (is_pointer bty) p op aty bty (home k.homes a) (home k.homes b)
+        let pointed = pointer_binary k.core (is_pointer aty) (is_pointer bty) p op aty bty (home k.homes a) (home k.homes b)
         (home k.homes to) a.bytes b.bytes n in
         let usual = integer_binary known telling op (is_signed aty) (is_signed bty) (home k.homes a) (home k.homes b)
         (home k.homes to) a.bytes n in
@@ -666,7 +666,7 @@ module _ (sizes : Sizes) where
         (either_fixed aty bty h.types.fixed) (fixed_binary_fits telling op ty aty bty mode to a b n h l)
     of_binary known telling op ty aty bty mode to a b n (inr (inr h)) l =
         let own = fixed_binary telling op ty aty bty mode (home k.homes a) (home k.homes b) (home k.homes to) a.bytes n in
-        let pointed = pointer_binary (is_pointer aty) (is_pointer bty) p op aty bty (home k.homes a) (home k.homes b)
+        let pointed = pointer_binary k.core (is_pointer aty) (is_pointer bty) p op aty bty (home k.homes a) (home k.homes b)
         (home k.homes to) a.bytes b.bytes n in
         let usual = integer_binary known telling op (is_signed aty) (is_signed bty) (home k.homes a) (home k.homes b)
         (home k.homes to) a.bytes n in
@@ -715,13 +715,16 @@ module _ (sizes : Sizes) where
         (pointer_converted ty aty h.pointer h.types).no_fixed
         (own_fits sizes (is_pointer aty) pointed usual h.pointer (pointer_conversion_fits to a ty aty n h l))
 
-    -- loads from an object of a bank
-    bank_fits : (bank : Bank) (o offset : ℕ) (t : Temp) → HasHome k.slots t → HasScalarAt p o offset t.bytes
-        → Fit sizes (banked_code bank p.objects o offset (home k.homes t) t.bytes)
-    bank_fits FlashBank o offset t h s =
+    -- loads from an object with a home
+    bank_fits : (kept : Home) (o offset : ℕ) (t : Temp) → HasHome k.slots t → HasScalarAt p o offset t.bytes
+        → Fit sizes (banked_code k.core kept p.objects o offset (home k.homes t) t.bytes)
+    bank_fits FlashHome o offset t h s =
         table_fits sizes laws.pointers o offset (home k.homes t) t.bytes (home_leaves k.homes k.slots room t h)
         (objects.begins o offset t.bytes s)
-    bank_fits DataBank o offset t h s =
+    bank_fits FarHome o offset t h s =
+        far_object_fits sizes laws.pointers k.core o offset (home k.homes t) t.bytes (home_leaves k.homes k.slots room t h)
+        (objects.begins o offset t.bytes s)
+    bank_fits DataHome o offset t h s =
         copy_fits sizes (object_location p.objects o offset) (home k.homes t) t.bytes (objects.scalars o offset t.bytes s) (at_home t h)
 
     -- ---- calls and returns
@@ -843,7 +846,7 @@ module _ (sizes : Sizes) where
           (move_fits (home k.homes from) (home k.homes to) (wanted need to) (low_home from (wanted need to) h.1 (omega arith))
           (low_home to (wanted need to) h.0 (omega arith)))
       own_passes results f called told telling known need (load_object t o offset) h a =
-          by_fit (banked_code (home_of p o) p.objects o offset (home k.homes t) t.bytes) (bank_fits (home_of p o) o offset t h.0 h.1)
+          by_fit (banked_code k.core (kept_in p o) p.objects o offset (home k.homes t) t.bytes) (bank_fits (kept_in p o) o offset t h.0 h.1)
       own_passes results f called told telling known need (store_object o offset t) h a =
           by_fit (copy_code (home k.homes t) (object_location p.objects o offset) t.bytes)
           (copy_fits sizes (home k.homes t) (object_location p.objects o offset) t.bytes (at_home t h.0)
@@ -864,17 +867,17 @@ module _ (sizes : Sizes) where
           call_passes results g to (wanted_result need to) (kept_need need (call_function g to)) h (wanted_few need to) a
       own_passes results f called told telling known need (return_from from) h a = return_passes results f k.is_main from h
       own_passes results f called told telling known need (address t o offset) h a =
-          by_fit (addressed_code p o offset (home k.homes t) t.bytes (wanted need t))
-          (addressed_fits sizes laws.pointers p o offset (home k.homes t) t.bytes (wanted need t) h.size
+          by_fit (addressed_code k.core p o offset (home k.homes t) t.bytes (wanted need t))
+          (addressed_fits sizes laws.pointers k.core p o offset (home k.homes t) t.bytes (wanted need t) h.size
           (home_leaves k.homes k.slots room t h.result) (objects.offsets o offset h.declared h.is_object h.within))
       own_passes results f called told telling known need (field ptr space offset) h a =
           let two = some_width space in let e = h.1 in
-          by_fit (field_code (home k.homes ptr) offset)
-          (field_fits sizes laws.pointers (home k.homes ptr) offset (low_home ptr 2 h.0 (omega (arith, two, e))))
+          by_fit (member_code k.core ptr.bytes (home k.homes ptr) offset)
+          (member_fits sizes laws.pointers k.core (home k.homes ptr) ptr.bytes offset (omega (arith, two, e)) (at_home ptr h.0))
       own_passes results f called told telling known need (load_at to ptr space) h a =
           let few = h.0.most in let e = h.1.1 in
-          by_fit (load_code space (home k.homes ptr) (home k.homes to) to.bytes)
-          (load_fits sizes laws.pointers space (home k.homes ptr) (home k.homes to) to.bytes (omega (arith, few))
+          by_fit (load_code k.core space (home k.homes ptr) (home k.homes to) to.bytes)
+          (load_fits sizes laws.pointers k.core space (home k.homes ptr) (home k.homes to) to.bytes (omega (arith, few))
           (low_leaves ptr (width space) h.1.0 (omega (arith, e))) (home_leaves k.homes k.slots room to h.0))
       own_passes results f called told telling known need (store_at ptr space from) h a =
           let few = h.0.most in let two = some_width space in let e = h.1.1 in

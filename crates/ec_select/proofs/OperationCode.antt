@@ -472,6 +472,7 @@ module _ (leaves : LeavesFillTheirTypes) (p : PlainIrProgram) (valid : ValidIr p
         is_object = d.1;
         addressable = d.2.1;
         within = d.2.2;
+        of = of;
       }
 
   pointer_into : (space : SpaceId) (t : Temp) → IsPointerTemp slots space t → IsInto slots space t

@@ -43,12 +43,20 @@ use Rattle.ec_select_order.specs.Laws.{RelationsHaveWords}
 use Rattle.ec_select_order.specs.Relations.{relation_code, truth_code}
 use Rattle.ec_select_places.specs.Conversions.{embed_code}
 use Rattle.ec_select_places.specs.Distances.{elements_code}
+use Rattle.ec_select_places.specs.Far.{advance_far_code}
+use Rattle.ec_select_places.specs.FarForm.{FarStepsAreShort}
 use Rattle.ec_select_places.specs.Form.{StepsAreShort, ConversionsAreShort, ElementsAreShort}
-use Rattle.ec_select_places.specs.Steps.{scale_index_code, advance_code, compared_bytes}
-use Rattle.ec_select_pointers.specs.Addresses.{address_code}
+use Rattle.ec_select_places.specs.Steps.{scale_index_code, advance_code}
+use Rattle.ec_select_pointers.specs.Accesses.{load_flash_code, load_any_code, load_table_code}
+use Rattle.ec_select_pointers.specs.Addresses.{address_code, field_code}
+use Rattle.ec_select_pointers.specs.Far.{load_far_code, load_far_table_code, load_any_far_code, far_address_code, field_far_code}
+use Rattle.ec_select_pointers.specs.FarForm.{FarPointersHave}
 use Rattle.ec_select_pointers.specs.Form.{PointersHave, TablesAreShort}
+use Rattle.ec_space.specs.declared.Core.{Core}
+use Rattle.ec_space.specs.declared.Core.TheVariants.{Small, Large}
 use Rattle.ec_space.specs.declared.space.Bank.{Bank}
-use Rattle.ec_space.specs.declared.space.Bank.TheVariants.{Flash as FlashBank, Data as DataBank}
+use Rattle.ec_space.specs.declared.space.Home.{Home}
+use Rattle.ec_space.specs.declared.space.Home.TheVariants.{Flash as FlashHome, Far as FarHome, Data as DataHome}
 use Rattle.ec_space.specs.declared.space.SpaceId.{SpaceId}
 use Rattle.ec_space.specs.declared.space.SpaceId.TheVariants.{Flash, FarFlash, Data, Generic}
 use Rattle.ec_select_products.specs.Laws.{ProductsHaveWords}
@@ -77,8 +85,9 @@ use Rattle.ec_select_operations.specs.Code.{work_location, answer_location, answ
 use Rattle.ec_select_operations.specs.Code.{is_on_integers, has_one_format, takes_place, is_placed, placed_whole, placed_binary}
 use Rattle.ec_select_operations.specs.Code.{keeps_number, is_brought, brought_code, negated_unary}
 use Rattle.ec_select_fixed.specs.Types.{format_in}
-use Rattle.ec_select_operations.specs.Code.{fixed_conversion, addressed_code, load_code, banked_code, offset_code}
-use Rattle.ec_select_operations.specs.Code.{pointers_code}
+use Rattle.ec_select_operations.specs.Code.{fixed_conversion, by_core, is_far, is_whole_address, addressed_code, member_code}
+use Rattle.ec_select_operations.specs.Code.{load_code, banked_code, moved_code, offset_code}
+use Rattle.ec_select_operations.specs.Code.{related_bytes, pointers_code}
 use Rattle.ec_select_operations.specs.Code.{is_difference, pointer_binary, pointer_conversion}
 use Rattle.ec_select_functions.specs.Covered.{IsBinary, IsUnary}
 use Rattle.ec_select_functions.specs.Covered.{IsFixedBinary, IsFixedUnary, AreConverted, IsFixedConversion}
@@ -103,7 +112,7 @@ use Rattle.ec_select.proofs.InPlace.{placed_words, placed_not_bitwise}
 use Rattle.ec_select.proofs.Limits.{negated_words}
 use Rattle.ec_select.proofs.FixedTypes.{type_fixed, either_fixed, no_fixed, no_fixed_operand, none_converted}
 use Rattle.ec_select.proofs.Fitting.{and_first, and_second}
-use Rattle.ec_select.proofs.PointerItems.{tagged, few_compared}
+use Rattle.ec_select.proofs.PointerItems.{tagged, few_related, whole_bytes}
 use Rattle.ec_select.proofs.PointerTypes.{two_pointers, pointers_only, pointer_converted, no_pointer, none_pointed}
 use Rattle.ec_select.proofs.Words.{joined_words, chained_words, copy_words_most, transfer_words_most, save_words_most, load_words_most}
 use Rattle.ec_select.proofs.Words.{operate_words_most, quotient_words}
@@ -120,7 +129,9 @@ pub record WordLaws : Type 0 where
   pub fixed_conversions : FixedConversionsHave
   pub pointers : PointersHave
   pub tables : TablesAreShort
+  pub far_pointers : FarPointersHave
   pub steps : StepsAreShort
+  pub far_steps : FarStepsAreShort
   pub conversions : ConversionsAreShort
   pub elements : ElementsAreShort
   pub numbers : NumbersAreStraight
@@ -552,62 +563,111 @@ module _ (laws : WordLaws) where
 
   -- ---- operations on pointers
 
-  pub addressed_most : (p : PlainProgram) (o offset : ℕ) (q : Location) (bytes n : ℕ) → IsPointerSize bytes
-      → code_words (addressed_code p o offset q bytes n) ≤ 5 * bytes
-  addressed_most p o offset q bytes n size =
-      let tag = tag_in bytes (home_of p o) in
-      let x = (laws.pointers o offset tag q q 0).0 in let y = (tagged bytes (home_of p o) size).bytes_are in
-      unless_none n (5 * bytes) (address_code o offset tag q) (omega (arith, x, y))
+  far_address_few : (o offset : ℕ) (q : Location) → code_words (far_address_code o offset q) ≤ 9
+  far_address_few o offset q = (laws.far_pointers o offset q q 0).0
 
-  pub load_most : (space : SpaceId) (p q : Location) (n : ℕ) → code_words (load_code space p q n) ≤ 9 + 6 * n
-  load_most Flash p q n = let x = (laws.pointers 0 0 None p q n).3 in omega (arith, x)
-  load_most Data p q n = let x = (laws.pointers 0 0 None p q n).2 in omega (arith, x)
-  load_most FarFlash p q n = let x = (laws.pointers 0 0 None p q n).3 in omega (arith, x)
-  load_most Generic p q n = (laws.pointers 0 0 None p q n).4
+  address_few : (o offset : ℕ) (q : Location) (bytes : ℕ) (bank : Bank) → IsPointerSize bytes
+      → code_words (address_code o offset (tag_in bytes bank) q) ≤ 5 * bytes
+  address_few o offset q bytes bank size =
+      let x = (laws.pointers o offset (tag_in bytes bank) q q 0).0 in let y = (tagged bytes bank size).bytes_are in
+      omega (arith, x, y)
 
-  pub bank_most : (bank : Bank) (objects : List PlainObject) (o offset : ℕ) (q : Location) (n : ℕ) → 1 ≤ n
-      → code_words (banked_code bank objects o offset q n) ≤ 5 * n
-  bank_most FlashBank objects o offset q n some = let x = (laws.tables o offset q n).2 in omega (arith, x, some)
-  bank_most DataBank objects o offset q n some =
+  pub addressed_most : (core : Core) (p : PlainProgram) (o offset : ℕ) (q : Location) (bytes n : ℕ) → IsPointerSize bytes
+      → code_words (addressed_code core p o offset q bytes n) ≤ 5 * bytes
+  addressed_most core p o offset q bytes n size =
+      unless_none n (5 * bytes)
+      (if is_whole_address core bytes bank then far_address_code o offset q else address_code o offset (tag_in bytes bank) q)
+      (by_address (is_whole_address core bytes bank) refl)
+    where
+      bank : Bank
+      bank = home_of p o
+
+      by_address : (whole : Bool) → is_whole_address core bytes bank ≡ whole
+          → code_words (if whole then far_address_code o offset q else address_code o offset (tag_in bytes bank) q) ≤ 5 * bytes
+      by_address true e =
+          let x = far_address_few o offset q in let three = whole_bytes core bytes bank e in omega (arith, x, three)
+      by_address false e = address_few o offset q bytes bank size
+
+  -- a pointer of so many bytes to a member
+  pub member_most : (core : Core) (q : Location) (bytes offset : ℕ) → code_words (member_code core bytes q offset) ≤ 15
+  member_most core q bytes offset = by_far (is_far core bytes) where
+    by_far : (far : Bool) → code_words (if far then field_far_code q offset else field_code q offset) ≤ 15
+    by_far true = (laws.far_pointers 0 offset q q 0).1
+    by_far false = let x = (laws.pointers 0 offset None q q 0).1 in omega (arith, x)
+
+  -- code for either core
+  either_words : (core : Core) (small large : List AsmItem) (most : ℕ) → code_words small ≤ most → code_words large ≤ most
+      → code_words (by_core core small large) ≤ most
+  either_words Small small large most x y = x
+  either_words Large small large most x y = y
+
+  pub load_most : (core : Core) (space : SpaceId) (p q : Location) (n : ℕ) → code_words (load_code core space p q n) ≤ 10 + 6 * n
+  load_most core Flash p q n = let x = (laws.pointers 0 0 None p q n).3 in omega (arith, x)
+  load_most core Data p q n = let x = (laws.pointers 0 0 None p q n).2 in omega (arith, x)
+  load_most core FarFlash p q n =
+      let x = (laws.pointers 0 0 None p q n).3 in let y = (laws.far_pointers 0 0 p q n).2 in
+      either_words core (load_flash_code p q n) (load_far_code p q n) (10 + 6 * n) (omega (arith, x)) (omega (arith, y))
+  load_most core Generic p q n =
+      let x = (laws.pointers 0 0 None p q n).4 in let y = (laws.far_pointers 0 0 p q n).4 in
+      either_words core (load_any_code p q n) (load_any_far_code p q n) (10 + 6 * n) (omega (arith, x)) (omega (arith, y))
+
+  -- from an object with the home far
+  far_object_most : (core : Core) (o offset : ℕ) (q : Location) (n : ℕ) → 1 ≤ n
+      → code_words (by_core core (load_table_code o offset q n) (load_far_table_code o offset q n)) ≤ 2 + 5 * n
+  far_object_most Small o offset q n some = let x = (laws.tables o offset q n).2 in omega (arith, x, some)
+  far_object_most Large o offset q n some = let x = (laws.far_pointers o offset q q n).3 in omega (arith, x, some)
+
+  pub bank_most : (core : Core) (kept : Home) (objects : List PlainObject) (o offset : ℕ) (q : Location) (n : ℕ) → 1 ≤ n
+      → code_words (banked_code core kept objects o offset q n) ≤ 2 + 5 * n
+  bank_most core FlashHome objects o offset q n some = let x = (laws.tables o offset q n).2 in omega (arith, x, some)
+  bank_most core FarHome objects o offset q n some = far_object_most core o offset q n some
+  bank_most core DataHome objects o offset q n some =
       let x = copy_words_most (object_location objects o offset) q n in omega (arith, x)
 
-  pub offset_most : (minus signed : Bool) (a b c : Location) (bytes index_bytes size n : ℕ)
-      → code_words (offset_code minus signed a b c bytes index_bytes size n) ≤ 4 * bytes + 38
-  offset_most minus signed a b c bytes index_bytes size n =
+  moved_most : (core : Core) (bytes : ℕ) (minus : Bool) (q : Location) → code_words (moved_code core bytes minus q) ≤ 19
+  moved_most core bytes minus q = by_far (is_far core bytes) where
+    by_far : (far : Bool) → code_words (if far then advance_far_code minus q else advance_code minus q) ≤ 19
+    by_far true = (laws.far_steps minus q).words_are
+    by_far false = let x = (laws.steps q q true minus 0 0).1.words_are in omega (arith, x)
+
+  pub offset_most : (core : Core) (minus signed : Bool) (a b c : Location) (bytes index_bytes size n : ℕ)
+      → code_words (offset_code core minus signed a b c bytes index_bytes size n) ≤ 4 * bytes + 43
+  offset_most core minus signed a b c bytes index_bytes size n =
       let scale = scale_index_code b signed index_bytes (size % 65536) in
+      let moved = moved_code core bytes minus c in
       let x = (laws.steps b c signed minus index_bytes (size % 65536)).0.words_are in
       let y = move_words a c bytes in
-      let z = (laws.steps b c signed minus index_bytes (size % 65536)).1.words_are in
-      unless_none n (4 * bytes + 38) (scale ++ (move_code a c bytes ++ advance_code minus c))
+      let z = moved_most core bytes minus c in
+      unless_none n (4 * bytes + 43) (scale ++ (move_code a c bytes ++ moved))
       (omega (
         arith,
-        joined_words scale (move_code a c bytes ++ advance_code minus c),
-        joined_words (move_code a c bytes) (advance_code minus c),
+        joined_words scale (move_code a c bytes ++ moved),
+        joined_words (move_code a c bytes) moved,
         x,
         y,
         z,
       ))
 
-  pub pointers_most : (family : Family) (a b c : Location) (bytes size n : ℕ) → 2 ≤ bytes → n ≤ 8
-      → code_words (pointers_code family a b c bytes size n) ≤ 5 * bytes + 64
-  pointers_most (Combined op) a b c bytes size n some l =
+  pub pointers_most : (core : Core) (family : Family) (a b c : Location) (bytes size n : ℕ) → 2 ≤ bytes → n ≤ 8
+      → code_words (pointers_code core family a b c bytes size n) ≤ 5 * bytes + 64
+  pointers_most core (Combined op) a b c bytes size n some l =
       let x = (laws.elements a b c size).words_are in
       unless_none n (5 * bytes + 64) (elements_code a b c size) (omega (arith, x))
-  pointers_most (Compared r false) a b c bytes size n some l =
-      let x = compared_most r false a b c (compared_bytes r bytes) n l in
-      let y = few_compared r bytes some in omega (arith, x, y)
-  pointers_most (Compared r true) a b c bytes size n some l =
-      let x = compared_most r false b a c (compared_bytes r bytes) n l in
-      let y = few_compared r bytes some in omega (arith, x, y)
-  pointers_most Multiplied a b c bytes size n some l = omega arith
-  pointers_most (Shifted up) a b c bytes size n some l = omega arith
-  pointers_most (Divided r) a b c bytes size n some l = omega arith
+  pointers_most core (Compared r false) a b c bytes size n some l =
+      let x = compared_most r false a b c (related_bytes core r bytes) n l in
+      let y = few_related core r bytes some in omega (arith, x, y)
+  pointers_most core (Compared r true) a b c bytes size n some l =
+      let x = compared_most r false b a c (related_bytes core r bytes) n l in
+      let y = few_related core r bytes some in omega (arith, x, y)
+  pointers_most core Multiplied a b c bytes size n some l = omega arith
+  pointers_most core (Shifted up) a b c bytes size n some l = omega arith
+  pointers_most core (Divided r) a b c bytes size n some l = omega arith
 
-  pub pointer_binary_most : (p : PlainProgram) (op : BinOp) (slots : ℕ) (h : Homes) (to a b : Temp) (ty aty bty : PlainType)
+  pub pointer_binary_most : (core : Core) (p : PlainProgram) (op : BinOp) (slots : ℕ) (h : Homes) (to a b : Temp) (ty aty bty : PlainType)
       (n : ℕ) → IsPointerBinary p slots op to a b ty aty bty → n ≤ to.bytes
-      → code_words (pointer_binary (is_pointer aty) (is_pointer bty) p op aty bty (home h a) (home h b) (home h to)
+      → code_words (pointer_binary core (is_pointer aty) (is_pointer bty) p op aty bty (home h a) (home h b) (home h to)
       a.bytes b.bytes n) ≤ binary_words op ty aty bty
-  pointer_binary_most p op slots h to a b ty aty bty n i l = by_kinds (is_pointer aty) (is_pointer bty) refl refl where
+  pointer_binary_most core p op slots h to a b ty aty bty n i l = by_kinds (is_pointer aty) (is_pointer bty) refl refl where
     left_within : a.bytes ≤ widest (ty ∷ aty ∷ bty ∷ [])
     left_within = let e = i.left_bytes in omega (arith, e)
 
@@ -622,22 +682,22 @@ module _ (laws : WordLaws) where
         omega (arith, x, y)
 
     by_kinds : (x y : Bool) → is_pointer aty ≡ x → is_pointer bty ≡ y
-        → code_words (pointer_binary x y p op aty bty (home h a) (home h b) (home h to) a.bytes b.bytes n)
+        → code_words (pointer_binary core x y p op aty bty (home h a) (home h b) (home h to) a.bytes b.bytes n)
         ≤ binary_words op ty aty bty
     by_kinds true true d e =
         let t = (two_pointers op ty aty bty d e i.types).some in let u = i.left_bytes in let few = i.result.most in
-        let m = pointers_most (family_of op) (home h a) (home h b) (home h to) a.bytes (element_size p aty) n
+        let m = pointers_most core (family_of op) (home h a) (home h b) (home h to) a.bytes (element_size p aty) n
         (omega (arith, t, u)) (omega (arith, few, l)) in
-        in_row (pointers_code (family_of op) (home h a) (home h b) (home h to) a.bytes (element_size p aty) n)
+        in_row (pointers_code core (family_of op) (home h a) (home h b) (home h to) a.bytes (element_size p aty) n)
         (let w = left_within in omega (arith, m, w))
     by_kinds true false d e =
-        let m = offset_most (is_difference op) (is_signed bty) (home h a) (home h b) (home h to) a.bytes b.bytes
+        let m = offset_most core (is_difference op) (is_signed bty) (home h a) (home h b) (home h to) a.bytes b.bytes
         (element_size p aty) n in
-        in_row (offset_code (is_difference op) (is_signed bty) (home h a) (home h b) (home h to) a.bytes b.bytes (element_size p aty) n)
+        in_row (offset_code core (is_difference op) (is_signed bty) (home h a) (home h b) (home h to) a.bytes b.bytes (element_size p aty) n)
         (let w = left_within in omega (arith, m, w))
     by_kinds false true d e =
-        let m = offset_most false (is_signed aty) (home h b) (home h a) (home h to) b.bytes a.bytes (element_size p bty) n in
-        in_row (offset_code false (is_signed aty) (home h b) (home h a) (home h to) b.bytes a.bytes (element_size p bty) n)
+        let m = offset_most core false (is_signed aty) (home h b) (home h a) (home h to) b.bytes a.bytes (element_size p bty) n in
+        in_row (offset_code core false (is_signed aty) (home h b) (home h a) (home h to) b.bytes a.bytes (element_size p bty) n)
         (let w = right_within in omega (arith, m, w))
     by_kinds false false d e = omega arith
 
@@ -776,7 +836,7 @@ module _ (laws : WordLaws) where
 
   -- ---- operations on integers, with a fixed-point type, or on pointers
 
-  pub one_binary : (p : PlainProgram) (known : Option RightNumber) (telling : Option Told) (op : BinOp) (ty aty bty : PlainType) (mode : Mode) (slots : ℕ)
+  pub one_binary : (core : Core) (p : PlainProgram) (known : Option RightNumber) (telling : Option Told) (op : BinOp) (ty aty bty : PlainType) (mode : Mode) (slots : ℕ)
       (h : Homes) (to a b : Temp) (n : ℕ)
       → IsBinary (family_of op) slots to a b ty aty bty
       ⊎ (IsFixedBinary slots op to a b ty aty bty ⊎ IsPointerBinary p slots op to a b ty aty bty)
@@ -784,12 +844,12 @@ module _ (laws : WordLaws) where
       → code_words (by_kind (is_fixed aty || is_fixed bty)
       (fixed_binary telling op ty aty bty mode (home h a) (home h b) (home h to) a.bytes n)
       (by_kind (is_pointer aty || is_pointer bty)
-      (pointer_binary (is_pointer aty) (is_pointer bty) p op aty bty (home h a) (home h b) (home h to) a.bytes b.bytes n)
+      (pointer_binary core (is_pointer aty) (is_pointer bty) p op aty bty (home h a) (home h b) (home h to) a.bytes b.bytes n)
       (integer_binary known telling op (is_signed aty) (is_signed bty) (home h a) (home h b) (home h to) a.bytes n)))
       ≤ binary_words op ty aty bty
-  one_binary p known telling op ty aty bty mode slots h to a b n (inl i) l q =
+  one_binary core p known telling op ty aty bty mode slots h to a b n (inl i) l q =
       let own = fixed_binary telling op ty aty bty mode (home h a) (home h b) (home h to) a.bytes n in
-      let pointed = pointer_binary (is_pointer aty) (is_pointer bty) p op aty bty (home h a) (home h b) (home h to)
+      let pointed = pointer_binary core (is_pointer aty) (is_pointer bty) p op aty bty (home h a) (home h b) (home h to)
       a.bytes b.bytes n in
       let usual = integer_binary known telling op (is_signed aty) (is_signed bty) (home h a) (home h b) (home h to) a.bytes n in
       let most = binary_words op ty aty bty in
@@ -798,24 +858,24 @@ module _ (laws : WordLaws) where
       others_words (is_fixed aty || is_fixed bty) own (by_kind (is_pointer aty || is_pointer bty) pointed usual) most e
       (others_words (is_pointer aty || is_pointer bty) pointed usual most (no_pointer (family_of op) slots to a b ty aty bty i)
       (taking_most known telling op slots h to a b ty aty bty (is_signed aty) (is_signed bty) n i l same))
-  one_binary p known telling op ty aty bty mode slots h to a b n (inr (inl i)) l q =
+  one_binary core p known telling op ty aty bty mode slots h to a b n (inr (inl i)) l q =
       let own = fixed_binary telling op ty aty bty mode (home h a) (home h b) (home h to) a.bytes n in
-      let pointed = pointer_binary (is_pointer aty) (is_pointer bty) p op aty bty (home h a) (home h b) (home h to)
+      let pointed = pointer_binary core (is_pointer aty) (is_pointer bty) p op aty bty (home h a) (home h b) (home h to)
       a.bytes b.bytes n in
       let usual = integer_binary known telling op (is_signed aty) (is_signed bty) (home h a) (home h b) (home h to) a.bytes n in
       let most = binary_words op ty aty bty in
       own_words (is_fixed aty || is_fixed bty) own (by_kind (is_pointer aty || is_pointer bty) pointed usual) most
       (either_fixed aty bty i.types.fixed) (fixed_binary_most telling op ty aty bty mode slots h to a b n i l)
-  one_binary p known telling op ty aty bty mode slots h to a b n (inr (inr i)) l q =
+  one_binary core p known telling op ty aty bty mode slots h to a b n (inr (inr i)) l q =
       let own = fixed_binary telling op ty aty bty mode (home h a) (home h b) (home h to) a.bytes n in
-      let pointed = pointer_binary (is_pointer aty) (is_pointer bty) p op aty bty (home h a) (home h b) (home h to)
+      let pointed = pointer_binary core (is_pointer aty) (is_pointer bty) p op aty bty (home h a) (home h b) (home h to)
       a.bytes b.bytes n in
       let usual = integer_binary known telling op (is_signed aty) (is_signed bty) (home h a) (home h b) (home h to) a.bytes n in
       let most = binary_words op ty aty bty in
       others_words (is_fixed aty || is_fixed bty) own (by_kind (is_pointer aty || is_pointer bty) pointed usual) most
       (pointers_only op ty aty bty i.pointer i.types).0
       (own_words (is_pointer aty || is_pointer bty) pointed usual most i.pointer
-      (pointer_binary_most p op slots h to a b ty aty bty n i l))
+      (pointer_binary_most core p op slots h to a b ty aty bty n i l))
 
   pub one_unary : (op : UnOp) (ty : PlainType) (mode : Mode) (slots : ℕ) (h : Homes) (to a : Temp) (n : ℕ)
       → IsUnary slots to a ty ⊎ IsFixedUnary slots op to a ty → n ≤ to.bytes

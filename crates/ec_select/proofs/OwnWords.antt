@@ -10,6 +10,7 @@ use Rattle.ec_asm.specs.declared.pieces.Operator.{Operator}
 use Rattle.ec_asm.specs.declared.pieces.Operator.TheVariants.{Sum, Difference}
 use Rattle.ec_asm.specs.Items.{code_words}
 use Rattle.ec_asm.specs.Pieces.{compare_code}
+use Rattle.ec_space.specs.declared.Core.{Core}
 use Rattle.ec_core.specs.declared.expressions.BinOp.{BinOp}
 use Rattle.ec_core.specs.declared.expressions.BinOp.TheVariants.{Add, Sub, Mul, Div, Rem, And, Or, Xor, Lt, Gt, Le, Ge}
 use Rattle.ec_core.specs.declared.expressions.BinOp.TheVariants.{Eq, Ne, Shl, Shr}
@@ -441,46 +442,46 @@ module _ (laws : WordLaws) where
 
   -- ---- operators with a pointer
 
-  pointer_few : (p : PlainProgram) (op : BinOp) (slots : ℕ) (h : Homes) (to a b : Temp) (ty aty bty : PlainType)
+  pointer_few : (core : Core) (p : PlainProgram) (op : BinOp) (slots : ℕ) (h : Homes) (to a b : Temp) (ty aty bty : PlainType)
       (n : ℕ) → IsPointerBinary p slots op to a b ty aty bty → n ≤ to.bytes
-      → code_words (pointer_binary (is_pointer aty) (is_pointer bty) p op aty bty (home h a) (home h b) (home h to)
+      → code_words (pointer_binary core (is_pointer aty) (is_pointer bty) p op aty bty (home h a) (home h b) (home h to)
       a.bytes b.bytes n) ≤ 64 + 5 * widest (ty ∷ aty ∷ bty ∷ [])
-  pointer_few p op slots h to a b ty aty bty n i l = by_kinds (is_pointer aty) (is_pointer bty) refl refl where
+  pointer_few core p op slots h to a b ty aty bty n i l = by_kinds (is_pointer aty) (is_pointer bty) refl refl where
     by_kinds : (x y : Bool) → is_pointer aty ≡ x → is_pointer bty ≡ y
-        → code_words (pointer_binary x y p op aty bty (home h a) (home h b) (home h to) a.bytes b.bytes n)
+        → code_words (pointer_binary core x y p op aty bty (home h a) (home h b) (home h to) a.bytes b.bytes n)
         ≤ 64 + 5 * widest (ty ∷ aty ∷ bty ∷ [])
     by_kinds true true d e =
         let t = (two_pointers op ty aty bty d e i.types).some in let u = i.left_bytes in let few = i.result.most in
-        let m = pointers_most laws (family_of op) (home h a) (home h b) (home h to) a.bytes (element_size p aty) n
+        let m = pointers_most laws core (family_of op) (home h a) (home h b) (home h to) a.bytes (element_size p aty) n
         (omega (arith, t, u)) (omega (arith, few, l)) in
         omega (arith, m, u)
     by_kinds true false d e =
-        let m = offset_most laws (is_difference op) (is_signed bty) (home h a) (home h b) (home h to) a.bytes b.bytes
+        let m = offset_most laws core (is_difference op) (is_signed bty) (home h a) (home h b) (home h to) a.bytes b.bytes
         (element_size p aty) n in
         let u = i.left_bytes in omega (arith, m, u)
     by_kinds false true d e =
-        let m = offset_most laws false (is_signed aty) (home h b) (home h a) (home h to) b.bytes a.bytes (element_size p bty) n in
+        let m = offset_most laws core false (is_signed aty) (home h b) (home h a) (home h to) b.bytes a.bytes (element_size p bty) n in
         let u = i.right_bytes in omega (arith, m, u)
     by_kinds false false d e = omega arith
 
-  pointer_row : (p : PlainProgram) (op : BinOp) (mode : Mode) (slots : ℕ) (h : Homes) (to a b : Temp) (ty aty bty : PlainType)
+  pointer_row : (core : Core) (p : PlainProgram) (op : BinOp) (mode : Mode) (slots : ℕ) (h : Homes) (to a b : Temp) (ty aty bty : PlainType)
       (n : ℕ) → IsPointerBinary p slots op to a b ty aty bty → n ≤ to.bytes
-      → code_words (pointer_binary (is_pointer aty) (is_pointer bty) p op aty bty (home h a) (home h b) (home h to)
+      → code_words (pointer_binary core (is_pointer aty) (is_pointer bty) p op aty bty (home h a) (home h b) (home h to)
       a.bytes b.bytes n) ≤ most_in (shape_code (binary_shape op ty mode aty bty))
-  pointer_row p op mode slots h to a b ty aty bty n i l =
+  pointer_row core p op mode slots h to a b ty aty bty n i l =
       let wide = widest (ty ∷ aty ∷ bty ∷ []) in
-      let code = pointer_binary (is_pointer aty) (is_pointer bty) p op aty bty (home h a) (home h b) (home h to) a.bytes b.bytes n in
-      let x = pointer_binary_most laws p op slots h to a b ty aty bty n i l in
+      let code = pointer_binary core (is_pointer aty) (is_pointer bty) p op aty bty (home h a) (home h b) (home h to) a.bytes b.bytes n in
+      let x = pointer_binary_most laws core p op slots h to a b ty aty bty n i l in
       let y = wide_binary op ty aty bty in
       other_row op (are_exact op mode ty (aty ∷ bty ∷ [])) (counts_fixed ty || any_fixed (aty ∷ bty ∷ []))
       (counts_pointer ty || any_pointer (aty ∷ bty ∷ [])) wide (code_words code)
       (never_exact op mode ty aty bty (pointers_only op ty aty bty i.pointer i.types).0) (omega (arith, x, y))
-      (λ q. pointer_few p op slots h to a b ty aty bty n i l)
+      (λ q. pointer_few core p op slots h to a b ty aty bty n i l)
       (λ q. absurd (false≢true (sym q ∙ some_pointer ty aty bty i.pointer)))
 
   -- ---- binary operators, unary ones and conversions
 
-  pub binary_own : (p : PlainProgram) (known : Option RightNumber) (telling : Option Told) (op : BinOp) (ty aty bty : PlainType)
+  pub binary_own : (core : Core) (p : PlainProgram) (known : Option RightNumber) (telling : Option Told) (op : BinOp) (ty aty bty : PlainType)
       (mode : Mode) (slots : ℕ) (h : Homes) (to a b : Temp) (n : ℕ)
       → IsBinary (family_of op) slots to a b ty aty bty
       ⊎ (IsFixedBinary slots op to a b ty aty bty ⊎ IsPointerBinary p slots op to a b ty aty bty)
@@ -489,12 +490,12 @@ module _ (laws : WordLaws) where
       → code_words (by_kind (is_fixed aty || is_fixed bty)
       (fixed_binary telling op ty aty bty mode (home h a) (home h b) (home h to) a.bytes n)
       (by_kind (is_pointer aty || is_pointer bty)
-      (pointer_binary (is_pointer aty) (is_pointer bty) p op aty bty (home h a) (home h b) (home h to) a.bytes b.bytes n)
+      (pointer_binary core (is_pointer aty) (is_pointer bty) p op aty bty (home h a) (home h b) (home h to) a.bytes b.bytes n)
       (integer_binary known telling op (is_signed aty) (is_signed bty) (home h a) (home h b) (home h to) a.bytes n)))
       ≤ most_in (shape_code (binary_shape op ty mode aty bty))
-  binary_own p known telling op ty aty bty mode slots h to a b n (inl i) size l q =
+  binary_own core p known telling op ty aty bty mode slots h to a b n (inl i) size l q =
       let own = fixed_binary telling op ty aty bty mode (home h a) (home h b) (home h to) a.bytes n in
-      let pointed = pointer_binary (is_pointer aty) (is_pointer bty) p op aty bty (home h a) (home h b) (home h to)
+      let pointed = pointer_binary core (is_pointer aty) (is_pointer bty) p op aty bty (home h a) (home h b) (home h to)
       a.bytes b.bytes n in
       let usual = integer_binary known telling op (is_signed aty) (is_signed bty) (home h a) (home h b) (home h to) a.bytes n in
       let most = most_in (shape_code (binary_shape op ty mode aty bty)) in
@@ -503,24 +504,24 @@ module _ (laws : WordLaws) where
       other_kind (is_fixed aty || is_fixed bty) own (by_kind (is_pointer aty || is_pointer bty) pointed usual) most e
       (other_kind (is_pointer aty || is_pointer bty) pointed usual most (no_pointer (family_of op) slots to a b ty aty bty i)
       (integer_row known telling slots h to a b ty aty bty (is_signed aty) (is_signed bty) n size l op mode i same))
-  binary_own p known telling op ty aty bty mode slots h to a b n (inr (inl i)) size l q =
+  binary_own core p known telling op ty aty bty mode slots h to a b n (inr (inl i)) size l q =
       let own = fixed_binary telling op ty aty bty mode (home h a) (home h b) (home h to) a.bytes n in
-      let pointed = pointer_binary (is_pointer aty) (is_pointer bty) p op aty bty (home h a) (home h b) (home h to)
+      let pointed = pointer_binary core (is_pointer aty) (is_pointer bty) p op aty bty (home h a) (home h b) (home h to)
       a.bytes b.bytes n in
       let usual = integer_binary known telling op (is_signed aty) (is_signed bty) (home h a) (home h b) (home h to) a.bytes n in
       let most = most_in (shape_code (binary_shape op ty mode aty bty)) in
       own_kind (is_fixed aty || is_fixed bty) own (by_kind (is_pointer aty || is_pointer bty) pointed usual) most
       (either_fixed aty bty i.types.fixed) (fixed_binary_row telling mode slots h to a b ty aty bty n op i l)
-  binary_own p known telling op ty aty bty mode slots h to a b n (inr (inr i)) size l q =
+  binary_own core p known telling op ty aty bty mode slots h to a b n (inr (inr i)) size l q =
       let own = fixed_binary telling op ty aty bty mode (home h a) (home h b) (home h to) a.bytes n in
-      let pointed = pointer_binary (is_pointer aty) (is_pointer bty) p op aty bty (home h a) (home h b) (home h to)
+      let pointed = pointer_binary core (is_pointer aty) (is_pointer bty) p op aty bty (home h a) (home h b) (home h to)
       a.bytes b.bytes n in
       let usual = integer_binary known telling op (is_signed aty) (is_signed bty) (home h a) (home h b) (home h to) a.bytes n in
       let most = most_in (shape_code (binary_shape op ty mode aty bty)) in
       other_kind (is_fixed aty || is_fixed bty) own (by_kind (is_pointer aty || is_pointer bty) pointed usual) most
       (pointers_only op ty aty bty i.pointer i.types).0
       (own_kind (is_pointer aty || is_pointer bty) pointed usual most i.pointer
-      (pointer_row p op mode slots h to a b ty aty bty n i l))
+      (pointer_row core p op mode slots h to a b ty aty bty n i l))
 
   pub unary_own : (op : UnOp) (ty : PlainType) (mode : Mode) (slots : ℕ) (h : Homes) (to a : Temp) (n : ℕ)
       → IsUnary slots to a ty ⊎ IsFixedUnary slots op to a ty → n ≤ to.bytes

@@ -4,6 +4,7 @@ use Rattle.std.proofs.Common.{ap, arith, length, take, length-append}
 use Rattle.std.specs.Prelude.{if◌then◌else◌, Option, Some, None, slice_get}
 use Rattle.std.specs.List.{AllByRecursion}
 use Rattle.std.proofs.lemmas.List.{take_all}
+use Rattle.ec_space.specs.declared.Core.{Core}
 use Rattle.ec_space.specs.declared.space.Home.{Home}
 use Rattle.ec_space.specs.declared.space.Home.TheVariants.{Data as DataHome, Flash as FlashHome, Far as FarHome}
 use Rattle.ec_asm.specs.declared.items.AsmItem.TheVariants.{Label}
@@ -89,30 +90,30 @@ pub record ProgramWordLaws : Type 0 where
   pub routines : RoutineLaws
   pub startup : StartupHasWords
 
-module _ (laws : ProgramWordLaws) (p : PlainIrProgram) (valid : ValidIr p) (has : HasCode p) (in_place : AreInPlace p)
+module _ (laws : ProgramWordLaws) (core : Core) (p : PlainIrProgram) (valid : ValidIr p) (has : HasCode p) (in_place : AreInPlace p)
     (tables : ℕ → ℕ → Need) where
-  program_few : (most : ℕ) → code_words (functions_code p tables (length p.functions) ++ routines_code p tables) ≤ most
-      → code_words (program_code p tables) ≤ program_words + objects_weight p.objects + most
+  program_few : (most : ℕ) → code_words (functions_code core p tables (length p.functions) ++ routines_code core p tables) ≤ most
+      → code_words (program_code core p tables) ≤ program_words + objects_weight p.objects + most
   program_few most few =
       let start = startup_code (spans_of p) (function_label p.main) in
-      let rest = functions_code p tables (length p.functions) ++ routines_code p tables in
+      let rest = functions_code core p tables (length p.functions) ++ routines_code core p tables in
       let a = laws.startup (spans_of p) (function_label p.main) in
       let b = spans_few p.structs 0 p.objects in
       omega (arith, joined_words (Label entry_label ∷ []) (start ++ rest), joined_words start rest, a, b, few)
 
-  pub few_by_shapes : code_words (program_code p tables)
+  pub few_by_shapes : code_words (program_code core p tables)
       ≤ program_words + objects_weight p.objects + functions_words_by_shapes p.functions
   few_by_shapes =
       program_few (functions_words_by_shapes p.functions)
-      (shared_few laws.words laws.routines p has.results (counted p valid has in_place) tables (sizes_decide Use Shape))
+      (shared_few laws.words laws.routines core p has.results (counted p valid has in_place) tables (sizes_decide Use Shape))
 
-  pub few_alone : code_words (program_code p tables) ≤ program_words + objects_weight p.objects + functions_words p.functions
+  pub few_alone : code_words (program_code core p tables) ≤ program_words + objects_weight p.objects + functions_words p.functions
   few_alone =
       program_few (functions_words p.functions)
-      (shared_short laws.words laws.routines p has.results (counted p valid has in_place) tables (sizes_decide Use Shape))
+      (shared_short laws.words laws.routines core p has.results (counted p valid has in_place) tables (sizes_decide Use Shape))
 
 pub selections_have_words : ProgramWordLaws → SelectionsHaveWords
-selections_have_words laws p asm valid has in_place h = record {
-  by_shapes = rw h.items (few_by_shapes laws p valid has in_place h.tables);
-  alone = rw h.items (few_alone laws p valid has in_place h.tables);
+selections_have_words laws core p asm valid has in_place h = record {
+  by_shapes = rw h.items (few_by_shapes laws core p valid has in_place h.tables);
+  alone = rw h.items (few_alone laws core p valid has in_place h.tables);
 }

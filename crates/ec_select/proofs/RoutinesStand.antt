@@ -4,6 +4,7 @@ use Rattle.std.proofs.lemmas.Bool.{false≢true}
 use Rattle.std.specs.Prelude.{◌||◌, if◌then◌else◌, Option, Some, None, slice_get, All, Contains, IsSomeAnd}
 use Rattle.std.specs.List.{AllByRecursion}
 use Rattle.std.proofs.lemmas.List.Elements.{All-nil, All-cons, All-contains}
+use Rattle.ec_space.specs.declared.Core.{Core}
 use Rattle.ec_asm.specs.declared.items.AsmItem.{AsmItem}
 use Rattle.ec_asm.specs.Change.{Env}
 use Rattle.ec_asm.specs.Items.{HasAt}
@@ -101,7 +102,7 @@ module _ (parts : PartsStand) (e : Env) (us : List Use) where
       by_test true t z rest = by_once (shapes_told.one r s t) (stands_once us r) refl z
       by_test false t z rest = rest two.0 z two.2
 
-module _ (parts : PartsStand) (p : PlainIrProgram) (valid : ValidIr p) (has : HasCode p) (e : Env) (tables : ℕ → ℕ → Need)
+module _ (parts : PartsStand) (core : Core) (p : PlainIrProgram) (valid : ValidIr p) (has : HasCode p) (e : Env) (tables : ℕ → ℕ → Need)
     (f : ℕ) (g : PlainIrFunction) (is : slice_get p.functions f ≡ Some g) where
   abbrev Held : PlainIr → Type 0
   Held i = is_shaped i ≡ true → HasBody i
@@ -120,17 +121,17 @@ module _ (parts : PartsStand) (p : PlainIrProgram) (valid : ValidIr p) (has : Ha
       All-cons Calls i code (λ s. can_call (data_of p) has.results f (called_in g.code) g.slots i c.0 s) (all_call code c.1)
 
   -- an operation that calls a routine leaves its result as a number
-  pub routine_called : (i : PlainIr) (l : ℕ) → Contains g.code i → routine_of p tables i ≡ Some l → CanCall i
+  pub routine_called : (i : PlainIr) (l : ℕ) → Contains g.code i → routine_of core p tables i ≡ Some l → CanCall i
   routine_called i l there q = by_shape (is_shaped i) refl q
     where
       by_shape : (b : Bool) → is_shaped i ≡ b
-          → (if b then label_among (routines_begin p) (rows_of (program_uses p tables)) (shape_of i) else None) ≡ Some l → CanCall i
+          → (if b then label_among (routines_begin p) (rows_of (program_uses core p tables)) (shape_of i) else None) ≡ Some l → CanCall i
       by_shape true s z = (All-contains Calls g.code i (all_call g.code (has.functions f g is)) there) s
       by_shape false s z = absurd cc
 
   -- of its operations
-  pub routine_stands : (i : PlainIr) (l pc end : ℕ) → HasAt e (routines_code p tables) pc end → Contains g.code i
-      → routine_of p tables i ≡ Some l → HasRoutineOf e l i
+  pub routine_stands : (i : PlainIr) (l pc end : ℕ) → HasAt e (routines_code core p tables) pc end → Contains g.code i
+      → routine_of core p tables i ≡ Some l → HasRoutineOf e l i
   routine_stands i l pc end h there q = by_shape (is_shaped i) refl q
     where
       with_body : (s : is_shaped i ≡ true) → StandsSomewhere e (shape_routine l (shape_of i)) → HasRoutineOf e l i
@@ -147,9 +148,9 @@ module _ (parts : PartsStand) (p : PlainIrProgram) (valid : ValidIr p) (has : Ha
           subst (λ (b : Option (List AsmItem)). IsSomeAnd b (HasRoutine e l)) (sym body.1) r
 
       by_shape : (b : Bool) → is_shaped i ≡ b
-          → (if b then label_among (routines_begin p) (rows_of (program_uses p tables)) (shape_of i) else None) ≡ Some l
+          → (if b then label_among (routines_begin p) (rows_of (program_uses core p tables)) (shape_of i) else None) ≡ Some l
           → HasRoutineOf e l i
       by_shape true s z =
-          let us = program_uses p tables in
+          let us = program_uses core p tables in
           with_body s (label_found parts e us l (routines_begin p) (used_shapes us) (shape_of i) pc end z h)
       by_shape false s z = absurd cc

@@ -3,6 +3,7 @@ use Rattle.std.proofs.Common.{◌≡◌, ℕ, zero, suc, ◌+◌, ◌-◌, ◌<�
 use Rattle.std.proofs.Common.{subst, arith, map, length, get_or, append_assoc}
 use Rattle.std.specs.Prelude.{if◌then◌else◌}
 use Rattle.std.specs.List.{AllByRecursion}
+use Rattle.ec_space.specs.declared.Core.{Core}
 use Rattle.ec_core_shapes.specs.Shapes.{Shape, same_shape}
 use Rattle.ec_select_routines.specs.Sizes.{of_shape}
 use Rattle.ec_shapes.specs.Shapes.{has}
@@ -80,13 +81,13 @@ used_more us all rest u rows d e = e ∙ ap (λ (xs : List Use). map (row_of us)
 
 -- ---- uses
 
-pub one_use_more : (p : PlainProgram) (h : Homes) (n : ℕ) (i : PlainIr) (wanted wanted' : List ℕ) (code code' : List PlainIr)
-    (old new all : List Use) → wanted ≡ n ∷ wanted' → code ≡ i ∷ code' → new ≡ old ++ uses_of p h n i
-    → old ++ uses_in p h wanted code ≡ all → new ++ uses_in p h wanted' code' ≡ all
-one_use_more p h n i wanted wanted' code code' old new all e q more whole =
-    ap (λ (x : List Use). x ++ uses_in p h wanted' code') more
-    ∙ append_assoc old (uses_of p h n i) (uses_in p h wanted' code')
-    ∙ sym (λ j. old ++ uses_in p h (e j) (q j)) ∙ whole
+pub one_use_more : (core : Core) (p : PlainProgram) (h : Homes) (n : ℕ) (i : PlainIr) (wanted wanted' : List ℕ) (code code' : List PlainIr)
+    (old new all : List Use) → wanted ≡ n ∷ wanted' → code ≡ i ∷ code' → new ≡ old ++ uses_of core p h n i
+    → old ++ uses_in core p h wanted code ≡ all → new ++ uses_in core p h wanted' code' ≡ all
+one_use_more core p h n i wanted wanted' code code' old new all e q more whole =
+    ap (λ (x : List Use). x ++ uses_in core p h wanted' code') more
+    ∙ append_assoc old (uses_of core p h n i) (uses_in core p h wanted' code')
+    ∙ sym (λ j. old ++ uses_in core p h (e j) (q j)) ∙ whole
 
 -- ---- labels and routines
 
@@ -113,10 +114,10 @@ one_routine_more first k r rows rest old new whole d more h =
     ∙ ap (λ (xs : List Row). old ++ routines_among (first + k) xs) (sym d) ∙ h
 
 -- those of one function more
-pub one_function_more : (p : PlainIrProgram) (tables : ℕ → ℕ → Need) (f : ℕ) (g : PlainIrFunction) (all rest : List PlainIrFunction)
-    (old new whole : List Use) → all ≡ g ∷ rest → new ≡ old ++ function_uses p (tables f) f g
-    → old ++ uses_from p tables f all ≡ whole → new ++ uses_from p tables (f + 1) rest ≡ whole
-one_function_more p tables f g all rest old new whole d more h =
-    ap (λ (x : List Use). x ++ uses_from p tables (f + 1) rest) more
-    ∙ append_assoc old (function_uses p (tables f) f g) (uses_from p tables (f + 1) rest)
-    ∙ ap (λ (gs : List PlainIrFunction). old ++ uses_from p tables f gs) (sym d) ∙ h
+pub one_function_more : (core : Core) (p : PlainIrProgram) (tables : ℕ → ℕ → Need) (f : ℕ) (g : PlainIrFunction) (all rest : List PlainIrFunction)
+    (old new whole : List Use) → all ≡ g ∷ rest → new ≡ old ++ function_uses core p (tables f) f g
+    → old ++ uses_from core p tables f all ≡ whole → new ++ uses_from core p tables (f + 1) rest ≡ whole
+one_function_more core p tables f g all rest old new whole d more h =
+    ap (λ (x : List Use). x ++ uses_from core p tables (f + 1) rest) more
+    ∙ append_assoc old (function_uses core p (tables f) f g) (uses_from core p tables (f + 1) rest)
+    ∙ ap (λ (gs : List PlainIrFunction). old ++ uses_from core p tables f gs) (sym d) ∙ h

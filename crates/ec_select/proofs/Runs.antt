@@ -144,19 +144,19 @@ apart_at a b m n c d j q r left right below above = grind arith
 -- ---- the program
 
 module _ (laws : RunLaws) (p : PlainIrProgram) (asm : AsmProgram) (e : Env) (place scratch : ℕ → ℕ) (size low : ℕ)
-    (valid : ValidIr p) (has : HasCode p) (h : IsSelection p asm) (fits : Fits e size) (small : size < 65536)
+    (valid : ValidIr p) (has : HasCode p) (h : IsSelection e.core p asm) (fits : Fits e size) (small : size < 65536)
     (laid : IsLaidOut p asm e place scratch low) where
   abbrev code : List AsmItem
-  code = program_code p h.tables
+  code = program_code e.core p h.tables
 
   abbrev start : List AsmItem
   start = startup_code (spans_of p) (function_label p.main)
 
   abbrev functions : List AsmItem
-  functions = functions_code p h.tables (length p.functions)
+  functions = functions_code e.core p h.tables (length p.functions)
 
   abbrev routines : List AsmItem
-  routines = routines_code p h.tables
+  routines = routines_code e.core p h.tables
 
   stands : HasAt e code laid.code.begin laid.code.end
   stands = subst (λ (is : List AsmItem). HasAt e is laid.code.begin laid.code.end) h.items laid.code.stands
@@ -173,8 +173,8 @@ module _ (laws : RunLaws) (p : PlainIrProgram) (asm : AsmProgram) (e : Env) (pla
   -- ---- functions
 
   made_at : ℕ → Option PlainIrFunction → Made
-  made_at f None = made_with p (routine_of p h.tables) (h.tables f) f (record { code = []; slots = 0 })
-  made_at f (Some g) = made_with p (routine_of p h.tables) (h.tables f) f g
+  made_at f None = made_with p (routine_of e.core p h.tables) (h.tables f) f (record { code = []; slots = 0 })
+  made_at f (Some g) = made_with p (routine_of e.core p h.tables) (h.tables f) f g
 
   is_selected : (f : ℕ) (g : PlainIrFunction) → slice_get p.functions f ≡ Some g
       → IsSelected p e place function_label has.results f g (made_at f (slice_get p.functions f)) (scratch f)
@@ -182,9 +182,9 @@ module _ (laws : RunLaws) (p : PlainIrProgram) (asm : AsmProgram) (e : Env) (pla
   is_selected f g q =
       let both = both_stand in
       let two = parts_stand in
-      let piece = piece_at laws.parts e (λ k. code_of p (routine_of p h.tables) (h.tables k) k (slice_get p.functions k))
+      let piece = piece_at laws.parts e (λ k. code_of e.core p (routine_of e.core p h.tables) (h.tables k) k (slice_get p.functions k))
       (length p.functions) both.0 two.0 f two.1 (slice_get_within p.functions f g q) in
-      let here = subst (λ (o : Option PlainIrFunction). HasAt e (code_of p (routine_of p h.tables) (h.tables f) f o) piece.0 piece.1) q
+      let here = subst (λ (o : Option PlainIrFunction). HasAt e (code_of e.core p (routine_of e.core p h.tables) (h.tables f) f o) piece.0 piece.1) q
       piece.2 in
       subst (λ (o : Option PlainIrFunction). IsSelected p e place function_label has.results f g (made_at f o) (scratch f)) (sym q)
       (record {
@@ -195,8 +195,8 @@ module _ (laws : RunLaws) (p : PlainIrProgram) (asm : AsmProgram) (e : Env) (pla
         scratch_stands = laid.memory.stands f g q;
         objects_stand = laid.memory.objects f g q;
         stands = here;
-        routines = λ i l there label. routine_stands laws.parts p valid has e h.tables f g q i l two.0 laid.code.end two.2 there label;
-        callers = λ i l there label. routine_called laws.parts p valid has e h.tables f g q i l there label;
+        routines = λ i l there label. routine_stands laws.parts e.core p valid has e h.tables f g q i l two.0 laid.code.end two.2 there label;
+        callers = λ i l there label. routine_called laws.parts e.core p valid has e h.tables f g q i l there label;
       })
 
   are_selected : AreSelected p e place function_label
@@ -211,6 +211,7 @@ module _ (laws : RunLaws) (p : PlainIrProgram) (asm : AsmProgram) (e : Env) (pla
     work = laid.work.work;
     work_stands = laid.work.stands;
     work_apart = laid.work.apart;
+    page = laid.page;
   }
 
   -- ---- objects

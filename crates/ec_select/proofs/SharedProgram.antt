@@ -5,6 +5,7 @@ use Rattle.std.proofs.Common.{arith, inl, inr, map, take, length}
 use Rattle.std.specs.Prelude.{nat_le, Option, Some, None, if◌then◌else◌, slice_get}
 use Rattle.std.specs.List.{AllByRecursion}
 use Rattle.std.proofs.lemmas.List.{take_all}
+use Rattle.ec_space.specs.declared.Core.{Core}
 use Rattle.ec_asm.specs.declared.items.AsmItem.TheVariants.{Label}
 use Rattle.ec_asm.specs.Items.{chain, code_words}
 use Rattle.ec_core_shapes.specs.Shapes.{Shape, same_shape}
@@ -78,42 +79,42 @@ more_own w (g ∷ fs) (suc n) =
     let r = more_own w fs n in
     omega (arith, a, b, r)
 
-module _ (laws : WordLaws) (routine_laws : RoutineLaws) (p : PlainIrProgram) (results : ℕ → ℕ)
+module _ (laws : WordLaws) (routine_laws : RoutineLaws) (core : Core) (p : PlainIrProgram) (results : ℕ → ℕ)
     (each : (f : ℕ) (g : PlainIrFunction) → slice_get p.functions f ≡ Some g → IsCounted p results f g)
     (tables : ℕ → ℕ → Need) where
   abbrev linked : ℕ → PlainIrFunction → Linkage
-  linked f g = linkage_of p function_label f g.slots (made_with p (routine_of p tables) (tables f) f g)
+  linked f g = linkage_of core p function_label f g.slots (made_with p (routine_of core p tables) (tables f) f g)
 
   -- ---- the uses of functions
 
-  few_of : (f : ℕ) (g : PlainIrFunction) → IsCounted p results f g → AllByRecursion IsFew (function_uses p (tables f) f g)
+  few_of : (f : ℕ) (g : PlainIrFunction) → IsCounted p results f g → AllByRecursion IsFew (function_uses core p (tables f) f g)
   few_of f g h =
       uses_few laws routine_laws (data_of p) results f (called_in g.code) (linked f g) (width_of f g) (facts_of (tables f) g.code) g.code
       h.covered h.in_place h.bytes h.types
 
   few_from : (f : ℕ) (gs : List PlainIrFunction)
       → ((j : ℕ) (g : PlainIrFunction) → slice_get gs j ≡ Some g → slice_get p.functions (f + j) ≡ Some g)
-      → AllByRecursion IsFew (uses_from p tables f gs)
+      → AllByRecursion IsFew (uses_from core p tables f gs)
   few_from f [] there = tt
   few_from f (g ∷ gs) there =
       let z : f + 0 ≡ f = omega arith in
       let here : slice_get p.functions f ≡ Some g = subst (λ k. slice_get p.functions k ≡ Some g) z (there 0 g refl) in
       let next : (j : ℕ) (x : PlainIrFunction) → slice_get gs j ≡ Some x → slice_get p.functions (f + 1 + j) ≡ Some x =
       λ j x e. let q : f + suc j ≡ f + 1 + j = omega arith in subst (λ k. slice_get p.functions k ≡ Some x) q (there (suc j) x e) in
-      all_joined IsFew (function_uses p (tables f) f g) (uses_from p tables (f + 1) gs) (few_of f g (each f g here))
+      all_joined IsFew (function_uses core p (tables f) f g) (uses_from core p tables (f + 1) gs) (few_of f g (each f g here))
       (few_from (f + 1) gs next)
 
-  few : AllByRecursion IsFew (program_uses p tables)
+  few : AllByRecursion IsFew (program_uses core p tables)
   few =
       few_from 0 p.functions
       (λ j g e. let q : j ≡ 0 + j = omega arith in subst (λ k. slice_get p.functions k ≡ Some g) q e)
 
   shapes_from : (f : ℕ) (gs : List PlainIrFunction)
-      → map sizes.shape (uses_from p tables f gs) ≡ all_made op_shapes (all_code gs)
+      → map sizes.shape (uses_from core p tables f gs) ≡ all_made op_shapes (all_code gs)
   shapes_from f [] = refl
   shapes_from f (g ∷ gs) =
-      mapped (function_uses p (tables f) f g) (uses_from p tables (f + 1) gs)
-      ∙ ap (λ ss. ss ++ map sizes.shape (uses_from p tables (f + 1) gs))
+      mapped (function_uses core p (tables f) f g) (uses_from core p tables (f + 1) gs)
+      ∙ ap (λ ss. ss ++ map sizes.shape (uses_from core p tables (f + 1) gs))
       (shapes_in (data_of p) (linked f g) (facts_of (tables f) g.code) g.code)
       ∙ ap (λ ss. all_made op_shapes g.code ++ ss) (shapes_from (f + 1) gs)
       ∙ sym (made_joined g.code (all_code gs))
@@ -121,34 +122,34 @@ module _ (laws : WordLaws) (routine_laws : RoutineLaws) (p : PlainIrProgram) (re
   -- ---- the code of functions
 
   abbrev all_uses : List Use
-  all_uses = program_uses p tables
+  all_uses = program_uses core p tables
 
   abbrev cost_at : ℕ → Option PlainIrFunction → ℕ
   cost_at f None = 0
-  cost_at f (Some g) = total (cost all_uses) (function_uses p (tables f) f g)
+  cost_at f (Some g) = total (cost all_uses) (function_uses core p (tables f) f g)
 
   more_cost : (f : ℕ) (gs : List PlainIrFunction) (n : ℕ)
-      → total (cost all_uses) (uses_from p tables f (take (suc n) gs))
-      ≡ total (cost all_uses) (uses_from p tables f (take n gs)) + cost_at (f + n) (slice_get gs n)
+      → total (cost all_uses) (uses_from core p tables f (take (suc n) gs))
+      ≡ total (cost all_uses) (uses_from core p tables f (take n gs)) + cost_at (f + n) (slice_get gs n)
   more_cost f [] zero = refl
   more_cost f [] (suc n) = refl
   more_cost f (g ∷ gs) zero =
-      let a = total_joined (cost all_uses) (function_uses p (tables f) f g) [] in
+      let a = total_joined (cost all_uses) (function_uses core p (tables f) f g) [] in
       let z : f + 0 ≡ f = omega arith in
       let b : cost_at (f + 0) (Some g) ≡ cost_at f (Some g) = ap (λ j. cost_at j (Some g)) z in
       omega (arith, a, b)
   more_cost f (g ∷ gs) (suc n) =
-      let a = total_joined (cost all_uses) (function_uses p (tables f) f g) (uses_from p tables (f + 1) (take (suc n) gs)) in
-      let b = total_joined (cost all_uses) (function_uses p (tables f) f g) (uses_from p tables (f + 1) (take n gs)) in
+      let a = total_joined (cost all_uses) (function_uses core p (tables f) f g) (uses_from core p tables (f + 1) (take (suc n) gs)) in
+      let b = total_joined (cost all_uses) (function_uses core p (tables f) f g) (uses_from core p tables (f + 1) (take n gs)) in
       let r = more_cost (f + 1) gs n in
       let z : f + 1 + n ≡ f + suc n = omega arith in
       let c : cost_at (f + 1 + n) (slice_get gs n) ≡ cost_at (f + suc n) (slice_get gs n) =
       ap (λ j. cost_at j (slice_get gs n)) z in
-      sums (total (cost all_uses) (function_uses p (tables f) f g)) (total (cost all_uses) (uses_from p tables (f + 1) (take (suc n) gs)))
-      (total (cost all_uses) (uses_from p tables (f + 1) (take n gs))) (cost_at (f + 1 + n) (slice_get gs n))
+      sums (total (cost all_uses) (function_uses core p (tables f) f g)) (total (cost all_uses) (uses_from core p tables (f + 1) (take (suc n) gs)))
+      (total (cost all_uses) (uses_from core p tables (f + 1) (take n gs))) (cost_at (f + 1 + n) (slice_get gs n))
       (cost_at (f + suc n) (slice_get gs n))
-      (total (cost all_uses) (uses_from p tables f (take (suc (suc n)) (g ∷ gs))))
-      (total (cost all_uses) (uses_from p tables f (take (suc n) (g ∷ gs)))) a b r c
+      (total (cost all_uses) (uses_from core p tables f (take (suc (suc n)) (g ∷ gs))))
+      (total (cost all_uses) (uses_from core p tables f (take (suc n) (g ∷ gs)))) a b r c
     where
       sums : (x y z u v l r : ℕ) → l ≡ x + y → r ≡ x + z → y ≡ z + u → u ≡ v → l ≡ r + v
       sums x y z u v l r a b c d = omega (arith, a, b, c, d)
@@ -160,7 +161,7 @@ module _ (laws : WordLaws) (routine_laws : RoutineLaws) (p : PlainIrProgram) (re
       → op_shapes i ≡ []
       → code_words (own_code (data_of p) (home (linked f g).homes) (linked f g) before telling known need i) ≤ alone_words i) where
     function_few : (f : ℕ) (o : Option PlainIrFunction) → slice_get p.functions f ≡ o
-        → code_words (code_of p (routine_of p tables) (tables f) f o) ≤ sum_at alone_words o + cost_at f o
+        → code_words (code_of core p (routine_of core p tables) (tables f) f o) ≤ sum_at alone_words o + cost_at f o
     function_few f None e = omega arith
     function_few f (Some g) e =
         let h = each f g e in
@@ -173,19 +174,19 @@ module _ (laws : WordLaws) (routine_laws : RoutineLaws) (p : PlainIrProgram) (re
           a,
         )
 
-    functions_few : (n : ℕ) → code_words (functions_code p tables n)
-        ≤ total alone_words (all_code (take n p.functions)) + total (cost all_uses) (uses_from p tables 0 (take n p.functions))
+    functions_few : (n : ℕ) → code_words (functions_code core p tables n)
+        ≤ total alone_words (all_code (take n p.functions)) + total (cost all_uses) (uses_from core p tables 0 (take n p.functions))
     functions_few zero = omega arith
     functions_few (suc n) =
-        let body = λ (f : ℕ). code_of p (routine_of p tables) (tables f) f (slice_get p.functions f) in
+        let body = λ (f : ℕ). code_of core p (routine_of core p tables) (tables f) f (slice_get p.functions f) in
         let z : 0 + n ≡ n = omega arith in
         let same : cost_at (0 + n) (slice_get p.functions n) ≡ cost_at n (slice_get p.functions n) =
         ap (λ j. cost_at j (slice_get p.functions n)) z in
         sums (code_words (chain body n)) (code_words (body n)) (code_words (chain body (suc n)))
-        (total alone_words (all_code (take n p.functions))) (total (cost all_uses) (uses_from p tables 0 (take n p.functions)))
+        (total alone_words (all_code (take n p.functions))) (total (cost all_uses) (uses_from core p tables 0 (take n p.functions)))
         (sum_at alone_words (slice_get p.functions n)) (cost_at n (slice_get p.functions n)) (cost_at (0 + n) (slice_get p.functions n))
         (total alone_words (all_code (take (suc n) p.functions)))
-        (total (cost all_uses) (uses_from p tables 0 (take (suc n) p.functions)))
+        (total (cost all_uses) (uses_from core p tables 0 (take (suc n) p.functions)))
         (functions_few n) (function_few n (slice_get p.functions n) refl) (joined_words (chain body n) (body n))
         (more_own alone_words p.functions n) (more_cost 0 p.functions n) same
       where
@@ -214,35 +215,35 @@ module _ (laws : WordLaws) (routine_laws : RoutineLaws) (p : PlainIrProgram) (re
 
   -- functions and routines, where operations without a shape have at most so many words
   all_few : (alone_words : PlainIr → ℕ)
-      → code_words (functions_code p tables (length p.functions))
+      → code_words (functions_code core p tables (length p.functions))
       ≤ total alone_words (all_code (take (length p.functions) p.functions))
-      + total (cost all_uses) (uses_from p tables 0 (take (length p.functions) p.functions))
-      → code_words (functions_code p tables (length p.functions) ++ routines_code p tables)
+      + total (cost all_uses) (uses_from core p tables 0 (take (length p.functions) p.functions))
+      → code_words (functions_code core p tables (length p.functions) ++ routines_code core p tables)
       ≤ total alone_words (all_code p.functions) + decided_words same_shape sizes all_uses
   all_few alone_words few =
       let n = length p.functions in
       let whole : take n p.functions ≡ p.functions = take_all n p.functions (omega arith) in
       let routine = λ (s : Shape). if stands_once all_uses s then sizes.routine s else 0 in
-      let a = subst (λ fs. code_words (functions_code p tables n)
-      ≤ total alone_words (all_code fs) + total (cost all_uses) (uses_from p tables 0 fs)) whole few in
+      let a = subst (λ fs. code_words (functions_code core p tables n)
+      ≤ total alone_words (all_code fs) + total (cost all_uses) (uses_from core p tables 0 fs)) whole few in
       let b = routines_are all_uses (routines_begin p) (used_shapes all_uses) in
       let c = each_once routine all_uses in
-      sums (code_words (functions_code p tables n)) (code_words (routines_code p tables))
-      (code_words (functions_code p tables n ++ routines_code p tables)) (total alone_words (all_code p.functions))
+      sums (code_words (functions_code core p tables n)) (code_words (routines_code core p tables))
+      (code_words (functions_code core p tables n ++ routines_code core p tables)) (total alone_words (all_code p.functions))
       (total (cost all_uses) all_uses) (total routine (used_shapes all_uses))
       (total routine (shapes_of same_shape (map sizes.shape all_uses))) a b c
-      (joined_words (functions_code p tables n) (routines_code p tables))
+      (joined_words (functions_code core p tables n) (routines_code core p tables))
     where
       sums : (a b both own cost x y : ℕ) → a ≤ own + cost → b ≡ x → x ≡ y → both ≡ a + b → both ≤ own + (cost + y)
       sums a b both own cost x y h e q g = omega (arith, h, e, q, g)
 
   -- within what the operations count by shapes
   pub shared_few : SizesDecide Use Shape
-      → code_words (functions_code p tables (length p.functions) ++ routines_code p tables) ≤ functions_words_by_shapes p.functions
+      → code_words (functions_code core p tables (length p.functions) ++ routines_code core p tables) ≤ functions_words_by_shapes p.functions
   shared_few decide =
       let a = all_few own_words (functions_few own_words
       (λ f g h. alone_short laws routine_laws (data_of p) results f (called_in g.code) (linked f g) (width_of f g)) (length p.functions)) in
-      sums (code_words (functions_code p tables (length p.functions) ++ routines_code p tables)) (total own_words (all_code p.functions))
+      sums (code_words (functions_code core p tables (length p.functions) ++ routines_code core p tables)) (total own_words (all_code p.functions))
       (decided_words same_shape sizes all_uses) (by_shapes same_shape op_row (all_made op_shapes (all_code p.functions))) a
       (decided decide)
     where
@@ -253,7 +254,7 @@ module _ (laws : WordLaws) (routine_laws : RoutineLaws) (p : PlainIrProgram) (re
 
   own_from : (f : ℕ) (gs : List PlainIrFunction)
       → ((j : ℕ) (g : PlainIrFunction) → slice_get gs j ≡ Some g → slice_get p.functions (f + j) ≡ Some g)
-      → total unshaped_words (all_code gs) + total sizes.own (uses_from p tables f gs) ≤ functions_words gs
+      → total unshaped_words (all_code gs) + total sizes.own (uses_from core p tables f gs) ≤ functions_words gs
   own_from f [] there = omega arith
   own_from f (g ∷ gs) there =
       let z : f + 0 ≡ f = omega arith in
@@ -262,26 +263,26 @@ module _ (laws : WordLaws) (routine_laws : RoutineLaws) (p : PlainIrProgram) (re
       λ j x e. let q : f + suc j ≡ f + 1 + j = omega arith in subst (λ k. slice_get p.functions k ≡ Some x) q (there (suc j) x e) in
       let h = each f g here in
       sums (total unshaped_words g.code) (total unshaped_words (all_code gs)) (total unshaped_words (g.code ++ all_code gs))
-      (total sizes.own (function_uses p (tables f) f g)) (total sizes.own (uses_from p tables (f + 1) gs))
-      (total sizes.own (function_uses p (tables f) f g ++ uses_from p tables (f + 1) gs)) (operations_words g.code)
+      (total sizes.own (function_uses core p (tables f) f g)) (total sizes.own (uses_from core p tables (f + 1) gs))
+      (total sizes.own (function_uses core p (tables f) f g ++ uses_from core p tables (f + 1) gs)) (operations_words g.code)
       (functions_words gs)
       (own_sum laws routine_laws (data_of p) results f (called_in g.code) (linked f g) (width_of f g) (facts_of (tables f) g.code)
       g.code h.covered h.in_place h.bytes h.types)
       (own_from (f + 1) gs next) (total_joined unshaped_words g.code (all_code gs))
-      (total_joined sizes.own (function_uses p (tables f) f g) (uses_from p tables (f + 1) gs))
+      (total_joined sizes.own (function_uses core p (tables f) f g) (uses_from core p tables (f + 1) gs))
     where
       sums : (a b both x y uses u v : ℕ) → a + x ≤ u → b + y ≤ v → both ≡ a + b → uses ≡ x + y → both + uses ≤ u + v
       sums a b both x y uses u v h g e q = omega (arith, h, g, e, q)
 
   pub shared_short : SizesDecide Use Shape
-      → code_words (functions_code p tables (length p.functions) ++ routines_code p tables) ≤ functions_words p.functions
+      → code_words (functions_code core p tables (length p.functions) ++ routines_code core p tables) ≤ functions_words p.functions
   shared_short decide =
       let a = all_few unshaped_words (functions_few unshaped_words
       (λ f g h. alone_op laws routine_laws (data_of p) results f (called_in g.code) (linked f g) (width_of f g)) (length p.functions)) in
       let b = own_from 0 p.functions
       (λ j g e. let q : j ≡ 0 + j = omega arith in subst (λ k. slice_get p.functions k ≡ Some g) q e) in
       let c = (decide same_shape sizes all_uses shapes_told).short in
-      sums (code_words (functions_code p tables (length p.functions) ++ routines_code p tables))
+      sums (code_words (functions_code core p tables (length p.functions) ++ routines_code core p tables))
       (total unshaped_words (all_code p.functions)) (decided_words same_shape sizes all_uses) (total sizes.own all_uses)
       (functions_words p.functions) a b c
     where

@@ -59,19 +59,19 @@ same_routine l (unary_op op ty mode to a) s e = refl
 same_routine l (conversion to ty mode a aty) s e = refl
 same_routine l i s e = absurd cc
 
-no_use : (p : PlainProgram) (k : Linkage) (m : ℕ) (i : PlainIr) → op_shapes i ≡ [] → uses_of p k.homes m i ≡ []
+no_use : (p : PlainProgram) (k : Linkage) (m : ℕ) (i : PlainIr) → op_shapes i ≡ [] → uses_of k.core p k.homes m i ≡ []
 no_use p k m i e = by_test (is_shaped i) (ap has_some e) where
-  by_test : (x : Bool) → x ≡ false → (if x then use_of p k.homes m i ∷ [] else []) ≡ []
+  by_test : (x : Bool) → x ≡ false → (if x then use_of k.core p k.homes m i ∷ [] else []) ≡ []
   by_test true q = absurd (false≢true (sym q))
   by_test false q = refl
 
 one_use : (p : PlainProgram) (k : Linkage) (at : ℕ → Need) (need : Need) (i : PlainIr) (s : Shape) → op_shapes i ≡ s ∷ []
-    → uses_of p k.homes (wanted_behind at need i) i ≡ use_of p k.homes (result_wanted need i) i ∷ []
+    → uses_of k.core p k.homes (wanted_behind at need i) i ≡ use_of k.core p k.homes (result_wanted need i) i ∷ []
 one_use p k at need i s e =
     by_test (is_shaped i) (ap has_some e) (wanted_behind at need i)
-    ∙ ap (λ n. use_of p k.homes n i ∷ []) (behind_is at need i s e)
+    ∙ ap (λ n. use_of k.core p k.homes n i ∷ []) (behind_is at need i s e)
   where
-    by_test : (x : Bool) → x ≡ true → (m : ℕ) → (if x then use_of p k.homes m i ∷ [] else []) ≡ use_of p k.homes m i ∷ []
+    by_test : (x : Bool) → x ≡ true → (m : ℕ) → (if x then use_of k.core p k.homes m i ∷ [] else []) ≡ use_of k.core p k.homes m i ∷ []
     by_test true q m = refl
     by_test false q m = absurd (false≢true q)
 
@@ -105,17 +105,17 @@ linked_few None c own call w false t h g = g
 module _ (laws : WordLaws) (routine_laws : RoutineLaws) (p : PlainProgram) (results : ℕ → ℕ) (f : ℕ) (called : List ℕ)
     (k : Linkage) (width_is : (k.homes.width ≡ 2) ⊎ (k.homes.width ≡ 4)) where
   use_few : (need : Need) (i : PlainIr) (s : Shape) → IsCovered p results f called k.slots i → IsInPlace i → HasTypeBytes i
-      → HasOperandTypes i → op_shapes i ≡ s ∷ [] → IsFew (use_of p k.homes (result_wanted need i) i)
+      → HasOperandTypes i → op_shapes i ≡ s ∷ [] → IsFew (use_of k.core p k.homes (result_wanted need i) i)
   use_few need i s h q b t e =
       let same : s ≡ shape_of i = sym (is_shape i s e) in
       let n = result_wanted need i in
-      let x = alike p results f called k.slots (home k.homes) (linkage (alone k.homes)) k None None None n nothing (kept_need need i) i s
-      h t e in
+      let x = alike p results f called k.slots (home k.homes) (linkage (alone k.core k.homes)) k None None None n nothing (kept_need need i) i s
+      refl h t e in
       let y = own_within laws p results f called k width_is None None None need i s h q b e in
       let z = routine_within routine_laws p results f called k.slots 0 i s h b e in
       record {
-        own = subst (λ r. code_words (own_items p k.homes n i) ≤ shape_most r) same
-            (chain_of (code_words (own_items p k.homes n i)) (code_words (own_code p (home k.homes) k None None None need i))
+        own = subst (λ r. code_words (own_items k.core p k.homes n i) ≤ shape_most r) same
+            (chain_of (code_words (own_items k.core p k.homes n i)) (code_words (own_code p (home k.homes) k None None None need i))
             (shape_most s) x y);
         call = subst (λ r. code_words (called_code (home k.homes) 0 n i) ≤ shape_call r) same
             (call_within routine_laws.calls (home k.homes) 0 n i s b e (wanted_few need i s e));
@@ -134,19 +134,19 @@ module _ (laws : WordLaws) (routine_laws : RoutineLaws) (p : PlainProgram) (resu
       own_most laws p results f called k width_is before telling known need (kept_need need i) i h q b e
 
   uses_few_one : (at : ℕ → Need) (need : Need) (i : PlainIr) → IsCovered p results f called k.slots i → IsInPlace i → HasTypeBytes i
-      → HasOperandTypes i → AllByRecursion IsFew (uses_of p k.homes (wanted_behind at need i) i)
+      → HasOperandTypes i → AllByRecursion IsFew (uses_of k.core p k.homes (wanted_behind at need i) i)
   uses_few_one at need i h q b t = by_shape (op_shapes i) refl where
-    by_shape : (ss : List Shape) → op_shapes i ≡ ss → AllByRecursion IsFew (uses_of p k.homes (wanted_behind at need i) i)
+    by_shape : (ss : List Shape) → op_shapes i ≡ ss → AllByRecursion IsFew (uses_of k.core p k.homes (wanted_behind at need i) i)
     by_shape [] e = subst (AllByRecursion IsFew) (sym (no_use p k (wanted_behind at need i) i e)) tt
     by_shape (s ∷ []) e = subst (AllByRecursion IsFew) (sym (one_use p k at need i s e)) (use_few need i s h q b t e, tt)
     by_shape (s ∷ (r ∷ ss)) e = absurd (one_at_most i s r ss e)
 
   pub uses_few : (at : Facts) (code : List PlainIr) → AreCovered p results f called k.slots code → AllByRecursion IsInPlace code
       → AllByRecursion HasTypeBytes code → AllByRecursion HasOperandTypes code
-      → AllByRecursion IsFew (uses_in p k.homes (wanted_bytes at code) code)
+      → AllByRecursion IsFew (uses_in k.core p k.homes (wanted_bytes at code) code)
   uses_few at [] h q b t = tt
   uses_few at (i ∷ code) h q b t =
-      all_joined IsFew (uses_of p k.homes (wanted_behind at.needed (needs at code) i) i) (uses_in p k.homes (wanted_bytes at code) code)
+      all_joined IsFew (uses_of k.core p k.homes (wanted_behind at.needed (needs at code) i) i) (uses_in k.core p k.homes (wanted_bytes at code) code)
       (uses_few_one at.needed (needs at code) i h.0 q.0 b.0 t.0) (uses_few at code h.1 q.1 b.1 t.1)
 
   -- or has at most the words that it may have alone, and one with a shape leaves them to its use
@@ -164,7 +164,7 @@ module _ (laws : WordLaws) (routine_laws : RoutineLaws) (p : PlainProgram) (resu
 
   own_sum_one : (at : ℕ → Need) (need : Need) (i : PlainIr) → IsCovered p results f called k.slots i → IsInPlace i → HasTypeBytes i
       → HasOperandTypes i
-      → unshaped_words i + total sizes.own (uses_of p k.homes (wanted_behind at need i) i) ≤ op_words i
+      → unshaped_words i + total sizes.own (uses_of k.core p k.homes (wanted_behind at need i) i) ≤ op_words i
   own_sum_one at need i h q b t = by_shape (op_shapes i) refl where
     not_shaped : (x : Bool) → x ≡ false → (if x then 0 else op_words i) + 0 ≤ op_words i
     not_shaped true e = omega arith
@@ -178,31 +178,31 @@ module _ (laws : WordLaws) (routine_laws : RoutineLaws) (p : PlainProgram) (resu
     chain_of x y z h g = omega (arith, h, g)
 
     by_shape : (ss : List Shape) → op_shapes i ≡ ss
-        → unshaped_words i + total sizes.own (uses_of p k.homes (wanted_behind at need i) i) ≤ op_words i
+        → unshaped_words i + total sizes.own (uses_of k.core p k.homes (wanted_behind at need i) i) ≤ op_words i
     by_shape [] e =
         subst (λ us. unshaped_words i + total sizes.own us ≤ op_words i) (sym (no_use p k (wanted_behind at need i) i e))
         (not_shaped (is_shaped i) (ap has_some e))
     by_shape (s ∷ []) e =
         let n = result_wanted need i in
-        let x = alike p results f called k.slots (home k.homes) (linkage (alone k.homes)) k None None None n nothing (kept_need need i) i s
-        h t e in
+        let x = alike p results f called k.slots (home k.homes) (linkage (alone k.core k.homes)) k None None None n nothing (kept_need need i) i s
+        refl h t e in
         let y = op_most laws p results f called k width_is None None None need (kept_need need i) i h q b in
         subst (λ us. unshaped_words i + total sizes.own us ≤ op_words i) (sym (one_use p k at need i s e))
-        (shaped (is_shaped i) (code_words (own_items p k.homes n i)) (ap has_some e)
-        (chain_of (code_words (own_items p k.homes n i)) (code_words (own_code p (home k.homes) k None None None need i)) (op_words i) x y))
+        (shaped (is_shaped i) (code_words (own_items k.core p k.homes n i)) (ap has_some e)
+        (chain_of (code_words (own_items k.core p k.homes n i)) (code_words (own_code p (home k.homes) k None None None need i)) (op_words i) x y))
     by_shape (s ∷ (r ∷ ss)) e = absurd (one_at_most i s r ss e)
 
   pub own_sum : (at : Facts) (code : List PlainIr) → AreCovered p results f called k.slots code → AllByRecursion IsInPlace code
       → AllByRecursion HasTypeBytes code → AllByRecursion HasOperandTypes code
-      → total unshaped_words code + total sizes.own (uses_in p k.homes (wanted_bytes at code) code) ≤ operations_words code
+      → total unshaped_words code + total sizes.own (uses_in k.core p k.homes (wanted_bytes at code) code) ≤ operations_words code
   own_sum at [] h q b t = omega arith
   own_sum at (i ∷ code) h q b t =
       let m = wanted_behind at.needed (needs at code) i in
-      sums (unshaped_words i) (total unshaped_words code) (total sizes.own (uses_of p k.homes m i))
-      (total sizes.own (uses_in p k.homes (wanted_bytes at code) code))
-      (total sizes.own (uses_of p k.homes m i ++ uses_in p k.homes (wanted_bytes at code) code)) (op_words i) (operations_words code)
+      sums (unshaped_words i) (total unshaped_words code) (total sizes.own (uses_of k.core p k.homes m i))
+      (total sizes.own (uses_in k.core p k.homes (wanted_bytes at code) code))
+      (total sizes.own (uses_of k.core p k.homes m i ++ uses_in k.core p k.homes (wanted_bytes at code) code)) (op_words i) (operations_words code)
       (own_sum_one at.needed (needs at code) i h.0 q.0 b.0 t.0) (own_sum at code h.1 q.1 b.1 t.1)
-      (total_joined sizes.own (uses_of p k.homes m i) (uses_in p k.homes (wanted_bytes at code) code))
+      (total_joined sizes.own (uses_of k.core p k.homes m i) (uses_in k.core p k.homes (wanted_bytes at code) code))
     where
       sums : (a b x y both u v : ℕ) → a + x ≤ u → b + y ≤ v → both ≡ x + y → a + b + both ≤ u + v
       sums a b x y both u v h g e = omega (arith, h, g, e)
@@ -216,7 +216,7 @@ module _ (laws : WordLaws) (routine_laws : RoutineLaws) (p : PlainProgram) (resu
     one_few : (at : ℕ → Need) (before telling : Option Told) (known : Option RightNumber) (need : Need) (i : PlainIr)
         → IsCovered p results f called k.slots i → IsInPlace i → HasTypeBytes i → HasOperandTypes i
         → code_words (op_code p (home k.homes) k before telling known need i)
-        ≤ alone_words i + total (cost us) (uses_of p k.homes (wanted_behind at need i) i)
+        ≤ alone_words i + total (cost us) (uses_of k.core p k.homes (wanted_behind at need i) i)
     one_few at before telling known need i h q b t = by_shape (op_shapes i) refl where
       n : ℕ
       n = result_wanted need i
@@ -247,20 +247,20 @@ module _ (laws : WordLaws) (routine_laws : RoutineLaws) (p : PlainProgram) (resu
       at_most x y z e h = omega (arith, e, h)
 
       by_shape : (ss : List Shape) → op_shapes i ≡ ss → code_words (op_code p (home k.homes) k before telling known need i)
-          ≤ alone_words i + total (cost us) (uses_of p k.homes (wanted_behind at need i) i)
+          ≤ alone_words i + total (cost us) (uses_of k.core p k.homes (wanted_behind at need i) i)
       by_shape [] e =
           let own = own_code p (home k.homes) k before telling known need i in
           let calls = λ (l : ℕ). called_code (home k.homes) l (result_wanted need i) i in
-          let most = alone_words i + total (cost us) (uses_of p k.homes (wanted_behind at need i) i) in
+          let most = alone_words i + total (cost us) (uses_of k.core p k.homes (wanted_behind at need i) i) in
           subst (λ o. code_words (linked_code o calls own) ≤ most) (sym (unrouted (ap has_some e)))
-          (more (code_words own) (alone_words i) (total (cost us) (uses_of p k.homes (wanted_behind at need i) i))
+          (more (code_words own) (alone_words i) (total (cost us) (uses_of k.core p k.homes (wanted_behind at need i) i))
           (short before telling known need i h q b e))
       by_shape (s ∷ []) e =
           let own = own_code p (home k.homes) k before telling known need i in
           let calls = λ (l : ℕ). called_code (home k.homes) l (result_wanted need i) i in
-          let u = use_of p k.homes (result_wanted need i) i in
-          let x = alike p results f called k.slots (home k.homes) k (linkage (alone k.homes)) before telling known
-          (result_wanted need i) (kept_need need i) nothing i s h t e in
+          let u = use_of k.core p k.homes (result_wanted need i) i in
+          let x = alike p results f called k.slots (home k.homes) k (linkage (alone k.core k.homes)) before telling known
+          (result_wanted need i) (kept_need need i) nothing i s refl h t e in
           let few = linked_few (k.routine_of i) calls own u.call u.own (stands_once us (shape_of i)) (routed (ap has_some e))
           (λ l. at_most (code_words (calls l)) u.call u.call (call_alike (home k.homes) l (result_wanted need i) i) (omega arith)) x in
           subst (λ vs. code_words (op_code p (home k.homes) k before telling known need i) ≤ alone_words i + total (cost us) vs)
@@ -271,19 +271,19 @@ module _ (laws : WordLaws) (routine_laws : RoutineLaws) (p : PlainProgram) (resu
     pub ops_few : (at : Facts) (before : Option Told) (code : List PlainIr) → AreCovered p results f called k.slots code
         → AllByRecursion IsInPlace code → AllByRecursion HasTypeBytes code → AllByRecursion HasOperandTypes code
         → code_words (ops_code p (home k.homes) k at before code)
-        ≤ total alone_words code + total (cost us) (uses_in p k.homes (wanted_bytes at code) code)
+        ≤ total alone_words code + total (cost us) (uses_in k.core p k.homes (wanted_bytes at code) code)
     ops_few at before [] h q b t = omega arith
     ops_few at before (i ∷ code) h q b t =
         let next = tells_next at i code in
         let m = wanted_behind at.needed (needs at code) i in
         let here = op_code p (home k.homes) k before next (at.known (i ∷ code)) (needs at code) i in
         let others = ops_code p (home k.homes) k at next code in
-        sums (code_words here) (code_words others) (alone_words i) (total alone_words code) (total (cost us) (uses_of p k.homes m i))
-        (total (cost us) (uses_in p k.homes (wanted_bytes at code) code)) (code_words (here ++ others))
-        (total (cost us) (uses_of p k.homes m i ++ uses_in p k.homes (wanted_bytes at code) code))
+        sums (code_words here) (code_words others) (alone_words i) (total alone_words code) (total (cost us) (uses_of k.core p k.homes m i))
+        (total (cost us) (uses_in k.core p k.homes (wanted_bytes at code) code)) (code_words (here ++ others))
+        (total (cost us) (uses_of k.core p k.homes m i ++ uses_in k.core p k.homes (wanted_bytes at code) code))
         (one_few at.needed before next (at.known (i ∷ code)) (needs at code) i h.0 q.0 b.0 t.0)
         (ops_few at next code h.1 q.1 b.1 t.1) (joined_words here others)
-        (total_joined (cost us) (uses_of p k.homes m i) (uses_in p k.homes (wanted_bytes at code) code))
+        (total_joined (cost us) (uses_of k.core p k.homes m i) (uses_in k.core p k.homes (wanted_bytes at code) code))
       where
         sums : (a b x y c d both cost : ℕ) → a ≤ x + c → b ≤ y + d → both ≡ a + b → cost ≡ c + d → both ≤ x + y + cost
         sums a b x y c d both cost h g e q = omega (arith, h, g, e, q)
@@ -294,23 +294,23 @@ pub mapped : (us vs : List Use) → map sizes.shape (us ++ vs) ≡ map sizes.sha
 mapped [] vs = refl
 mapped (u ∷ us) vs = ap (λ ss. shape_of u.operation ∷ ss) (mapped us vs)
 
-shapes_one : (p : PlainProgram) (k : Linkage) (m : ℕ) (i : PlainIr) → map sizes.shape (uses_of p k.homes m i) ≡ op_shapes i
+shapes_one : (p : PlainProgram) (k : Linkage) (m : ℕ) (i : PlainIr) → map sizes.shape (uses_of k.core p k.homes m i) ≡ op_shapes i
 shapes_one p k m i = by_shape (op_shapes i) refl where
-  by_shape : (ss : List Shape) → op_shapes i ≡ ss → map sizes.shape (uses_of p k.homes m i) ≡ op_shapes i
+  by_shape : (ss : List Shape) → op_shapes i ≡ ss → map sizes.shape (uses_of k.core p k.homes m i) ≡ op_shapes i
   by_shape [] e = ap (map sizes.shape) (no_use p k m i e) ∙ sym e
   by_shape (s ∷ []) e = by_test (is_shaped i) (ap has_some e) ∙ ap (λ r. r ∷ []) (is_shape i s e) ∙ sym e where
-    by_test : (x : Bool) → x ≡ true → map sizes.shape (if x then use_of p k.homes m i ∷ [] else []) ≡ shape_of i ∷ []
+    by_test : (x : Bool) → x ≡ true → map sizes.shape (if x then use_of k.core p k.homes m i ∷ [] else []) ≡ shape_of i ∷ []
     by_test true q = refl
     by_test false q = absurd (false≢true q)
   by_shape (s ∷ (r ∷ ss)) e = absurd (one_at_most i s r ss e)
 
 pub shapes_in : (p : PlainProgram) (k : Linkage) (at : Facts) (code : List PlainIr)
-    → map sizes.shape (uses_in p k.homes (wanted_bytes at code) code) ≡ all_made op_shapes code
+    → map sizes.shape (uses_in k.core p k.homes (wanted_bytes at code) code) ≡ all_made op_shapes code
 shapes_in p k at [] = refl
 shapes_in p k at (i ∷ code) =
     let m = wanted_behind at.needed (needs at code) i in
-    mapped (uses_of p k.homes m i) (uses_in p k.homes (wanted_bytes at code) code)
-    ∙ ap (λ ss. ss ++ map sizes.shape (uses_in p k.homes (wanted_bytes at code) code)) (shapes_one p k m i)
+    mapped (uses_of k.core p k.homes m i) (uses_in k.core p k.homes (wanted_bytes at code) code)
+    ∙ ap (λ ss. ss ++ map sizes.shape (uses_in k.core p k.homes (wanted_bytes at code) code)) (shapes_one p k m i)
     ∙ ap (λ ss. op_shapes i ++ ss) (shapes_in p k at code)
 
 pub made_joined : (xs ys : List PlainIr) → all_made op_shapes (xs ++ ys) ≡ all_made op_shapes xs ++ all_made op_shapes ys

@@ -22,11 +22,11 @@ use Rattle.ec_select_operations.specs.Code.{Linkage, operation_code, result_want
 use Rattle.ec_select_operations.specs.Homes.{home}
 use Rattle.ec_select_operations.specs.Needs.{Need, wanted}
 use Rattle.ec_select_operations.specs.Places.{object_location}
-use Rattle.ec_select_operations.specs.Pointers.{home_of}
+use Rattle.ec_select_operations.specs.Pointers.{kept_in}
 use Rattle.ec_select_functions.specs.Covered.{IsCovered}
 use Rattle.ec_select.specs.InPlace.{IsInPlace}
-use Rattle.ec_select.proofs.OperationWords.{WordLaws, move_words, addressed_most, load_most, bank_most, tested_most, call_most}
-use Rattle.ec_select.proofs.OperationWords.{return_most, one_binary, one_unary, one_conversion}
+use Rattle.ec_select.proofs.OperationWords.{WordLaws, move_words, addressed_most, member_most, load_most, bank_most, tested_most}
+use Rattle.ec_select.proofs.OperationWords.{call_most, return_most, one_binary, one_unary, one_conversion}
 use Rattle.ec_select.proofs.OwnWords.{most_in, binary_own, unary_own, conversion_own}
 use Rattle.ec_select.proofs.PortItems.{point_words, in_words_most, out_words_most}
 use Rattle.ec_select.proofs.Words.{copy_words_most}
@@ -142,7 +142,7 @@ module _ (laws : WordLaws) (p : PlainProgram) (results : ℕ → ℕ) (f : ℕ) 
   use_most told telling known need kept (copy to from) h q b =
       let x = move_words (home k.homes from) (home k.homes to) (wanted need to) in omega (arith, x)
   use_most told telling known need kept (load_object t o offset) h q b =
-      let x = bank_most laws (home_of p o) p.objects o offset (home k.homes t) t.bytes h.0.some in omega (arith, x)
+      let x = bank_most laws k.core (kept_in p o) p.objects o offset (home k.homes t) t.bytes h.0.some in omega (arith, x)
   use_most told telling known need kept (store_object o offset t) h q b =
       let x = copy_words_most (home k.homes t) (object_location p.objects o offset) t.bytes in omega (arith, x)
   use_most told telling known need kept (binary_op op ty mode to a aty c bty) h q b =
@@ -150,7 +150,7 @@ module _ (laws : WordLaws) (p : PlainProgram) (results : ℕ → ℕ) (f : ℕ) 
       let i = binary_op op ty mode to a aty c bty in
       at_most (code_words (operation_code p (home k.homes) k told telling known (wanted need to) kept i))
       (most_in (shape_code s)) (own_in (shape_code s) + total shape_most (shapes_with (shape_code s) s))
-      (binary_own laws p known telling op ty aty bty mode k.slots k.homes to a c (wanted need to) h b.0 (omega arith) q)
+      (binary_own laws k.core p known telling op ty aty bty mode k.slots k.homes to a c (wanted need to) h b.0 (omega arith) q)
       (shape_use (shape_code s) s refl)
   use_most told telling known need kept (unary_op op ty mode to a) h q b =
       let s = unary_shape op ty mode ty in
@@ -173,11 +173,11 @@ module _ (laws : WordLaws) (p : PlainProgram) (results : ℕ → ℕ) (f : ℕ) 
   use_most told telling known need kept (return_from from) h q b =
       let x = return_most laws (home k.homes) k.is_main from in omega (arith, x)
   use_most told telling known need kept (address t o offset) h q b =
-      let x = addressed_most laws p o offset (home k.homes t) t.bytes (wanted need t) h.size in omega (arith, x)
+      let x = addressed_most laws k.core p o offset (home k.homes t) t.bytes (wanted need t) h.size in omega (arith, x)
   use_most told telling known need kept (field ptr space offset) h q b =
-      let x = (laws.pointers 0 offset None (home k.homes ptr) (home k.homes ptr) 0).1 in omega (arith, x)
+      let x = member_most laws k.core (home k.homes ptr) ptr.bytes offset in omega (arith, x)
   use_most told telling known need kept (load_at to ptr space) h q b =
-      let x = load_most laws space (home k.homes ptr) (home k.homes to) to.bytes in omega (arith, x)
+      let x = load_most laws k.core space (home k.homes ptr) (home k.homes to) to.bytes in omega (arith, x)
   use_most told telling known need kept (store_at ptr space from) h q b =
       let x = (laws.pointers 0 0 None (home k.homes from) (home k.homes ptr) from.bytes).5 in omega (arith, x)
   use_most told telling known need kept (port_in to port index width) h q b =
@@ -222,7 +222,7 @@ module _ (laws : WordLaws) (p : PlainProgram) (results : ℕ → ℕ) (f : ℕ) 
       → IsCovered p results f called k.slots i → IsInPlace i → HasTypeBytes i
       → code_words (operation_code p (home k.homes) k told telling known (result_wanted need i) kept i) ≤ op_words i
   op_most told telling known need kept (binary_op op ty mode to a aty c bty) h q b =
-      one_binary laws p known telling op ty aty bty mode k.slots k.homes to a c (wanted need to) h (omega arith) q
+      one_binary laws k.core p known telling op ty aty bty mode k.slots k.homes to a c (wanted need to) h (omega arith) q
   op_most told telling known need kept (unary_op op ty mode to a) h q b =
       one_unary laws op ty mode k.slots k.homes to a (wanted need to) h (omega arith)
   op_most told telling known need kept (conversion to ty mode a aty) h q b =

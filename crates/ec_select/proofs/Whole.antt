@@ -5,6 +5,7 @@ use Rattle.std.specs.Prelude.{cond, count_by, if◌then◌else◌, Option, Some,
 use Rattle.std.specs.List.{list_all, AllByRecursion}
 use Rattle.std.proofs.lemmas.Bool.Decides.{nat_tests}
 use Rattle.std.proofs.lemmas.List.{length-map}
+use Rattle.ec_space.specs.declared.Core.{Core}
 use Rattle.ec_asm.specs.declared.items.AsmItem.{AsmItem}
 use Rattle.ec_asm.specs.declared.items.AsmItem.TheVariants.{Label}
 use Rattle.ec_asm.specs.declared.items.AsmProgram.{AsmProgram}
@@ -69,43 +70,43 @@ module _ (p : PlainIrProgram) (valid : ValidIr p) (has : HasCode p) where
       (body_fits (own_sizes p valid) fixed (has_room p valid f g e).work i body.0
       (can_be_routine (data_of p) has.results f (called_in g.code) g.slots i c) body.1)
 
-module _ (laws : CodeLaws) (p : PlainIrProgram) (valid : ValidIr p) (has : HasCode p) (tables : ℕ → ℕ → Need) where
+module _ (laws : CodeLaws) (core : Core) (p : PlainIrProgram) (valid : ValidIr p) (has : HasCode p) (tables : ℕ → ℕ → Need) where
   abbrev code : List AsmItem
-  code = program_code p tables
+  code = program_code core p tables
 
   abbrev start : List AsmItem
   start = startup_code (spans_of p) (function_label p.main)
 
   abbrev functions : List AsmItem
-  functions = functions_code p tables (length p.functions)
+  functions = functions_code core p tables (length p.functions)
 
   abbrev routines : List AsmItem
-  routines = routines_code p tables
+  routines = routines_code core p tables
 
   abbrev uses : List Use
-  uses = program_uses p tables
+  uses = program_uses core p tables
 
   -- each shape has a routine that fits
   all_sound : AllByRecursion (IsSound (own_sizes p valid)) (used_shapes uses)
   all_sound =
       all_shapes (IsSound (own_sizes p valid)) uses
-      (each_use p valid has (λ i. IsSound (own_sizes p valid) (shape_of i)) (sound p valid has laws.pieces.fixed) tables)
+      (each_use core p valid has (λ i. IsSound (own_sizes p valid) (shape_of i)) (sound p valid has laws.pieces.fixed) tables)
 
   -- what the items of all functions pass
   by_functions : (q : AsmItem → Bool) → ((i : AsmItem) → fits (own_sizes p valid) i ≡ true → q i ≡ true)
       → ((l : ℕ) → q (Label l) ≡ true)
       →
       ((f : ℕ) (g : PlainIrFunction) → slice_get p.functions f ≡ Some g
-      → AllAccepted q (link p valid has laws.leaves laws.pieces tables f g) g.code)
-      → list_all q (functions_code p tables (length p.functions)) ≡ true
+      → AllAccepted q (link core p valid has laws.leaves laws.pieces tables f g) g.code)
+      → list_all q (functions_code core p tables (length p.functions)) ≡ true
   by_functions q passes labels accepts =
-      chained q (λ f. code_of p (routine_of p tables) (tables f) f (slice_get p.functions f)) (length p.functions)
+      chained q (λ f. code_of core p (routine_of core p tables) (tables f) f (slice_get p.functions f)) (length p.functions)
       (λ f l. by_function f (slice_get p.functions f) refl) where
         by_function : (f : ℕ) (o : Option PlainIrFunction) → slice_get p.functions f ≡ o
-            → list_all q (code_of p (routine_of p tables) (tables f) f o) ≡ true
+            → list_all q (code_of core p (routine_of core p tables) (tables f) f o) ≡ true
         by_function f None e = refl
         by_function f (Some g) e =
-            let k = link p valid has laws.leaves laws.pieces tables f g in
+            let k = link core p valid has laws.leaves laws.pieces tables f g in
             let rest =
             operations_pass (own_sizes p valid) (data_of p) k (has_room p valid f g e) (objects_fit p valid laws.leaves) laws.pieces
             q passes has.results f (called_in g.code) (facts_of (tables f) g.code) None g.code (has.functions f g e) (accepts f g e) in
@@ -149,7 +150,7 @@ module _ (laws : CodeLaws) (p : PlainIrProgram) (valid : ValidIr p) (has : HasCo
       (laws.items (own_sizes p valid) (spans_of p) (function_label p.main) (spans_valid p valid))
       (joined is_right functions routines
       (by_functions is_right (valid_item (own_sizes p valid)) (λ l. refl)
-      (λ f g e. all_right (link p valid has laws.leaves laws.pieces tables f g) g.code))
+      (λ f g e. all_right (link core p valid has laws.leaves laws.pieces tables f g) g.code))
       (routines_pass (own_sizes p valid) uses is_right (valid_item (own_sizes p valid)) (λ l. refl) (routines_begin p) (used_shapes uses)
       all_sound))
 
@@ -171,7 +172,7 @@ module _ (laws : CodeLaws) (p : PlainIrProgram) (valid : ValidIr p) (has : HasCo
   entry_once =
       let above = first_label_above p.functions (length p.functions) in
       let none = none_of_routines 0 (omega (arith, above)) in
-      rw (counted 0, entry_is_apart p valid has laws.leaves laws.pieces tables, none) refl
+      rw (counted 0, entry_is_apart core p valid has laws.leaves laws.pieces tables, none) refl
 
   once : (l : ℕ) → 0 < l → l < routines_begin p → count_by (is_label l) functions ≡ 1 → stands_once code l ≡ true
   once l above below one =
@@ -180,7 +181,7 @@ module _ (laws : CodeLaws) (p : PlainIrProgram) (valid : ValidIr p) (has : HasCo
       rw (counted l, one, none, q) refl
 
   -- the label of a routine that an operation calls
-  routine_once : (i : PlainIr) (l : ℕ) → routine_of p tables i ≡ Some l → stands_once code l ≡ true
+  routine_once : (i : PlainIr) (l : ℕ) → routine_of core p tables i ≡ Some l → stands_once code l ≡ true
   routine_once i l e = by_shape (is_shaped i) e
     where
       by_shape : (b : Bool) → (if b then label_among (routines_begin p) (rows_of uses) (shape_of i) else None) ≡ Some l
@@ -189,7 +190,7 @@ module _ (laws : CodeLaws) (p : PlainIrProgram) (valid : ValidIr p) (has : HasCo
           let above = first_label_above p.functions (length p.functions) in
           let least = label_least (own_sizes p valid) uses l (routines_begin p) (used_shapes uses) (shape_of i) q in
           let one = routine_label_once (own_sizes p valid) uses l (routines_begin p) (used_shapes uses) (shape_of i) all_sound q in
-          let none = routine_is_apart p valid has laws.leaves laws.pieces tables l least in
+          let none = routine_is_apart core p valid has laws.leaves laws.pieces tables l least in
           let other : (0 == l) ≡ false = grind (arith, nat_tests) in
           rw (counted l, none, one, other) refl
       by_shape false q = absurd cc
@@ -203,21 +204,21 @@ module _ (laws : CodeLaws) (p : PlainIrProgram) (valid : ValidIr p) (has : HasCo
   function_once c l =
       let g = there p.functions c l in
       let above = first_label_above p.functions (length p.functions) in
-      once (function_label c) (omega arith) (omega (arith, above, l)) (function_stands p valid has laws.leaves laws.pieces tables c g.0 g.1)
+      once (function_label c) (omega arith) (omega (arith, above, l)) (function_stands core p valid has laws.leaves laws.pieces tables c g.0 g.1)
 
   label_once : (f m : ℕ) (g : PlainIrFunction) → slice_get p.functions f ≡ Some g → count m g.code ≡ 1
       → stands_once code (first_label p.functions f + m) ≡ true
   label_once f m g e one =
       let above = first_label_above p.functions f in
-      once (first_label p.functions f + m) (omega arith) (label_below p valid has laws.leaves laws.pieces tables f m g e one)
-      (label_stands p valid has laws.leaves laws.pieces tables f m g e one)
+      once (first_label p.functions f + m) (omega arith) (label_below core p valid has laws.leaves laws.pieces tables f m g e one)
+      (label_stands core p valid has laws.leaves laws.pieces tables f m g e one)
 
   is_put : AsmItem → Bool
   is_put i = is_placed code (used_label i)
 
   put_labels : (f : ℕ) (g : PlainIrFunction) → slice_get p.functions f ≡ Some g → (i : PlainIr)
       → ValidOperation p valid.results f g.slots g.code i
-      → AcceptsLabels is_put (link p valid has laws.leaves laws.pieces tables f g) i
+      → AcceptsLabels is_put (link core p valid has laws.leaves laws.pieces tables f g) i
   unfolding is_put
   put_labels f g e (label l) h = refl
   put_labels f g e (jump l) h = label_once f l g e h
@@ -240,7 +241,7 @@ module _ (laws : CodeLaws) (p : PlainIrProgram) (valid : ValidIr p) (has : HasCo
 
   all_put : (f : ℕ) (g : PlainIrFunction) → slice_get p.functions f ≡ Some g → (is : List PlainIr)
       → AllByRecursion (ValidOperation p valid.results f g.slots g.code) is
-      → AllAccepted is_put (link p valid has laws.leaves laws.pieces tables f g) is
+      → AllAccepted is_put (link core p valid has laws.leaves laws.pieces tables f g) is
   unfolding is_put
   all_put f g e [] h = tt
   all_put f g e (i ∷ is) h = (put_labels f g e i h.0, λ l q. routine_once i l q, all_put f g e is h.1)
@@ -269,4 +270,4 @@ module _ (laws : CodeLaws) (p : PlainIrProgram) (valid : ValidIr p) (has : HasCo
   }
 
 pub selections_are_valid : CodeLaws → SelectionsAreValid
-selections_are_valid laws p asm valid has h = is_valid laws p valid has h.tables asm h.items h.frames h.entry
+selections_are_valid laws core p asm valid has h = is_valid laws core p valid has h.tables asm h.items h.frames h.entry

@@ -17,7 +17,7 @@ use Rattle.ec_ir.specs.Valid.{CallsTo}
 use Rattle.ec_select_functions.specs.Laws.{CallsOn}
 use Rattle.ec_select_operations.specs.Places.{ObjectLeaf, Apart}
 use Rattle.ec_select_functions.specs.Relation.{HoldsLeaf}
-use Rattle.ec_select_functions.specs.Standing.{ScratchStands, ObjectsStand, TablesStand, WorkStands}
+use Rattle.ec_select_functions.specs.Standing.{ScratchStands, ObjectsStand, TablesStand, WorkStands, PageStands}
 use Rattle.ec_select_startup.specs.Laws.{HasStack}
 use Rattle.ec_select.specs.Labels.{homes_of}
 use Rattle.ec_select.specs.Program.{has_initial_bytes}
@@ -75,6 +75,7 @@ pub record IsLaidOut (p : PlainIrProgram) (asm : AsmProgram) (e : Env) (place sc
   pub initials : InitialsStand p e place
   pub tables : TablesStand (data_of p) e place
   pub stack : StackStands p e low
+  pub page : PageStands e
 
 -- ---- the steps before main
 

@@ -1,5 +1,6 @@
 -- Laws of the code of a program.
 use Rattle.std.specs.Prelude.{◌≡◌, ℕ, ◌+◌, ◌≤◌, ◌<◌, List, map}
+use Rattle.ec_space.specs.declared.Core.{Core}
 use Rattle.ec_avr.specs.Machine.{State}
 use Rattle.ec_asm.specs.declared.items.AsmProgram.{AsmProgram}
 use Rattle.ec_asm.specs.Change.{Env}
@@ -28,7 +29,7 @@ object_sizes p = map (λ d. size_of_type p.structs d.ty) p.objects
 -- the code can be placed, with 64 work bytes
 abbrev pub SelectionsAreValid : Type 0
 SelectionsAreValid =
-    (p : PlainIrProgram) (asm : AsmProgram) → ValidIr p → HasCode p → IsSelection p asm
+    (core : Core) (p : PlainIrProgram) (asm : AsmProgram) → ValidIr p → HasCode p → IsSelection core p asm
     → ValidAsm (object_sizes p) 64 asm
 
 -- it has no more words than the rows of the program and of its objects and the operations: counted by shapes, and each by
@@ -40,7 +41,8 @@ pub record HasWords (p : PlainIrProgram) (asm : AsmProgram) : Type 0 where
 
 abbrev pub SelectionsHaveWords : Type 0
 SelectionsHaveWords =
-    (p : PlainIrProgram) (asm : AsmProgram) → ValidIr p → HasCode p → AreInPlace p → IsSelection p asm → HasWords p asm
+    (core : Core) (p : PlainIrProgram) (asm : AsmProgram) → ValidIr p → HasCode p → AreInPlace p → IsSelection core p asm
+    → HasWords p asm
 
 -- valid operations have code, where their temporaries suit it and their ports have addresses
 abbrev pub OperationsHaveCode : Type 0
@@ -56,10 +58,10 @@ pub record RunsAsOperations (p : PlainIrProgram) (place : ℕ → ℕ) (e : Env)
   pub shows : ShowsProgram p place e (spans_of p) v s inputs
   pub few : shows.steps + 2 ≤ start_steps p
 
--- wherever code, objects and stack stand, and whatever the memory holds
+-- wherever the code for the core, objects and stack stand, and whatever the memory holds
 abbrev pub SelectionsRun : Type 0
 SelectionsRun =
     (p : PlainIrProgram) (asm : AsmProgram) (e : Env) (place scratch : ℕ → ℕ) (size low : ℕ) (s : State) (v : View)
-    (inputs : Inputs) → ValidIr p → HasCode p → IsSelection p asm → Fits e size → size < 65536
+    (inputs : Inputs) → ValidIr p → HasCode p → IsSelection e.core p asm → Fits e size → size < 65536
     → Shows e size s.core s.mem v → ((port : ℕ) → v.inputs port ≡ inputs port)
     → (laid : IsLaidOut p asm e place scratch low) → s.pc ≡ laid.code.begin → RunsAsOperations p place e v s inputs

@@ -1,6 +1,7 @@
--- The code of a whole program: the code before main, behind it that of each function, and the routines that they call.
+-- The code of a whole program for a core: the code before main, behind it that of each function, and the routines that they call.
 use Rattle.std.specs.Prelude.{ℕ, ◌+◌, Bool, true, false, List, [], ◌∷◌, ◌++◌, Option, Some, None, length, slice_get}
 use Rattle.std.specs.Prelude.{if◌then◌else◌}
+use Rattle.ec_space.specs.declared.Core.{Core}
 use Rattle.ec_space.specs.declared.space.Home.{Home}
 use Rattle.ec_space.specs.declared.space.Home.TheVariants.{Data as DataHome}
 use Rattle.ec_asm.specs.declared.items.AsmItem.{AsmItem}
@@ -49,23 +50,23 @@ made_with p routines labels f g = record {
   routine_of = routines;
 }
 
-abbrev pub code_of : PlainIrProgram → (routines : PlainIr → Option ℕ) → (ℕ → Need) → ℕ → Option PlainIrFunction
+abbrev pub code_of : Core → PlainIrProgram → (routines : PlainIr → Option ℕ) → (ℕ → Need) → ℕ → Option PlainIrFunction
     → List AsmItem
-code_of p routines labels f None = []
-code_of p routines labels f (Some g) =
-    function_code (data_of p) (linkage_of p function_label f g.slots (made_with p routines labels f g)) f labels g.code
+code_of core p routines labels f None = []
+code_of core p routines labels f (Some g) =
+    function_code (data_of p) (linkage_of core p function_label f g.slots (made_with p routines labels f g)) f labels g.code
 
 -- the code of the first n functions, for each of which a table tells what is needed at its labels
-abbrev pub functions_with : PlainIrProgram → (routines : PlainIr → Option ℕ) → (ℕ → ℕ → Need) → ℕ → List AsmItem
-functions_with p routines tables n = chain (λ f. code_of p routines (tables f) f (slice_get p.functions f)) n
+abbrev pub functions_with : Core → PlainIrProgram → (routines : PlainIr → Option ℕ) → (ℕ → ℕ → Need) → ℕ → List AsmItem
+functions_with core p routines tables n = chain (λ f. code_of core p routines (tables f) f (slice_get p.functions f)) n
 
-abbrev pub functions_code : PlainIrProgram → (ℕ → ℕ → Need) → ℕ → List AsmItem
-functions_code p tables n = functions_with p (routine_of p tables) tables n
+abbrev pub functions_code : Core → PlainIrProgram → (ℕ → ℕ → Need) → ℕ → List AsmItem
+functions_code core p tables n = functions_with core p (routine_of core p tables) tables n
 
 -- ---- the program
 
 -- the routines stand behind the functions
-abbrev pub program_code : PlainIrProgram → (ℕ → ℕ → Need) → List AsmItem
-program_code p tables =
+abbrev pub program_code : Core → PlainIrProgram → (ℕ → ℕ → Need) → List AsmItem
+program_code core p tables =
     Label entry_label ∷ (startup_code (spans_of p) (function_label p.main)
-    ++ (functions_code p tables (length p.functions) ++ routines_code p tables))
+    ++ (functions_code core p tables (length p.functions) ++ routines_code core p tables))

@@ -1,5 +1,6 @@
 -- What contracts see of uses, rows and tables, and what the emitters ask.
 use Rattle.std.specs.Prelude.{◌≡◌, ℕ, List, [], true, get_or, Some, slice_get, slice_index}
+use Rattle.ec_space.specs.declared.Core.{Core}
 use Rattle.ec_core.specs.Plain.{PlainProgram}
 use Rattle.ec_ir.specs.Operations.{PlainIr, plain_ir}
 use Rattle.ec_select_live.specs.Tables.{needs_of}
@@ -33,9 +34,9 @@ abbrev pub HasRoutine : PlainIr → Type 0
 HasRoutine i = (is_shaped i ≡ true) × CanBeRoutine i
 
 -- where the code of an operation may stand once, it has code of its own and can be called, with so many bytes of its result
-abbrev pub CanBeUsed : PlainProgram → Homes → (wanted : ℕ) → PlainIr → Type 0
-CanBeUsed p h wanted i = is_shaped i ≡ true → CanBeEmitted p (alone h) wanted i × CanBeCalled wanted i
+abbrev pub CanBeUsed : Core → PlainProgram → Homes → (wanted : ℕ) → PlainIr → Type 0
+CanBeUsed core p h wanted i = is_shaped i ≡ true → CanBeEmitted p (alone core h) wanted i × CanBeCalled wanted i
 
-abbrev pub CanBeUses : PlainProgram → Homes → (wanted : List ℕ) → List PlainIr → Type 0
-CanBeUses p h wanted code =
-    (j : ℕ) (i : PlainIr) → slice_get code j ≡ Some i → CanBeUsed p h (slice_index wanted j) i
+abbrev pub CanBeUses : Core → PlainProgram → Homes → (wanted : List ℕ) → List PlainIr → Type 0
+CanBeUses core p h wanted code =
+    (j : ℕ) (i : PlainIr) → slice_get code j ≡ Some i → CanBeUsed core p h (slice_index wanted j) i

@@ -1,5 +1,6 @@
 -- Programs that have code, and what their code is.
 use Rattle.std.specs.Prelude.{◌≡◌, ℕ, ◌<◌, List, ◌++◌, map, Some, slice_get, length}
+use Rattle.ec_space.specs.declared.Core.{Core}
 use Rattle.ec_asm.specs.declared.items.AsmItem.{AsmItem}
 use Rattle.ec_asm.specs.declared.items.AsmProgram.{AsmProgram}
 use Rattle.ec_ir.specs.Operations.{PlainIrFunction, PlainIrProgram, data_of}
@@ -24,16 +25,16 @@ pub record AreTables (p : PlainIrProgram) (tables : ℕ → ℕ → Need) (n : �
   pub least : (f : ℕ) (g : PlainIrFunction) → f < n → slice_get p.functions f ≡ Some g
       → IsLeast g.slots (tables f) g.code
 
--- the items are the code of the functions, behind others, and the routines that they call
-pub record AreWritten (p : PlainIrProgram) (before items : List AsmItem) : Type 0 where
+-- the items are the code of the functions for a core, behind others, and the routines that they call
+pub record AreWritten (core : Core) (p : PlainIrProgram) (before items : List AsmItem) : Type 0 where
   pub tables : ℕ → ℕ → Need
   pub are_tables : AreTables p tables (length p.functions)
-  pub items_are : items ≡ before ++ (functions_code p tables (length p.functions) ++ routines_code p tables)
+  pub items_are : items ≡ before ++ (functions_code core p tables (length p.functions) ++ routines_code core p tables)
 
--- the items are the code of the program, by what is needed at the labels
-pub record IsSelection (p : PlainIrProgram) (asm : AsmProgram) : Type 0 where
+-- the items are the code of the program for a core, by what is needed at the labels
+pub record IsSelection (core : Core) (p : PlainIrProgram) (asm : AsmProgram) : Type 0 where
   pub tables : ℕ → ℕ → Need
   pub are_tables : AreTables p tables (length p.functions)
-  pub items : asm.items.items ≡ program_code p tables
+  pub items : asm.items.items ≡ program_code core p tables
   pub frames : asm.frames.items ≡ map (λ g. g.slots) p.functions
   pub entry : asm.entry ≡ entry_label

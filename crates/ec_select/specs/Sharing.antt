@@ -1,6 +1,7 @@
 -- Which operations of a program have code that stands once: those of one shape call a routine where that is shorter.
 use Rattle.std.specs.Prelude.{ℕ, ◌+◌, Bool, true, false, if◌then◌else◌, List, [], ◌∷◌, ◌++◌, Option, Some, None}
 use Rattle.std.specs.Prelude.{length, map}
+use Rattle.ec_space.specs.declared.Core.{Core}
 use Rattle.ec_fx.specs.declared.numbers.Mode.{Mode}
 use Rattle.ec_asm.specs.declared.items.AsmItem.{AsmItem}
 use Rattle.ec_asm.specs.Items.{code_words}
@@ -65,40 +66,41 @@ pub record Use : Type 0 where
   pub call : ℕ
 
 -- a function by itself
-abbrev pub alone : Homes → Linking
-alone h = record { first_label = 0; first_entry = 1; homes = h; slots = 0; is_main = false }
+abbrev pub alone : Core → Homes → Linking
+alone core h = record { core = core; first_label = 0; first_entry = 1; homes = h; slots = 0; is_main = false }
 
 -- where n bytes of its result are needed
-abbrev pub own_items : PlainProgram → Homes → (n : ℕ) → PlainIr → List AsmItem
-own_items p h n i = operation_code p (home h) (linkage (alone h)) None None None n nothing i
+abbrev pub own_items : Core → PlainProgram → Homes → (n : ℕ) → PlainIr → List AsmItem
+own_items core p h n i = operation_code p (home h) (linkage (alone core h)) None None None n nothing i
 
-abbrev pub use_of : PlainProgram → Homes → (n : ℕ) → PlainIr → Use
-use_of p h n i = record {
+abbrev pub use_of : Core → PlainProgram → Homes → (n : ℕ) → PlainIr → Use
+use_of core p h n i = record {
   operation = i;
-  own = code_words (own_items p h n i);
+  own = code_words (own_items core p h n i);
   call = code_words (called_code (home h) 0 n i);
 }
 
-abbrev pub uses_of : PlainProgram → Homes → (n : ℕ) → PlainIr → List Use
-uses_of p h n i = if is_shaped i then use_of p h n i ∷ [] else []
+abbrev pub uses_of : Core → PlainProgram → Homes → (n : ℕ) → PlainIr → List Use
+uses_of core p h n i = if is_shaped i then use_of core p h n i ∷ [] else []
 
 -- of several operations, where numbers tell how many bytes are needed of each result
-abbrev pub uses_in : PlainProgram → Homes → (wanted : List ℕ) → List PlainIr → List Use
-uses_in p h [] code = []
-uses_in p h (n ∷ wanted) [] = []
-uses_in p h (n ∷ wanted) (i ∷ code) = uses_of p h n i ++ uses_in p h wanted code
+abbrev pub uses_in : Core → PlainProgram → Homes → (wanted : List ℕ) → List PlainIr → List Use
+uses_in core p h [] code = []
+uses_in core p h (n ∷ wanted) [] = []
+uses_in core p h (n ∷ wanted) (i ∷ code) = uses_of core p h n i ++ uses_in core p h wanted code
 
 -- of the function with number f, where a table tells what is needed at its labels
-abbrev pub function_uses : PlainIrProgram → (ℕ → Need) → ℕ → PlainIrFunction → List Use
-function_uses p labels f g = uses_in (data_of p) (homes_of f g.code) (wanted_bytes (facts_of labels g.code) g.code) g.code
+abbrev pub function_uses : Core → PlainIrProgram → (ℕ → Need) → ℕ → PlainIrFunction → List Use
+function_uses core p labels f g =
+    uses_in core (data_of p) (homes_of f g.code) (wanted_bytes (facts_of labels g.code) g.code) g.code
 
 -- of functions that are numbered from f on
-abbrev pub uses_from : PlainIrProgram → (ℕ → ℕ → Need) → (f : ℕ) → List PlainIrFunction → List Use
-uses_from p tables f [] = []
-uses_from p tables f (g ∷ gs) = function_uses p (tables f) f g ++ uses_from p tables (f + 1) gs
+abbrev pub uses_from : Core → PlainIrProgram → (ℕ → ℕ → Need) → (f : ℕ) → List PlainIrFunction → List Use
+uses_from core p tables f [] = []
+uses_from core p tables f (g ∷ gs) = function_uses core p (tables f) f g ++ uses_from core p tables (f + 1) gs
 
-abbrev pub program_uses : PlainIrProgram → (ℕ → ℕ → Need) → List Use
-program_uses p tables = uses_from p tables 0 p.functions
+abbrev pub program_uses : Core → PlainIrProgram → (ℕ → ℕ → Need) → List Use
+program_uses core p tables = uses_from core p tables 0 p.functions
 
 -- ---- which shapes stand once
 
@@ -164,8 +166,8 @@ routines_among first (r ∷ rows) = row_routine first r ++ routines_among (first
 abbrev pub routines_begin : PlainIrProgram → ℕ
 routines_begin p = first_label p.functions (length p.functions)
 
-abbrev pub routine_of : PlainIrProgram → (ℕ → ℕ → Need) → PlainIr → Option ℕ
-routine_of p tables i = routine_among (routines_begin p) (rows_of (program_uses p tables)) i
+abbrev pub routine_of : Core → PlainIrProgram → (ℕ → ℕ → Need) → PlainIr → Option ℕ
+routine_of core p tables i = routine_among (routines_begin p) (rows_of (program_uses core p tables)) i
 
-abbrev pub routines_code : PlainIrProgram → (ℕ → ℕ → Need) → List AsmItem
-routines_code p tables = routines_among (routines_begin p) (rows_of (program_uses p tables))
+abbrev pub routines_code : Core → PlainIrProgram → (ℕ → ℕ → Need) → List AsmItem
+routines_code core p tables = routines_among (routines_begin p) (rows_of (program_uses core p tables))

@@ -21,14 +21,15 @@ use ec_ir::{IrFunc, IrProgram};
 use ec_ir_known::{RightNumber, right_numbers};
 use ec_select_live::{LabelNeeds, kept, valid_operations_have_places, wanted};
 use ec_select_operations::{Linking, function, needed_functions_are_written};
-use ec_space::{NoMemory, Seq};
+use ec_space::{Core, NoMemory, Seq};
 use std::alloc::Global;
 
-/// How the code of the function with a number is put together with that of the others, where `first` is the label of
-/// items for its label 0.
-fn linking(ir: &IrProgram, f: u16, g: &IrFunc, first: u64) -> Linking
+/// How the code of the function with a number, for a core, is put together with that of the others, where `first` is the
+/// label of items for its label 0.
+fn linking(ir: &IrProgram, core: Core, f: u16, g: &IrFunc, first: u64) -> Linking
     requires { f < 256 }
     ensures { result ≡ record {
+      core = core;
       first_label = first;
       first_entry = 1;
       homes = homes_of f (map plain_ir g.now.code.items);
@@ -37,6 +38,7 @@ fn linking(ir: &IrProgram, f: u16, g: &IrFunc, first: u64) -> Linking
     } }
 {
     Linking {
+        core,
         first_label: first,
         first_entry: 1,
         homes: homes_of(f, g.code.as_slice()),
@@ -45,12 +47,13 @@ fn linking(ir: &IrProgram, f: u16, g: &IrFunc, first: u64) -> Linking
     }
 }
 
-/// Appends the code of the function with a number, by a table of what is needed at its labels, and by rows of shapes
+/// Appends the code of the function with a number for a core, by a table of what is needed at its labels, and by rows of shapes
 /// whose routines have labels from a number on.
 fn add_function(
     alloc: Global,
     out: &mut Seq<AsmItem>,
     ir: &IrProgram,
+    core: Core,
     f: u16,
     g: &IrFunc,
     first: u64,
@@ -65,13 +68,13 @@ fn add_function(
     requires room { first + label_count (map plain_ir g.now.code.items) < 2 ^ 64 }
     requires labels { routines + length rows.now < 2 ^ 64 }
     requires each { AllByRecursion HasRoutine (map row_operation rows.now) }
-    ensures { OnOk result (out.new.items ≡ out.old.items ++ code_of (plain_ir_program ir.now)
+    ensures { OnOk result (out.new.items ≡ out.old.items ++ code_of core (plain_ir_program ir.now)
         (routine_among routines (map plain_row rows.now)) (needs_of table.now) f (Some (plain_ir_function g.now))) }
 {
     leaves_fill_their_types();
     valid_operations_have_places();
     needed_functions_are_written();
-    let of = linking(ir, f, g, first);
+    let of = linking(ir, core, f, g, first);
     let known = right_numbers(alloc, &g.code, g.slots)?;
     let numbers: &[Option<RightNumber>] = &known;
     let bytes = wanted(alloc, table, &g.code, numbers, g.slots)?;
@@ -109,11 +112,12 @@ fn routines_begin(ir: &IrProgram, count: usize) -> Result<u64, NoMemory>
     }
 }
 
-/// Appends the code of all functions of a program.
+/// Appends the code of all functions of a program for a core.
 fn add_functions(
     alloc: Global,
     out: &mut Seq<AsmItem>,
     ir: &IrProgram,
+    core: Core,
     tables: &[LabelNeeds],
     rows: &[Row],
     routines: u64,
@@ -123,35 +127,36 @@ fn add_functions(
     requires tables { length tables.now ≡ length ir.now.funcs.items }
     requires labels { routines + length rows.now < 2 ^ 64 }
     requires each { AllByRecursion HasRoutine (map row_operation rows.now) }
-    ensures { OnOk result (out.new.items ≡ out.old.items ++ functions_with (plain_ir_program ir.now)
+    ensures { OnOk result (out.new.items ≡ out.old.items ++ functions_with core (plain_ir_program ir.now)
         (routine_among routines (map plain_row rows.now)) (tables_in tables.now) (length ir.now.funcs.items)) }
 {
     let mut first = 1 + ir.funcs.len() as u64;
     for (f, g) in ir.funcs.as_slice().iter().enumerate() {
         let next = next_label(first, g)?;
         add_function(
-            alloc, out, ir, f as u16, g, first, &tables[f], rows, routines,
+            alloc, out, ir, core, f as u16, g, first, &tables[f], rows, routines,
         )?;
         first = next;
     }
     Ok(())
 }
 
-/// Appends the code of all functions of a program, and the routines of the shapes that stand once.
+/// Appends the code of all functions of a program for a core, and the routines of the shapes that stand once.
 pub(crate) fn add_code(
     alloc: Global,
     out: &mut Seq<AsmItem>,
     ir: &IrProgram,
+    core: Core,
 ) -> Result<(), NoMemory>
     requires valid { ValidIr (plain_ir_program ir.now) }
     requires code { HasCode (plain_ir_program ir.now) }
-    ensures { OnOk result (AreWritten (plain_ir_program ir.now) out.old.items out.new.items) }
+    ensures { OnOk result (AreWritten core (plain_ir_program ir.now) out.old.items out.new.items) }
 {
     let tables = tables_of(alloc, ir)?;
-    let uses = uses_of(alloc, ir, &tables)?;
+    let uses = uses_of(alloc, ir, core, &tables)?;
     let rows = rows_of(alloc, &uses)?;
     let first = routines_begin(ir, rows.len())?;
-    add_functions(alloc, out, ir, &tables, &rows, first)?;
+    add_functions(alloc, out, ir, core, &tables, &rows, first)?;
     add_routines(out, &rows, first)?;
     Ok(())
 }

@@ -11,8 +11,13 @@ use ec_select_fixed::laws::{
 };
 use ec_select_numbers::laws::numbers_are_operands;
 use ec_select_order::laws::relations_have_words;
-use ec_select_places::laws::{elements_are_formed, places_are_short, places_are_valid};
-use ec_select_pointers::laws::{pointers_are_straight, pointers_are_valid, tables_are_formed};
+use ec_select_places::laws::{
+    elements_are_formed, far_places_are_formed, places_are_short, places_are_valid,
+};
+use ec_select_pointers::laws::{
+    far_pointers_are_straight, far_pointers_are_valid, pointers_are_straight, pointers_are_valid,
+    tables_are_formed,
+};
 use ec_select_products::laws::products_have_words;
 use ec_select_reset::programs_show_their_operations;
 use ec_select_routines::laws::routines_have_words;
@@ -28,7 +33,7 @@ pub fn operations_have_code()
     leaves_fill_their_types();
 }
 
-/// The code of a program can be placed, with the sizes of its objects and 64 work bytes.
+/// The code of a program for a core can be placed, with the sizes of its objects and 64 work bytes.
 pub fn selections_are_valid()
     ensures { SelectionsAreValid }
 {
@@ -39,8 +44,10 @@ pub fn selections_are_valid()
     fixed_conversions_are_plain();
     pointers_are_valid();
     tables_are_formed();
+    far_pointers_are_valid();
     places_are_valid();
     elements_are_formed();
+    far_places_are_formed();
 }
 
 /// The code of a program whose operators have their results in place has at most the words of the rows of the program and
@@ -59,14 +66,16 @@ pub fn selections_have_words()
     fixed_conversions_are_short();
     pointers_are_straight();
     tables_are_formed();
+    far_pointers_are_straight();
     places_are_short();
     elements_are_formed();
+    far_places_are_formed();
     numbers_are_operands();
     startup_has_words();
     routines_have_words();
 }
 
-/// A machine that begins at the first word of a program's code shows what its operations do, wherever code, objects
+/// A machine that begins at the first word of a program's code for its core shows what its operations do, wherever code, objects
 /// and stack stand, and whatever memory holds: it comes to `main` with no accesses but those that copy initial bytes,
 /// and from there on shows all that the operations do, within the steps that they may take, and never more, as long as
 /// they access none but ports of the machine.
@@ -80,8 +89,10 @@ pub fn selections_run()
     fixed_conversions_are_plain();
     pointers_are_valid();
     tables_are_formed();
+    far_pointers_are_valid();
     places_are_valid();
     elements_are_formed();
+    far_places_are_formed();
     parts_stand();
     programs_show_their_operations();
 }

@@ -1,4 +1,4 @@
-//! The code of a whole program, from what runs before `main` to the last function.
+//! The code of a whole program for a core, from what runs before `main` to the last function.
 //!
 //! `specs/Program.antt` has the code, `specs/Sharing.antt` which operations call routines, `specs/Labels.antt` the labels
 //! and homes of its functions, `specs/Selected.antt` which programs have code, and `specs/LaidOut.antt` where code,

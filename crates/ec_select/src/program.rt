@@ -18,7 +18,7 @@ use crate::spans::spans_of;
 use ec_asm::{AsmItem, AsmProgram};
 use ec_ir::IrProgram;
 use ec_select_startup::startup;
-use ec_space::{NoMemory, Seq};
+use ec_space::{Core, NoMemory, Seq};
 use std::alloc::Global;
 
 /// For each function the places of its temporaries.
@@ -32,16 +32,16 @@ fn frames_of(alloc: Global, ir: &IrProgram) -> Result<Seq<u16>, NoMemory>
     Ok(frames)
 }
 
-/// The code of a program whose operations all have code: what runs before `main`, behind it each function, and the
-/// routines that they call.
+/// The code of a program whose operations all have code, for a core: what runs before `main`, behind it each function,
+/// and the routines that they call.
 ///
 /// It can be placed, with the sizes of the program's objects and 64 work bytes. Where operators have their results in
 /// place, it has at most the words of the rows of the program and its objects and those that the operations may take,
 /// counted by shapes; and never more than where each counts by itself. Or the answer is that memory ran out.
-pub fn select(alloc: Global, ir: &IrProgram) -> Result<AsmProgram, NoMemory>
+pub fn select(alloc: Global, ir: &IrProgram, core: Core) -> Result<AsmProgram, NoMemory>
     requires valid { ValidIr (plain_ir_program ir.now) }
     requires code { HasCode (plain_ir_program ir.now) }
-    ensures code { IfOk result (λ asm. IsSelection (plain_ir_program ir.now) asm) }
+    ensures code { IfOk result (λ asm. IsSelection core (plain_ir_program ir.now) asm) }
     ensures valid { IfOk result (λ asm. ValidAsm (object_sizes (plain_ir_program ir.now)) 64 asm) }
     ensures words { AreInPlace (plain_ir_program ir.now) → IfOk result (λ asm. code_words asm.items.items
         ≤ program_words + objects_weight (plain_ir_program ir.now).objects
@@ -56,7 +56,7 @@ pub fn select(alloc: Global, ir: &IrProgram) -> Result<AsmProgram, NoMemory>
     items.push(AsmItem::Label(0))?;
     let spans = spans_of(alloc, ir)?;
     startup(&mut items, spans.as_slice(), 1 + u64::from(ir.main))?;
-    add_code(alloc, &mut items, ir)?;
+    add_code(alloc, &mut items, ir, core)?;
     let frames = frames_of(alloc, ir)?;
     Ok(AsmProgram {
         items,

@@ -1,4 +1,4 @@
-//! The operations of a program whose code may stand once, with the words of their code.
+//! The operations of a program whose code may stand once, with the words of their code for a core.
 ghost use Rattle.std.specs.Prelude.{◌≡◌, ◌++◌, true, map, length, IfOk, OnOk, Some, slice_get};
 ghost use Rattle.ec_asm.specs.Items.{code_words};
 ghost use Rattle.ec_ir.specs.Operations.{plain_ir, plain_ir_function, plain_ir_program};
@@ -19,7 +19,7 @@ use ec_ir::{Ir, IrFunc, IrProgram};
 use ec_ir_known::{RightNumber, right_numbers};
 use ec_select_live::{LabelNeeds, valid_operations_have_places, wanted};
 use ec_select_operations::{Flags, Homes, Linking, called, operation};
-use ec_space::{NoMemory, Seq, push};
+use ec_space::{Core, NoMemory, Seq, push};
 use std::alloc::Global;
 
 /// An operation whose code may stand once: the words of code of its own where it stands, and of a call.
@@ -40,10 +40,11 @@ pub(crate) fn words_of(items: &Seq<AsmItem>) -> Result<u64, NoMemory>
     Ok(code_words(items.as_slice()))
 }
 
-fn alone(homes: Homes) -> Linking
-    ensures { result ≡ alone homes }
+fn alone(core: Core, homes: Homes) -> Linking
+    ensures { result ≡ alone core homes }
 {
     Linking {
+        core,
         first_label: 0,
         first_entry: 1,
         homes,
@@ -56,19 +57,29 @@ fn alone(homes: Homes) -> Linking
 fn own_words(
     alloc: Global,
     ir: &IrProgram,
+    core: Core,
     homes: Homes,
     wanted: u8,
     i: &Ir,
 ) -> Result<u64, NoMemory>
-    requires { CanBeEmitted (declarations ir.now) (alone homes) wanted (plain_ir i.now) }
-    ensures { IfOk result (λ n. n ≡ code_words (own_items (declarations ir.now) homes wanted (plain_ir i.now))) }
+    requires { CanBeEmitted (declarations ir.now) (alone core homes) wanted (plain_ir i.now) }
+    ensures { IfOk result (λ n. n ≡ code_words (own_items core (declarations ir.now) homes wanted (plain_ir i.now))) }
 {
     let mut items = Seq::new(alloc);
     let flags = Flags {
         told: None,
         telling: None,
     };
-    operation(&mut items, ir, alone(homes), flags, None, wanted, &[], i)?;
+    operation(
+        &mut items,
+        ir,
+        alone(core, homes),
+        flags,
+        None,
+        wanted,
+        &[],
+        i,
+    )?;
     words_of(&items)
 }
 
@@ -85,17 +96,18 @@ fn call_words(alloc: Global, homes: Homes, wanted: u8, i: &Ir) -> Result<u64, No
 fn use_of<'a>(
     alloc: Global,
     ir: &IrProgram,
+    core: Core,
     homes: Homes,
     wanted: u8,
     i: &'a Ir,
 ) -> Result<Use<'a>, NoMemory>
     requires shaped { is_shaped (plain_ir i.now) ≡ true }
-    requires each { CanBeUsed (declarations ir.now) homes wanted (plain_ir i.now) }
-    ensures { IfOk result (λ u. plain_use u ≡ use_of (declarations ir.now) homes wanted (plain_ir i.now)) }
+    requires each { CanBeUsed core (declarations ir.now) homes wanted (plain_ir i.now) }
+    ensures { IfOk result (λ u. plain_use u ≡ use_of core (declarations ir.now) homes wanted (plain_ir i.now)) }
 {
     Ok(Use {
         operation: i,
-        own: own_words(alloc, ir, homes, wanted, i)?,
+        own: own_words(alloc, ir, core, homes, wanted, i)?,
         call: call_words(alloc, homes, wanted, i)?,
     })
 }
@@ -105,16 +117,17 @@ fn add_use<'a>(
     alloc: Global,
     uses: &mut Vec<Use<'a>>,
     ir: &IrProgram,
+    core: Core,
     homes: Homes,
     wanted: u8,
     i: &'a Ir,
 ) -> Result<(), NoMemory>
-    requires { CanBeUsed (declarations ir.now) homes wanted (plain_ir i.now) }
+    requires { CanBeUsed core (declarations ir.now) homes wanted (plain_ir i.now) }
     ensures { OnOk result (map plain_use uses.new.items ≡ map plain_use uses.old.items
-        ++ uses_of (declarations ir.now) homes wanted (plain_ir i.now)) }
+        ++ uses_of core (declarations ir.now) homes wanted (plain_ir i.now)) }
 {
     if is_shaped(i) {
-        let u = use_of(alloc, ir, homes, wanted, i)?;
+        let u = use_of(alloc, ir, core, homes, wanted, i)?;
         return push(uses, u);
     }
     Ok(())
@@ -125,17 +138,18 @@ fn add_uses<'a>(
     alloc: Global,
     uses: &mut Vec<Use<'a>>,
     ir: &IrProgram,
+    core: Core,
     homes: Homes,
     wanted: &[u8],
     code: &'a [Ir],
 ) -> Result<(), NoMemory>
     requires numbers { length code.now ≡ length wanted.now }
-    requires each { CanBeUses (declarations ir.now) homes wanted.now (map plain_ir code.now) }
+    requires each { CanBeUses core (declarations ir.now) homes wanted.now (map plain_ir code.now) }
     ensures { OnOk result (map plain_use uses.new.items ≡ map plain_use uses.old.items
-        ++ uses_in (declarations ir.now) homes wanted.now (map plain_ir code.now)) }
+        ++ uses_in core (declarations ir.now) homes wanted.now (map plain_ir code.now)) }
 {
     for k in 0..code.len() {
-        add_use(alloc, uses, ir, homes, wanted[k], &code[k])?;
+        add_use(alloc, uses, ir, core, homes, wanted[k], &code[k])?;
     }
     Ok(())
 }
@@ -145,6 +159,7 @@ fn add_function_uses<'a>(
     alloc: Global,
     uses: &mut Vec<Use<'a>>,
     ir: &IrProgram,
+    core: Core,
     f: u16,
     g: &'a IrFunc,
     table: &LabelNeeds,
@@ -153,7 +168,7 @@ fn add_function_uses<'a>(
     requires code { HasCode (plain_ir_program ir.now) }
     requires is { slice_get (plain_ir_program ir.now).functions f ≡ Some (plain_ir_function g.now) }
     ensures { OnOk result (map plain_use uses.new.items ≡ map plain_use uses.old.items
-        ++ function_uses (plain_ir_program ir.now) (needs_of table.now) f (plain_ir_function g.now)) }
+        ++ function_uses core (plain_ir_program ir.now) (needs_of table.now) f (plain_ir_function g.now)) }
 {
     leaves_fill_their_types();
     valid_operations_have_places();
@@ -161,7 +176,7 @@ fn add_function_uses<'a>(
     let numbers: &[Option<RightNumber>] = &known;
     let bytes = wanted(alloc, table, &g.code, numbers, g.slots)?;
     let code = g.code.as_slice();
-    add_uses(alloc, uses, ir, homes_of(f, code), &bytes, code)?;
+    add_uses(alloc, uses, ir, core, homes_of(f, code), &bytes, code)?;
     Ok(())
 }
 
@@ -169,17 +184,18 @@ fn add_function_uses<'a>(
 pub(crate) fn uses_of<'a>(
     alloc: Global,
     ir: &'a IrProgram,
+    core: Core,
     tables: &[LabelNeeds],
 ) -> Result<Vec<Use<'a>>, NoMemory>
     requires valid { ValidIr (plain_ir_program ir.now) }
     requires code { HasCode (plain_ir_program ir.now) }
     requires tables { length tables.now ≡ length ir.now.funcs.items }
     ensures { IfOk result (λ uses. map plain_use uses.items
-        ≡ program_uses (plain_ir_program ir.now) (tables_in tables.now)) }
+        ≡ program_uses core (plain_ir_program ir.now) (tables_in tables.now)) }
 {
     let mut uses = Vec::new(alloc);
     for (f, g) in ir.funcs.as_slice().iter().enumerate() {
-        add_function_uses(alloc, &mut uses, ir, f as u16, g, &tables[f])?;
+        add_function_uses(alloc, &mut uses, ir, core, f as u16, g, &tables[f])?;
     }
     Ok(uses)
 }

@@ -350,6 +350,7 @@ module _ (p : PlainIrProgram) (e : Env) (place entry_of : ℕ → ℕ) (w : Worl
     objects_stand = (selected_of f g a.is).objects_stand.each;
     objects_apart = (selected_of f g a.is).objects_stand.apart;
     tables_stand = w.selected.tables;
+    page = w.selected.page;
     valid = w.valid.objects;
     structs = w.valid.structs;
     high = a.high;

@@ -73,7 +73,7 @@ module _ (p : PlainIrProgram) (e : Env) (place entry_of : ℕ → ℕ) (w : Worl
       Onward D p.functions e g.slots (home (homes_of p e place entry_of w f)) (base_of p e place entry_of w f) place
       (setting_of p e place entry_of w f g s aside was a) (w.selected.made f).labels g.code
       (selected_of p e place entry_of w f g a.is).end w.selected.results f
-      (linkage_of p entry_of f g.slots (w.selected.made f)) stack n
+      (linkage_of e.core p entry_of f g.slots (w.selected.made f)) stack n
 
   -- where what waits goes on for up to n operations that count, the function runs for n
   abbrev pub Statement : ℕ → Type 0
@@ -89,7 +89,7 @@ module _ (p : PlainIrProgram) (e : Env) (place entry_of : ℕ → ℕ) (w : Worl
       → Ready D p.functions e gb.slots (home (homes_of p e place entry_of w b)) (base_of p e place entry_of w b) place
       (setting_of p e place entry_of w b gb s aside was a) (w.selected.made b).labels gb.code
       (selected_of p e place entry_of w b gb a.is).end w.selected.results b
-      (linkage_of p entry_of b gb.slots (w.selected.made b)) stack (e.word_of (entry_of b)) gb.code
+      (linkage_of e.core p entry_of b gb.slots (w.selected.made b)) stack (e.word_of (entry_of b)) gb.code
   begins b gb s aside was a stack stacked word =
       let x = selected_of p e place entry_of w b gb a.is in
       let stands = x.stands in
@@ -97,13 +97,13 @@ module _ (p : PlainIrProgram) (e : Env) (place entry_of : ℕ → ℕ) (w : Worl
       let mid : stands.0 ≡ e.word_of (entry_of b) = stands.1.1 ∙ here in
       record {
         covered = are_ready D e w.selected.results b (called_in gb.code) gb.slots
-            (linkage_of p entry_of b gb.slots (w.selected.made b)) gb.code x.covered
+            (linkage_of e.core p entry_of b gb.slots (w.selected.made b)) gb.code x.covered
             (λ i there l q. (x.routines i l there q, x.callers i l there q));
         live = x.live;
         inside = λ c q. q;
-        here = record { active = a.runs; stacked = stacked };
+        here = record { active = a.runs; stacked = stacked; core = refl };
         stands = subst (λ i. HasAt e (ops_code D (home (homes_of p e place entry_of w b))
-            (linkage_of p entry_of b gb.slots (w.selected.made b))
+            (linkage_of e.core p entry_of b gb.slots (w.selected.made b))
             (facts_of (w.selected.made b).labels gb.code) None gb.code) i x.end) mid stands.2;
       }
 
@@ -138,7 +138,7 @@ module _ (p : PlainIrProgram) (e : Env) (place entry_of : ℕ → ℕ) (w : Worl
     at = facts_of labels g.code
 
     abbrev link : Linkage
-    link = linkage_of p entry_of f slots (w.selected.made f)
+    link = linkage_of e.core p entry_of f slots (w.selected.made f)
 
     abbrev T : Option Temp → View → View → Type 0
     T to v v1 = Took p e place entry_of w f g s aside was a to v v1

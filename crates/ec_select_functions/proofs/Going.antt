@@ -94,10 +94,12 @@ module _ (p : PlainProgram) (functions : List PlainIrFunction) (e : Env) (slots 
       (own_is (link.routine_of i) (λ l. called_code home l (result_wanted (needs at rest) i) i)
       (own_code p home link told (tells_next at i rest) (at.known (i ∷ rest)) (needs at rest) i) (λ l q. none l (linked l q).0)) stands
 
-  -- the function runs: it is one of those that are active, which are main and those that were called
+  -- the function runs: it is one of those that are active, which are main and those that were called, and its code is for the
+  -- core that runs it
   pub record IsRunning : Type 0 where
     pub active : is_among y.active me ≡ true
     pub stacked : active_functions p.main stack ≡ y.active
+    pub core : link.core ≡ e.core
 
   -- the operations that are left have their code from this word on
   pub record Ready (pc : ℕ) (rest : List PlainIr) : Type 0 where

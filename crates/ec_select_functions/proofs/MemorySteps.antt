@@ -5,8 +5,12 @@ use Rattle.std.proofs.Common.{Option}
 use Rattle.std.specs.Prelude.{Result, ◌==◌, if◌then◌else◌, slice_get, unwrap_or, option_map, Contains, IsSomeAnd}
 use Rattle.std.specs.Prelude.{int_le, ◌+ℤ◌}
 use Rattle.std.proofs.lemmas.Bool.{eqb-true, eq-eqb, leb-true, and_parts, or_left}
+use Rattle.ec_space.specs.declared.Core.{Core}
+use Rattle.ec_space.specs.declared.Core.TheVariants.{Small, Large}
 use Rattle.ec_space.specs.declared.space.Bank.{Bank}
 use Rattle.ec_space.specs.declared.space.Bank.TheVariants.{Flash as FlashBank, Data as DataBank}
+use Rattle.ec_space.specs.declared.space.Home.{Home}
+use Rattle.ec_space.specs.declared.space.Home.TheVariants.{Flash as FlashHome, Far as FarHome, Data as DataHome}
 use Rattle.ec_space.specs.declared.space.SpaceId.{SpaceId}
 use Rattle.ec_space.specs.declared.space.SpaceId.TheVariants.{Flash, FarFlash, Data, Generic}
 use Rattle.ec_space.specs.Spaces.{bank_of, width}
@@ -31,6 +35,7 @@ use Rattle.ec_core.specs.Plain.{PlainStorage, static, local, param, register, Pl
 use Rattle.ec_core.specs.Pointers.{Pointer as PointerValue, moved, displaced, used}
 use Rattle.ec_core.specs.State.{State, ObjectState, Outcome, next, given}
 use Rattle.ec_core.specs.Valid.{IsAddressable}
+use Rattle.ec_core.proofs.Homes.{home_in_data}
 use Rattle.ec_ir.specs.declared.operations.Temp.{Temp}
 use Rattle.ec_ir.specs.Costs.{op_steps}
 use Rattle.ec_ir.specs.Meaning.{Mach, machine, object_access}
@@ -41,13 +46,17 @@ use Rattle.ec_ir.specs.Valid.{IsParameterOf}
 use Rattle.ec_ir.specs.Temporaries.{Content, points, value_of_type, held, with_temp, with_content}
 use Rattle.ec_select_pointers.specs.Addresses.{pointer_bytes, address_code, field_code}
 use Rattle.ec_select_pointers.specs.AddressLaws.{HasPut, IsTag, pointer_number}
-use Rattle.ec_select_operations.specs.Code.{Linkage, banked_code}
+use Rattle.ec_select_pointers.specs.Accesses.{load_table_code}
+use Rattle.ec_select_pointers.specs.Far.{far_address_code, field_far_code}
+use Rattle.ec_select_operations.specs.Code.{Linkage, is_far, is_whole_address, banked_code}
 use Rattle.ec_select_functions.specs.Covered.{HasScalarAt, IsStoredIn, IsAddress, IsInto}
 use Rattle.ec_select_operations.specs.Homes.{HasHome}
 use Rattle.ec_select_operations.specs.Needs.{Need, Facts, facts_of, needs, wanted, at_least, without}
 use Rattle.ec_select_operations.specs.Places.{location_in, kind_in, object_location, ObjectLeaf}
-use Rattle.ec_select_operations.specs.Pointers.{home_of, tag_of, tag_in, address_number, IsPointerSize, IsPointed}
-use Rattle.ec_select_operations.specs.Pointers.{IsPointerIn}
+use Rattle.ec_select_operations.specs.Pointers.{home_of, kept_in, tag_of, tag_in, number_with, address_number}
+use Rattle.ec_select_operations.specs.Pointers.{IsPointerSize, IsPointed, IsPointerIn}
+use Rattle.ec_select_operations.proofs.Kept.{kept_there}
+use Rattle.ec_select_functions.specs.Standing.{address_end}
 use Rattle.ec_select_functions.specs.Relation.{AreFrames, Matches, HoldsLeaf, HoldsContent}
 use Rattle.ec_select_functions.proofs.Accesses.{leaf_with, home_is, recorded_work, table_kind, leaf_stands}
 use Rattle.ec_select_functions.proofs.Accesses.{after_read, after_write, load_matches, load_brings, store_matches}
@@ -60,25 +69,66 @@ use Rattle.ec_select_functions.proofs.Match.{wanted_most, whole, at_width, least
 use Rattle.ec_select_functions.proofs.Match.{written, kept_matches}
 use Rattle.ec_select_functions.proofs.Match.{kept_left, held_row}
 use Rattle.ec_select_functions.proofs.Moves.{narrower, stands_less, copy_straight, copy_steps}
-use Rattle.ec_select_functions.proofs.Pointed.{IsAddressedBy, addressable_kind, typed_leaf, room_of}
-use Rattle.ec_select_functions.proofs.Pointed.{address_held, home_of_object}
+use Rattle.ec_select_functions.proofs.PointerNumbers.{small_end, data_end, greatest_end}
+use Rattle.ec_select_functions.proofs.Pointed.{IsAddressedBy, HasRoom, addressable_kind, typed_leaf, room_of, tag_below}
+use Rattle.ec_select_functions.proofs.Pointed.{address_held, pointed_below, home_of_object}
 use Rattle.ec_select_functions.proofs.Reached.{loads, leaf_there, loads_table, stores, access_to, Reaches, from_access}
 use Rattle.ec_select_functions.proofs.Reached.{from_pointer, from_read, from_put, from_no_access, leaves_z}
 use Rattle.ec_select_functions.proofs.Setting.{Setting, frames_active}
 
 -- ---- pointers
 
--- a pointer's bytes from its address and its tag
+-- the number of a pointer with an address modulo 65,536: in two bytes, and in three where the address has no more
+near_number : (n at : ℕ) (bank : Bank) → IsPointerSize n → (n ≡ 3 → at < 65536)
+    → pointer_number (at % 65536) (tag_in n bank) ≡ number_with at (tag_in n bank)
+near_number n at bank size low =
+    ⊎_elim
+    (λ (q : n ≡ 2). subst (λ (b : ℕ). pointer_number (at % 65536) (tag_in b bank) ≡ number_with at (tag_in b bank)) (sym q)
+    (omega arith))
+    (λ (q : n ≡ 3).
+    let l = low q in
+    subst (λ (b : ℕ). pointer_number (at % 65536) (tag_in b bank) ≡ number_with at (tag_in b bank)) (sym q) (omega (arith, l)))
+    size
+
+-- that of three bytes into flash is the address
+flash_number : (at : ℕ) → at ≡ number_with at (tag_in 3 FlashBank)
+flash_number at = omega arith
+
+-- a pointer's bytes from its address, and the tag where the address has no more than two bytes
 pointer_made : (f : ℕ → ℕ) (a n at : ℕ) (bank : Bank) → IsPointerSize n → value f a 2 ≡ at % 65536
-    → (n ≡ 3 → f (a + 2) ≡ tag_of bank) → value f a n ≡ pointer_number at (tag_in n bank)
+    → (n ≡ 3 → (at < 65536) × (f (a + 2) ≡ tag_of bank)) → value f a n ≡ number_with at (tag_in n bank)
 pointer_made f a n at bank size low tag =
     ⊎_elim
-    (λ (q : n ≡ 2). subst (λ (b : ℕ). value f a b ≡ pointer_number at (tag_in b bank)) (sym q) low)
+    (λ (q : n ≡ 2). subst (λ (b : ℕ). value f a b ≡ number_with at (tag_in b bank)) (sym q) low)
     (λ (q : n ≡ 3).
-    let top : f (a + 2) ≡ tag_of bank = tag q in
-    let three : value f a 2 + f (a + 2) * 65536 ≡ at % 65536 + tag_of bank * 65536 = rw (low, top) refl in
-    subst (λ (b : ℕ). value f a b ≡ pointer_number at (tag_in b bank)) (sym q) three)
+    let small = (tag q).0 in
+    let top : f (a + 2) ≡ tag_of bank = (tag q).1 in
+    let three : value f a 2 + f (a + 2) * 65536 ≡ at + tag_of bank * 65536 = rw (low, top) (omega (arith, small)) in
+    subst (λ (b : ℕ). value f a b ≡ number_with at (tag_in b bank)) (sym q) three)
     size
+
+-- ---- cores
+
+-- where a pointer has a whole address
+far_pointer : (core : Core) (bytes : ℕ) → is_far core bytes ≡ true → (core ≡ Large) × (bytes ≡ 3)
+far_pointer Small bytes h = absurd (cc)
+far_pointer Large bytes h = (refl, eqb-true bytes 3 h)
+
+whole_address : (core : Core) (bytes : ℕ) (bank : Bank) → is_whole_address core bytes bank ≡ true
+    → (core ≡ Large) × (bytes ≡ 3) × (bank ≡ FlashBank)
+whole_address core bytes FlashBank h = let f = far_pointer core bytes h in (f.0, f.1, refl)
+whole_address core bytes DataBank h = absurd (cc)
+
+near_core : (core : Core) → is_far core 3 ≡ false → core ≡ Small
+near_core Small h = refl
+near_core Large h = absurd (cc)
+
+-- and where one of three bytes has none, its address has no more than two
+near_address : (core : Core) (bytes : ℕ) (bank : Bank) (home : Home) → bank ≡ bank_of home → is_whole_address core bytes bank ≡ false
+    → bytes ≡ 3 → address_end core home ≡ 65536
+near_address Small bytes bank home is h q = small_end Small home refl
+near_address Large bytes DataBank home is h q = data_end Large home (sym is)
+near_address Large bytes FlashBank home is h q = let no : (bytes == 3) ≡ true = eq-eqb bytes 3 q in absurd (cc)
 
 -- the bytes of a pointer with a tag or without one
 tag_bytes : (n : ℕ) (bank : Bank) → IsPointerSize n → pointer_bytes (tag_in n bank) ≡ n
@@ -155,12 +205,12 @@ module _ (p : PlainProgram) (functions : List PlainIrFunction) (e : Env) (slots 
 
   pub address_follows : (t : Temp) (o offset : ℕ) (rest : List PlainIr) (n pc : ℕ) (m : Mach) (v : View)
       → IsAddress p slots t o offset → HasAt e (own_items (address t o offset) rest) pc end
-      → M (needs at (address t o offset ∷ rest)) m v → Rest (suc n) rest
+      → M (needs at (address t o offset ∷ rest)) m v → link.core ≡ e.core → Rest (suc n) rest
       → G (suc n) m.state.work pc v (P n (address t o offset) rest m)
-  address_follows t o offset rest n pc m v is stands h f =
-      passes i rest (suc n) (suc n) m.state.work m1.state.work pc v (R (suc n) rest m1) stands (straight (k == 0)) (omega arith)
-      (let few = steps (k == 0) in let some = it.some in omega (arith, few, some))
-      (λ mid s. f mid m1 _ s (matches (k == 0) refl))
+  address_follows t o offset rest n pc m v is stands h one_core f =
+      passes i rest (suc n) (suc n) m.state.work m1.state.work pc v (R (suc n) rest m1) stands (straight (k == 0) whole) (omega arith)
+      (let few = steps (k == 0) whole in let some = it.some in omega (arith, few, some))
+      (λ mid s. f mid m1 _ s (matches (k == 0) whole refl refl))
     where
       i : PlainIr
       i = address t o offset
@@ -180,22 +230,30 @@ module _ (p : PlainProgram) (functions : List PlainIrFunction) (e : Env) (slots 
       tag : Option ℕ
       tag = tag_in t.bytes (home_of p o)
 
-      code : List AsmItem
-      code = address_code o offset tag (home t)
+      bank : Bank
+      bank = home_of p o
+
+      whole : Bool
+      whole = is_whole_address link.core t.bytes bank
+
+      code : Bool → List AsmItem
+      code far = if far then far_address_code o offset (home t) else address_code o offset tag (home t)
 
       m1 : Mach
       m1 = machine (with_content t (points q) m.temps) (begun i m)
 
       size : pointer_bytes tag ≡ t.bytes
-      size = tag_bytes t.bytes (home_of p o) is.size
+      size = tag_bytes t.bytes bank is.size
 
-      straight : (b : Bool) → all_straight (if b then [] else code) ≡ true
-      straight true = refl
-      straight false = (y.pointers.straight o offset tag (home t) (home t) 0).0
+      straight : (b far : Bool) → all_straight (if b then [] else code far) ≡ true
+      straight true far = refl
+      straight false true = (y.pointers.far.straight o offset (home t) (home t) 0).0
+      straight false false = (y.pointers.straight o offset tag (home t) (home t) 0).0
 
-      steps : (b : Bool) → code_steps (if b then [] else code) ≤ 6
-      steps true = omega arith
-      steps false =
+      steps : (b far : Bool) → code_steps (if b then [] else code far) ≤ 6
+      steps true far = omega arith
+      steps false true = let take = (y.pointers.far.take o offset (home t) (home t) 0).0.1 in omega (arith, take)
+      steps false false =
           let take = (y.pointers.take o offset tag (home t) (home t) 0).0.1 in
           let few = (some_bytes t.bytes is.size).1 in
           omega (arith, take, size, few)
@@ -210,39 +268,78 @@ module _ (p : PlainProgram) (functions : List PlainIrFunction) (e : Env) (slots 
           within = is.within;
         };
         size = is.size;
+        of = is.of;
       }
+
+      room : HasRoom p e slots home base place y is.declared.home o (size_of_type p.structs is.declared.ty)
+      room = room_of p e slots home base place y o is.declared is.is_object is.addressable
+
+      bank_is : bank ≡ bank_of is.declared.home
+      bank_is = home_of_object p o is.declared is.is_object
 
       stays : (b : ℕ) → b ≢ t.at → need b ≤ without t.at need b
       stays b d = without_other t.at b need d
 
-      matches : (b : Bool) → (k == 0) ≡ b → M need m1 (block e (if b then [] else code) v)
-      matches true none =
+      -- the pointer has been put
+      put_matches : (v1 : View) → HasPut v (base t) t.bytes (address_number p place t.bytes o offset) v1 → M need m1 v1
+      put_matches v1 put =
+          let numbers = put.numbers h.bytes in
+          let held = held_row v1 (base t) t.bytes (y.layout.temps_at t it).clear numbers in
+          let here : value v1.at (base t) k ≡ address_number p place t.bytes o offset % 256 ^ k =
+          sym (value_mod v1.at (base t) k t.bytes (wanted_most need t) held) ∙ ap (λ b. b % 256 ^ k) put.number_is in
+          written p e slots home base place y t (points q) need (without t.at need) m (begun i m) v v1 it h stays
+          (λ j a b c d. put.same j c d) (here, pointed) numbers refl (put.seen ∙ h.seen)
+          (kept_left y.inputs m.state v v1 put.inputs h.left) (put.safe ∙ h.safe)
+
+      matches : (b far : Bool) → (k == 0) ≡ b → whole ≡ far → M need m1 (block e (if b then [] else code far) v)
+      matches true far none told =
           let zero_wanted : k ≡ 0 = eqb-true k 0 none in
           let number = address_number p place t.bytes o offset in
           let nothing : value v.at (base t) k ≡ number % 256 ^ k =
           subst (λ (b : ℕ). value v.at (base t) b ≡ number % 256 ^ b) (sym zero_wanted) (omega arith) in
           written p e slots home base place y t (points q) need (without t.at need) m (begun i m) v v it h stays (λ j a b c d. refl)
           (nothing, pointed) h.bytes refl h.seen h.left h.safe
-      matches false some =
+      matches false true some told =
+          let w = whole_address link.core t.bytes bank told in
+          let large : e.core ≡ Large = sym one_core ∙ w.0 in
+          let three : t.bytes ≡ 3 = w.1 in
+          let flash : bank_of is.declared.home ≡ FlashBank = sym bank_is ∙ w.2 in
+          let there : e.far_of o offset ≡ place o + offset = room.far large flash offset is.within in
+          let low : e.address_of o offset ≡ e.far_of o offset % 65536 = room.at offset is.within ∙ ap (λ b. b % 65536) (sym there) in
+          let end = room.end in
+          let most = greatest_end e.core is.declared.home in
+          let within = is.within in
+          let small : e.far_of o offset < 16777216 = omega (arith, there, end, most, within) in
+          let stand : StandsFrom e (home t) 3 (base t) Own =
+          subst (λ (b : ℕ). StandsFrom e (home t) b (base t) Own) three (y.layout.temps_at t it) in
+          let clear : Outside (base t) 3 30 =
+          subst (λ (b : ℕ). Outside (base t) b 30) three (leaves_z (base t) t.bytes t.bytes (omega arith) (y.layout.temps_work t it)).low in
+          let done = (y.pointers.far.addresses e (home t) o offset (base t) v low small stand clear).0 in
+          let number : e.far_of o offset ≡ address_number p place 3 o offset =
+          there ∙ flash_number (place o + offset) ∙ ap (λ (b : Bank). number_with (place o + offset) (tag_in 3 b)) (sym w.2) in
+          put_matches (block e (code true) v)
+          (subst (λ (b : ℕ). HasPut v (base t) b (address_number p place b o offset) (block e (code true) v)) (sym three)
+          (subst (λ (b : ℕ). HasPut v (base t) 3 b (block e (code true) v)) number done))
+      matches false false some told =
           let stand : StandsFrom e (home t) (pointer_bytes tag) (base t) Own =
           subst (λ (b : ℕ). StandsFrom e (home t) b (base t) Own) (sym size) (y.layout.temps_at t it) in
           let clear : Outside (base t) (pointer_bytes tag) 30 =
           subst (λ (b : ℕ). Outside (base t) b 30) (sym size)
           (leaves_z (base t) t.bytes t.bytes (omega arith) (y.layout.temps_work t it)).low in
-          let v1 = block e code v in
-          let done = (y.pointers.addresses e (home t) o offset (base t) tag v (is_tag t.bytes (home_of p o)) stand clear).0 in
+          let v1 = block e (code false) v in
+          let done = (y.pointers.addresses e (home t) o offset (base t) tag v (is_tag t.bytes bank) stand clear).0 in
           let put : HasPut v (base t) t.bytes (pointer_number (e.address_of o offset) tag) v1 =
           subst (λ (b : ℕ). HasPut v (base t) b (pointer_number (e.address_of o offset) tag) v1) size done in
-          let there = (room_of p e slots home base place y o is.declared is.is_object is.addressable).at offset is.within in
-          let full : value v1.at (base t) t.bytes ≡ address_number p place t.bytes o offset =
-          put.number_is ∙ ap (λ (b : ℕ). pointer_number b tag) there in
-          let numbers = put.numbers h.bytes in
-          let held = held_row v1 (base t) t.bytes (y.layout.temps_at t it).clear numbers in
-          let here : value v1.at (base t) k ≡ address_number p place t.bytes o offset % 256 ^ k =
-          sym (value_mod v1.at (base t) k t.bytes (wanted_most need t) held) ∙ ap (λ b. b % 256 ^ k) full in
-          written p e slots home base place y t (points q) need (without t.at need) m (begun i m) v v1 it h stays
-          (λ j a b c d. put.same j c d) (here, pointed) numbers refl (put.seen ∙ h.seen)
-          (kept_left y.inputs m.state v v1 put.inputs h.left) (put.safe ∙ h.safe)
+          let small : t.bytes ≡ 3 → place o + offset < 65536 =
+          λ three.
+          (let near = near_address link.core t.bytes bank is.declared.home bank_is told three in
+          let end = room.end in
+          let last : address_end e.core is.declared.home ≡ 65536 = ap (λ c. address_end c is.declared.home) (sym one_core) ∙ near in
+          let within = is.within in
+          omega (arith, end, last, within)) in
+          let number : pointer_number (e.address_of o offset) tag ≡ address_number p place t.bytes o offset =
+          ap (λ (b : ℕ). pointer_number b tag) (room.at offset is.within) ∙ near_number t.bytes (place o + offset) bank is.size small in
+          put_matches v1 (subst (λ (b : ℕ). HasPut v (base t) t.bytes b v1) number put)
 
   -- ---- fields
 
@@ -290,9 +387,9 @@ module _ (p : PlainProgram) (functions : List PlainIrFunction) (e : Env) (slots 
 
   pub field_follows : (ptr : Temp) (space : SpaceId) (offset : ℕ) (rest : List PlainIr) (n pc : ℕ) (m : Mach) (v : View)
       → IsInto slots space ptr → HasAt e (own_items (field ptr space offset) rest) pc end
-      → M (needs at (field ptr space offset ∷ rest)) m v → Rest (suc n) rest
+      → M (needs at (field ptr space offset ∷ rest)) m v → link.core ≡ e.core → Rest (suc n) rest
       → G (suc n) m.state.work pc v (P n (field ptr space offset) rest m)
-  field_follows ptr space offset rest n pc m v into stands h f =
+  field_follows ptr space offset rest n pc m v into stands h one_core f =
       from_pointer p e slots home base place y ptr m.temps s _ (suc n) m.state.work pc v tt
       (λ q i. let k = whole p e slots home base place y need m v ptr _ h into.0 i refl in by_moved q k
       (moved (Some q) (referent_of p (Some q) s) (pos offset)) refl)
@@ -309,40 +406,109 @@ module _ (p : PlainProgram) (functions : List PlainIrFunction) (e : Env) (slots 
       two : 2 ≤ ptr.bytes
       two = (some_bytes ptr.bytes (pointer_size space ptr.bytes into.1)).0
 
-      w : View
-      w = block e (field_code (home ptr) offset) v
+      far : Bool
+      far = is_far link.core ptr.bytes
 
-      put : HasPut v a 2 ((value v.at a 2 + offset) % 65536) w
-      put =
-          let stand = stands_less e (home ptr) ptr.bytes 2 a Own two (y.layout.temps_at ptr into.0) in
-          y.pointers.fields e (home ptr) offset a v stand (leaves_z a ptr.bytes 2 two (y.layout.temps_work ptr into.0)).low h.bytes
+      code : Bool → List AsmItem
+      code far = if far then field_far_code (home ptr) offset else field_code (home ptr) offset
+
+      straight : (far : Bool) → all_straight (code far) ≡ true
+      straight true = (y.pointers.far.straight 0 offset (home ptr) (home ptr) 0).1
+      straight false = (y.pointers.straight 0 offset None (home ptr) (home ptr) 0).1
+
+      steps : (far : Bool) → code_steps (code far) ≤ 9
+      steps true = (y.pointers.far.take 0 offset (home ptr) (home ptr) 0).1.1
+      steps false = let take = (y.pointers.take 0 offset None (home ptr) (home ptr) 0).1.1 in omega (arith, take)
+
+      clear : (n : ℕ) → n ≤ ptr.bytes → Outside a n 30
+      clear n l = (leaves_z a ptr.bytes n l (y.layout.temps_work ptr into.0)).low
 
       stays : (b : ℕ) → b ≢ ptr.at → need b ≤ at_least ptr.at ptr.bytes need b
       stays b d = least_other ptr.at ptr.bytes b need
 
+      number_at : ObjectPointer → ℕ
+      number_at q = address_number p place ptr.bytes q.object (q.offset + offset)
+
+      -- the code leaves the number of the pointer further on
+      put_near : (q : ObjectPointer) → HoldsContent p place v.at a ptr.bytes ptr.bytes (points q)
+          → (ptr.bytes ≡ 3 → place q.object + (q.offset + offset) < 65536) → HasPut v a ptr.bytes (number_at q) (block e (code false) v)
+      put_near q k small =
+          let w = block e (code false) v in
+          let bank = home_of p q.object in
+          let stand = stands_less e (home ptr) ptr.bytes 2 a Own two (y.layout.temps_at ptr into.0) in
+          let put = y.pointers.fields e (home ptr) offset a v stand (clear 2 two) h.bytes in
+          let was = address_held p e slots home base place y v ptr q h.bytes into.0 k in
+          let from = place q.object + q.offset in
+          let before = was.low in
+          let low : value w.at a 2 ≡ (place q.object + (q.offset + offset)) % 65536 =
+          put.number_is ∙ ap (λ (b : ℕ). (b + offset) % 65536) was.low ∙ omega arith in
+          let tag : ptr.bytes ≡ 3 → (place q.object + (q.offset + offset) < 65536) × (w.at (a + 2) ≡ tag_of bank) =
+          λ q3.
+          (let few = small q3 in
+          let whole = was.whole q3 in
+          let outside = clear 3 (omega (arith, q3)) in
+          let other : a + 2 ≢ 30 = λ r. let o = outside (omega (arith, r)) in omega (arith, o, r) in
+          let top : v.at (a + 2) ≡ tag_of bank = omega (arith, whole, before, few) in
+          (few, put.same (a + 2) other (λ l. omega arith) ∙ top)) in
+          record {
+            number_is = pointer_made w.at a ptr.bytes (place q.object + (q.offset + offset)) bank k.1.size low tag;
+            numbers = put.numbers;
+            same = λ j x o. put.same j x (narrower a ptr.bytes 2 j two o);
+            inputs = put.inputs;
+            safe = put.safe;
+            seen = put.seen;
+          }
+
+      put_far : (q : ObjectPointer) → HoldsContent p place v.at a ptr.bytes ptr.bytes (points q) → ptr.bytes ≡ 3
+          → place q.object + (q.offset + offset) < 131_072 → HasPut v a ptr.bytes (number_at q) (block e (code true) v)
+      put_far q k three small =
+          let w = block e (code true) v in
+          let bank = home_of p q.object in
+          let stand : StandsFrom e (home ptr) 3 a Own =
+          subst (λ (b : ℕ). StandsFrom e (home ptr) b a Own) three (y.layout.temps_at ptr into.0) in
+          let put = y.pointers.far.fields e (home ptr) offset a v stand (clear 3 (omega (arith, three))) h.bytes in
+          let whole = (address_held p e slots home base place y v ptr q h.bytes into.0 k).whole three in
+          let tag = tag_below bank in
+          let number : (value v.at a 3 + offset) % 16777216 ≡ address_number p place 3 q.object (q.offset + offset) =
+          ap (λ (b : ℕ). (b + offset) % 16777216) whole ∙ omega (arith, small, tag) in
+          subst (λ (b : ℕ). HasPut v a b (address_number p place b q.object (q.offset + offset)) w) (sym three)
+          (subst (λ (b : ℕ). HasPut v a 3 b w) number put)
+
+      puts : (q : ObjectPointer) (k : HoldsContent p place v.at a ptr.bytes ptr.bytes (points q))
+          → q.offset + offset ≤ size_of_type p.structs k.1.pointed.declared.ty
+          → (b : Bool) → far ≡ b → HasPut v a ptr.bytes (number_at q) (block e (code b) v)
+      puts q k within b told =
+          let d = k.1.pointed.declared in
+          let room = room_of p e slots home base place y q.object d k.1.pointed.is_object k.1.pointed.addressable in
+          let end = room.end in
+          by_far b told end
+        where
+          by_far : (b : Bool) → far ≡ b → place q.object + size_of_type p.structs k.1.pointed.declared.ty
+              < address_end e.core k.1.pointed.declared.home → HasPut v a ptr.bytes (number_at q) (block e (code b) v)
+          by_far true told end =
+              let most = greatest_end e.core k.1.pointed.declared.home in
+              put_far q k (far_pointer link.core ptr.bytes told).1 (omega (arith, end, most, within))
+          by_far false told end =
+              put_near q k
+              (λ three.
+              let near : address_end e.core k.1.pointed.declared.home ≡ 65536 =
+              small_end e.core k.1.pointed.declared.home
+              (sym one_core ∙ near_core link.core (subst (λ (b : ℕ). is_far link.core b ≡ false) three told)) in
+              omega (arith, end, near, within))
+
       -- the temporary holds the pointer further on
       matches : (q : ObjectPointer) (k : HoldsContent p place v.at a ptr.bytes ptr.bytes (points q)) (z : PointerValue)
           → IsFurther q (size_of_type p.structs k.1.pointed.declared.ty) offset z
-          → M need (machine (with_temp ptr (Pointer z) m.temps) s) w
+          → M need (machine (with_temp ptr (Pointer z) m.temps) s) (block e (code far) v)
       matches q k z further =
+          let w = block e (code far) v in
+          let put = puts q k further.within far refl in
           let to : ObjectPointer = record { object = q.object; instance = q.instance; offset = q.offset + offset } in
-          let bank = home_of p q.object in
-          let was = address_held p e slots home base place y v ptr q h.bytes into.0 k in
-          let low : value w.at a 2 ≡ (place q.object + (q.offset + offset)) % 65536 =
-          put.number_is ∙ ap (λ (b : ℕ). (b + offset) % 65536) was.low ∙ ap (λ (b : ℕ). b % 65536) (omega arith) in
-          let far : ptr.bytes ≡ 3 → a + 2 ≢ 30 =
-          λ q r.
-          (let clear = leaves_z a ptr.bytes 3 (omega (arith, q)) (y.layout.temps_work ptr into.0) in
-          let o = clear.low (omega (arith, r)) in
-          omega (arith, o, r)) in
-          let tag : ptr.bytes ≡ 3 → w.at (a + 2) ≡ tag_of bank = λ q. put.same (a + 2) (far q) (λ l. omega arith) ∙ was.tag q in
-          let full : value w.at a ptr.bytes ≡ address_number p place ptr.bytes q.object (q.offset + offset) =
-          pointer_made w.at a ptr.bytes (place q.object + (q.offset + offset)) bank k.1.size low tag in
           let numbers = put.numbers h.bytes in
           let held = held_row w a ptr.bytes (y.layout.temps_at ptr into.0).clear numbers in
           let b = wanted need ptr in
           let here : value w.at a b ≡ address_number p place ptr.bytes to.object to.offset % 256 ^ b =
-          sym (value_mod w.at a b ptr.bytes (wanted_most need ptr) held) ∙ ap (λ x. x % 256 ^ b) full in
+          sym (value_mod w.at a b ptr.bytes (wanted_most need ptr) held) ∙ ap (λ x. x % 256 ^ b) put.number_is in
           let is = k.1.pointed in
           let pointed : IsPointerIn p ptr.bytes to = record {
             pointed = record {
@@ -353,10 +519,11 @@ module _ (p : PlainProgram) (functions : List PlainIrFunction) (e : Env) (slots 
               within = further.within;
             };
             size = k.1.size;
+            of = k.1.of;
           } in
           let done =
           written p e slots home base place y ptr (points to) need (at_least ptr.at ptr.bytes need) m s v w into.0 h stays
-          (λ j x0 x1 x30 o. put.same j x30 (narrower a ptr.bytes 2 j two o)) (here, pointed) numbers refl (put.seen ∙ h.seen)
+          (λ j x0 x1 x30 o. put.same j x30 o) (here, pointed) numbers refl (put.seen ∙ h.seen)
           (kept_left y.inputs m.state v w put.inputs h.left) (put.safe ∙ h.safe) in
           subst (λ (x : PointerValue). M need (machine (with_temp ptr (Pointer x) m.temps) s) w) (sym further.is) done
 
@@ -365,10 +532,10 @@ module _ (p : PlainProgram) (functions : List PlainIrFunction) (e : Env) (slots 
           → G (suc n) m.state.work pc v (next (given r s) (λ z s2. R (suc n) rest (machine (with_temp ptr (Pointer z) m.temps) s2)))
       by_moved q k (Ok z) i =
           let m1 = machine (with_temp ptr (Pointer z) m.temps) s in
-          let take = (y.pointers.take 0 offset None (home ptr) (home ptr) 0).1.1 in
+          let few = steps far in
           passes (field ptr space offset) rest (suc n) (suc n) m.state.work m1.state.work pc v (R (suc n) rest m1) stands
-          (y.pointers.straight 0 offset None (home ptr) (home ptr) 0).1 (omega arith) (omega (arith, take))
-          (λ mid u. f mid m1 w u (matches q k z (moved_further q k.1.pointed s offset z i)))
+          (straight far) (omega arith) (omega (arith, few))
+          (λ mid u. f mid m1 (block e (code far) v) u (matches q k z (moved_further q k.1.pointed s offset z i)))
       by_moved q k (Err point) i = tt
 
   -- ---- loads and stores through pointers
@@ -395,9 +562,9 @@ module _ (p : PlainProgram) (functions : List PlainIrFunction) (e : Env) (slots 
 
   pub load_at_follows : (to ptr : Temp) (space : SpaceId) (rest : List PlainIr) (n pc : ℕ) (m : Mach) (v : View)
       → HasHome slots to → IsInto slots space ptr → HasAt e (own_items (load_at to ptr space) rest) pc end
-      → M (needs at (load_at to ptr space ∷ rest)) m v → Rest n rest
+      → M (needs at (load_at to ptr space ∷ rest)) m v → link.core ≡ e.core → Rest n rest
       → G (suc n) m.state.work pc v (P n (load_at to ptr space) rest m)
-  load_at_follows to ptr space rest n pc m v it into stands h f =
+  load_at_follows to ptr space rest n pc m v it into stands h one_core f =
       from_pointer p e slots home base place y ptr m.temps s _ (suc n) m.state.work pc v tt
       (λ q i. let k = whole p e slots home base place y (without to.at need) m v ptr _ h into.0 i refl in
       from_access p e slots home base place y space to.bytes q s (λ a. next (read p a s) (load_on n rest to m))
@@ -431,7 +598,8 @@ module _ (p : PlainProgram) (functions : List PlainIrFunction) (e : Env) (slots 
           let a = addressed ptr space to.bytes q s v h.bytes into.0 k r in
           let there = leaf_there p e slots home base place y r.bank l to r.addressable it r.size in
           let run =
-          loads p e slots home base place y space r.bank ptr to (place l.object + l.at) pc parts.0 v r.within into it a there parts.1 in
+          loads p e slots home base place y link.core space r.bank l.declared.home ptr to (place l.object + l.at) pc parts.0 v
+          (sym one_core) r.within r.held into it a there parts.1 in
           let holds = leaf_stands p e slots home base place y r.bank l _ m v r.state u h r.is_state j in
           let kind = addressable_kind l.declared.storage r.addressable in
           let m1 = machine (with_temp to u m.temps) (after_read p e slots home base place y r.bank l space u s) in
@@ -501,12 +669,13 @@ module _ (p : PlainProgram) (functions : List PlainIrFunction) (e : Env) (slots 
           let wide : l.bytes ≡ from.bytes = size ∙ r.size in
           let addressable : IsAddressable l.declared.storage =
           subst (λ (d : PlainObject). IsAddressable d.storage) (sym declared) r.addressable in
-          let low : value v.at (base ptr) 2 ≡ place l.object + l.at =
-          a.low ∙ ap (λ o. place o + r.leaf.at) (sym object) ∙ ap (λ b. place l.object + b) (sym begins) in
+          let low : value v.at (base ptr) 2 ≡ (place l.object + l.at) % 65536 =
+          a.low ∙ ap (λ o. (place o + r.leaf.at) % 65536) (sym object) ∙ ap (λ b. (place l.object + b) % 65536) (sym begins) in
           let brings = stores p e slots home base place y ptr from l v into.0 it two addressable wide low in
           let content = whole p e slots home base place y need1 m v from _ h it held refl in
           let value_there : HoldsLeaf p place v.at (base from) from.bytes u =
-          typed_leaf p place v.at (base from) from.bytes l.ty c u (l.size ∙ wide) typed content in
+          typed_leaf p place (pointed_below p e slots home base place y) v.at (base from) from.bytes l.ty c u (l.size ∙ wide) typed
+          content in
           let holds : HoldsLeaf p place v.at (base from) l.bytes u =
           subst (λ b. HoldsLeaf p place v.at (base from) b u) (sym wide) value_there in
           let kind = addressable_kind l.declared.storage addressable in
@@ -538,9 +707,9 @@ module _ (p : PlainProgram) (functions : List PlainIrFunction) (e : Env) (slots 
 
   pub load_follows : (t : Temp) (o offset : ℕ) (rest : List PlainIr) (n pc : ℕ) (m : Mach) (v : View) → HasHome slots t
       → HasScalarAt p o offset t.bytes → HasAt e (own_items (load_object t o offset) rest) pc end
-      → M (needs at (load_object t o offset ∷ rest)) m v → Rest n rest
+      → M (needs at (load_object t o offset ∷ rest)) m v → link.core ≡ e.core → Rest n rest
       → G (suc n) m.state.work pc v (P n (load_object t o offset) rest m)
-  load_follows t o offset rest n pc m v it has stands h f = at_object (slice_get m.state.objects o) refl
+  load_follows t o offset rest n pc m v it has stands h one_core f = at_object (slice_get m.state.objects o) refl
     where
       i : PlainIr
       i = load_object t o offset
@@ -557,17 +726,27 @@ module _ (p : PlainProgram) (functions : List PlainIrFunction) (e : Env) (slots 
       leaf : (bank : Bank) → bank_of has.declared.home ≡ bank → ObjectLeaf p bank
       leaf bank q = leaf_with p bank o offset t.bytes has q
 
-      code : Bank → List AsmItem
-      code bank = banked_code bank p.objects o offset (home t) t.bytes
+      code : Core → Home → List AsmItem
+      code core kept = banked_code core kept p.objects o offset (home t) t.bytes
 
-      straight : (bank : Bank) → all_straight (code bank) ≡ true
-      straight FlashBank = (y.pointers.tables_short o offset (home t) t.bytes).0
-      straight DataBank = copy_straight (object_location p.objects o offset) (home t) t.bytes
+      near_form : (all_straight (load_table_code o offset (home t) t.bytes) ≡ true)
+          × (t.bytes ≤ code_steps (load_table_code o offset (home t) t.bytes))
+          × (code_steps (load_table_code o offset (home t) t.bytes) ≤ 4 + 2 * t.bytes)
+      near_form =
+          let short = y.pointers.tables_short o offset (home t) t.bytes in
+          let take = short.1 in
+          (short.0, omega (arith, take.0), omega (arith, take.1))
 
-      steps : (bank : Bank) → (t.bytes ≤ code_steps (code bank)) × (code_steps (code bank) ≤ 2 + 2 * t.bytes)
-      steps FlashBank = let take = (y.pointers.tables_short o offset (home t) t.bytes).1 in (omega (arith, take.0), omega (arith, take.1))
-      steps DataBank =
-          let take = copy_steps (object_location p.objects o offset) (home t) t.bytes in (omega (arith, take.0), omega (arith, take.1))
+      form : (core : Core) (kept : Home) → (all_straight (code core kept) ≡ true)
+          × (t.bytes ≤ code_steps (code core kept)) × (code_steps (code core kept) ≤ 4 + 2 * t.bytes)
+      form core FlashHome = near_form
+      form Small FarHome = near_form
+      form Large FarHome =
+          let take = (y.pointers.far.take o offset (home t) (home t) t.bytes).3 in
+          ((y.pointers.far.straight o offset (home t) (home t) t.bytes).3, omega (arith, take.0), take.1)
+      form core DataHome =
+          let take = copy_steps (object_location p.objects o offset) (home t) t.bytes in
+          (copy_straight (object_location p.objects o offset) (home t) t.bytes, omega (arith, take.0), omega (arith, take.1))
 
       stays : (b : ℕ) → b ≢ t.at → need b ≤ without t.at need b
       stays b d = without_other t.at b need d
@@ -575,20 +754,25 @@ module _ (p : PlainProgram) (functions : List PlainIrFunction) (e : Env) (slots 
       matches : (bank : Bank) (q : bank_of has.declared.home ≡ bank) (x : ObjectState) (u : Value) → slice_get m.state.objects o ≡ Some x
           → leaf_of x has.number ≡ Some u
           → M need (machine (with_temp t u m.temps) (after_read p e slots home base place y bank (leaf bank q) space u s))
-          (block e (code bank) v)
+          (block e (code link.core has.declared.home) v)
       matches FlashBank q x u w j =
           let l = leaf FlashBank q in
           let kind = table_kind p e slots home base place y l in
-          let brings = loads_table p e slots home base place y l t v (kind_addressable has.declared.storage kind) it refl in
+          let brings =
+          loads_table p e slots home base place y link.core has.declared.home l t v (sym one_core) refl
+          (kind_addressable has.declared.storage kind) it refl in
           load_brings p e slots home base place y FlashBank l space t need (without t.at need) m v _ (op_steps i) u it refl kind h stays
           (h.tables_hold l x u w j) brings
       matches DataBank q x u w j =
           let l = leaf DataBank q in
           subst
+          (λ (z : Home). M need (machine (with_temp t u m.temps) (after_read p e slots home base place y DataBank l space u s))
+          (block e (code link.core z) v)) (sym (home_in_data has.declared.home q))
+          (subst
           (λ (z : Location). M need (machine (with_temp t u m.temps) (after_read p e slots home base place y DataBank l space u s))
           (block e (copy_code z (home t) t.bytes) v)) (sym (location_is DataBank l))
           (load_matches p e slots home base place y l space t need (without t.at need) m v (op_steps i) u it refl h stays
-          (h.leaves_hold l x u w j))
+          (h.leaves_hold l x u w j)))
 
       at_value : (bank : Bank) (q : bank_of has.declared.home ≡ bank) (x : ObjectState) (u : Value) → slice_get m.state.objects o ≡ Some x
           → leaf_of x has.number ≡ Some u
@@ -596,12 +780,12 @@ module _ (p : PlainProgram) (functions : List PlainIrFunction) (e : Env) (slots 
       at_value bank q x u w j =
           let m1 = machine (with_temp t u m.temps) (after_read p e slots home base place y bank (leaf bank q) space u s) in
           let work : m1.state.work ≡ m.state.work + op_steps i = recorded_work has.declared.storage _ s in
-          let same : home_of p o ≡ bank = home_of_object p o has.declared has.is_object ∙ q in
-          let take = steps (home_of p o) in
+          let same : kept_in p o ≡ has.declared.home = kept_there p o has.declared has.is_object in
+          let take = form link.core (kept_in p o) in
           let some = it.some in
-          passes i rest n (suc n) m.state.work m1.state.work pc v (R n rest m1) stands (straight (home_of p o))
-          (omega (arith, take.0, some)) (omega (arith, take.1, some, work))
-          (λ mid z. f mid m1 _ z (subst (λ (b : Bank). M need m1 (block e (code b) v)) (sym same) (matches bank q x u w j)))
+          passes i rest n (suc n) m.state.work m1.state.work pc v (R n rest m1) stands (form link.core (kept_in p o)).0
+          (omega (arith, take.1, some)) (omega (arith, take.2, some, work))
+          (λ mid z. f mid m1 _ z (subst (λ (b : Home). M need m1 (block e (code link.core b) v)) (sym same) (matches bank q x u w j)))
 
       at_object : (z : Option ObjectState) → slice_get m.state.objects o ≡ z
           → G (suc n) m.state.work pc v (next (read p (object_access p None o offset s) s) (load_on n rest t m))
@@ -645,7 +829,7 @@ module _ (p : PlainProgram) (functions : List PlainIrFunction) (e : Env) (slots 
       stored l c u object begins size declared held typed =
           let content = whole p e slots home base place y need m v t _ h it held refl in
           let value_there : HoldsLeaf p place v.at (base t) t.bytes u =
-          typed_leaf p place v.at (base t) t.bytes l.ty c u (l.size ∙ size) typed content in
+          typed_leaf p place (pointed_below p e slots home base place y) v.at (base t) t.bytes l.ty c u (l.size ∙ size) typed content in
           let holds : HoldsLeaf p place v.at (base t) l.bytes u = subst (λ b. HoldsLeaf p place v.at (base t) b u) (sym size) value_there in
           let m1 = machine m.temps (after_write p e slots home base place y l space u s) in
           let to : location_in l.declared.storage l.object l.at ≡ object_location p.objects o offset =

@@ -2,8 +2,10 @@
 use Rattle.std.proofs.Common.{◌≡◌, ℕ, zero, suc, ◌+◌, ◌*◌, ◌%◌, ◌^◌, ◌<◌, ◌≤◌, ⊎_elim, true, false, Bool, Some, None}
 use Rattle.std.proofs.Common.{Ok, refl, sym, ◌∙◌, subst, arith}
 use Rattle.std.specs.Prelude.{if◌then◌else◌, slice_get}
+use Rattle.ec_space.specs.declared.Core.TheVariants.{Large}
 use Rattle.ec_space.specs.declared.space.Bank.{Bank}
 use Rattle.ec_space.specs.declared.space.Bank.TheVariants.{Flash as FlashBank, Data as DataBank}
+use Rattle.ec_space.specs.declared.space.Home.{Home}
 use Rattle.ec_space.specs.Spaces.{bank_of}
 use Rattle.ec_asm.specs.declared.pieces.Location.{Location}
 use Rattle.ec_asm.specs.View.{View}
@@ -23,15 +25,15 @@ use Rattle.ec_core.specs.Valid.{IsAddressable}
 use Rattle.ec_fx.specs.Formats.{format_of}
 use Rattle.ec_ir.specs.declared.operations.Temp.{Temp}
 use Rattle.ec_ir.specs.Temporaries.{Content, bits, points, value_of_type, is_in_space, low_bytes, number_of_bytes}
-use Rattle.ec_select_pointers.specs.AddressLaws.{pointer_number}
 use Rattle.ec_select_operations.specs.Homes.{HasHome}
 use Rattle.ec_select_operations.specs.Places.{kind_in}
-use Rattle.ec_select_operations.specs.Pointers.{IsPointerSize, home_of, tag_of, tag_in, address_number, IsPointed}
-use Rattle.ec_select_operations.specs.Pointers.{IsPointerIn}
+use Rattle.ec_select_operations.specs.Pointers.{IsPointerSize, home_of, tag_of, tag_in, number_with}
+use Rattle.ec_select_operations.specs.Pointers.{address_number, IsPointed, IsPointerIn}
 use Rattle.ec_select_functions.specs.Relation.{HoldsContent, HoldsLeaf}
-use Rattle.ec_select_functions.specs.Standing.{StandsInMemory, ObjectStands}
+use Rattle.ec_select_functions.specs.Standing.{StandsInMemory, ObjectStands, address_end}
 use Rattle.ec_select_functions.proofs.Setting.{Setting}
 use Rattle.ec_select_functions.proofs.Match.{held_row}
+use Rattle.ec_select_functions.proofs.PointerNumbers.{data_end, greatest_end}
 use Rattle.ec_select_functions.proofs.Wrapped.{low_of_number, kept_below}
 
 -- ---- objects that have an address
@@ -54,56 +56,58 @@ home_of_object p o d q = rw q refl
 
 -- ---- the bytes of a pointer
 
-tag_below : (bank : Bank) → tag_of bank < 256
+pub tag_below : (bank : Bank) → tag_of bank ≤ 0x80
 tag_below FlashBank = omega arith
 tag_below DataBank = omega arith
 
 -- the number of a pointer is one of its bytes
-pub number_fits : (p : PlainProgram) (place : ℕ → ℕ) (n o offset : ℕ) → IsPointerSize n
+pub number_fits : (p : PlainProgram) (place : ℕ → ℕ) (n o offset : ℕ) → IsPointerSize n → place o + offset < 131_072
     → address_number p place n o offset < 256 ^ n
-number_fits p place n o offset size =
+number_fits p place n o offset size low =
     ⊎_elim
     (λ (q : n ≡ 2). subst (λ (b : ℕ). address_number p place b o offset < 256 ^ b) (sym q) (in_two (place o + offset)))
     (λ (q : n ≡ 3). subst (λ (b : ℕ). address_number p place b o offset < 256 ^ b) (sym q)
-    (in_three (place o + offset) (tag_of (home_of p o)) (tag_below (home_of p o))))
+    (in_three (place o + offset) (tag_of (home_of p o)) low (tag_below (home_of p o))))
     size
   where
     in_two : (x : ℕ) → x % 65536 < 65536
     in_two x = omega arith
 
-    in_three : (x tag : ℕ) → tag < 256 → x % 65536 + tag * 65536 < 16777216
-    in_three x tag l = omega arith
+    in_three : (x tag : ℕ) → x < 131_072 → tag ≤ 0x80 → x + tag * 65536 < 16777216
+    in_three x tag l m = omega (arith, l, m)
 
--- its low bytes are the address, and the byte above them is the bank's tag
+-- its low two bytes are those of the address, and three bytes are the address and the bank's tag
 pub record IsAddressedBy (f : ℕ → ℕ) (a bytes place : ℕ) (bank : Bank) : Type 0 where
-  pub low : value f a 2 ≡ place
-  pub tag : bytes ≡ 3 → f (a + 2) ≡ tag_of bank
+  pub low : value f a 2 ≡ place % 65536
+  pub whole : bytes ≡ 3 → value f a 3 ≡ place + tag_of bank * 65536
 
-pub pointer_parts : (f : ℕ → ℕ) (a n place : ℕ) (bank : Bank) → IsPointerSize n → AreHeld f a n → place < 65536
-    → value f a n ≡ pointer_number place (tag_in n bank) % 256 ^ n → IsAddressedBy f a n place bank
+pub pointer_parts : (f : ℕ → ℕ) (a n place : ℕ) (bank : Bank) → IsPointerSize n → AreHeld f a n → place < 131_072
+    → value f a n ≡ number_with place (tag_in n bank) % 256 ^ n → IsAddressedBy f a n place bank
 pointer_parts f a n place bank size held small is =
-    let done = λ (b : ℕ). AreHeld f a b → value f a b ≡ pointer_number place (tag_in b bank) % 256 ^ b → IsAddressedBy f a b place bank in
+    let done = λ (b : ℕ). AreHeld f a b → value f a b ≡ number_with place (tag_in b bank) % 256 ^ b → IsAddressedBy f a b place bank in
     ⊎_elim (λ (q : n ≡ 2). subst done (sym q) of_two held is) (λ (q : n ≡ 3). subst done (sym q) of_three held is) size
   where
     of_two : AreHeld f a 2 → value f a 2 ≡ place % 65536 % 65536 → IsAddressedBy f a 2 place bank
-    of_two held is = record { low = omega (arith, is); tag = λ q. absurd (omega (arith, q)) }
+    of_two held is = record { low = omega (arith, is); whole = λ q. absurd (omega (arith, q)) }
 
-    split : (v t tag : ℕ) → v < 65536 → t < 256 → tag < 256 → v + t * 65536 ≡ (place % 65536 + tag * 65536) % 16777216
-        → (v ≡ place) × (t ≡ tag)
-    split v t tag l r s q = (omega (arith, small), omega (arith, small))
+    low_of : (v t tag : ℕ) → v < 65536 → v + t * 65536 ≡ place + tag * 65536 → v ≡ place % 65536
+    low_of v t tag l q = omega (arith, l, q)
 
-    of_three : AreHeld f a 3 → value f a 3 ≡ (place % 65536 + tag_of bank * 65536) % 16777216 → IsAddressedBy f a 3 place bank
+    of_three : AreHeld f a 3 → value f a 3 ≡ (place + tag_of bank * 65536) % 16777216 → IsAddressedBy f a 3 place bank
     of_three held is =
         let below : value f a 2 < 65536 = value_below f a 2 (λ j r. held j (omega arith)) in
-        let z = split (value f a 2) (f (a + 2)) (tag_of bank) below (held 2 (omega arith)) (tag_below bank) is in
-        record { low = z.0; tag = λ q. z.1 }
+        let tag = tag_below bank in
+        let whole : value f a 3 ≡ place + tag_of bank * 65536 =
+        is ∙ kept_below (place + tag_of bank * 65536) 16777216 (omega (arith, small, tag)) in
+        record { low = low_of (value f a 2) (f (a + 2)) (tag_of bank) below whole; whole = λ q. whole }
 
 -- ---- values of a type
 
 -- the bytes of a content are those of the value of a type with so many bytes
-pub typed_leaf : (p : PlainProgram) (place : ℕ → ℕ) (f : ℕ → ℕ) (a n : ℕ) (ty : PlainType) (c : Content) (u : Value)
+pub typed_leaf : (p : PlainProgram) (place : ℕ → ℕ) → ((q : ObjectPointer) → IsPointed p q → place q.object + q.offset < 131_072)
+    → (f : ℕ → ℕ) (a n : ℕ) (ty : PlainType) (c : Content) (u : Value)
     → scalar_size ty ≡ n → value_of_type p ty c ≡ Ok u → HoldsContent p place f a n n c → HoldsLeaf p place f a n u
-typed_leaf p place f a n ty c u size is h = by_type ty c size is h
+typed_leaf p place low f a n ty c u size is h = by_type ty c size is h
   where
     as_number : (signed : Bool) (b low : ℕ) → b ≡ n → Number (number_of_bytes signed b low) ≡ u
         → (value f a n ≡ low % 256 ^ n) × (low < 256 ^ n) → HoldsLeaf p place f a n u
@@ -117,7 +121,7 @@ typed_leaf p place f a n ty c u size is h = by_type ty c size is h
         → (value f a n ≡ address_number p place n q.object q.offset % 256 ^ n) × IsPointerIn p n q → HoldsLeaf p place f a n u
     as_pointer true q is h =
         let same : Pointer (Some q) ≡ u = cc in
-        let fits = number_fits p place n q.object q.offset h.1.size in
+        let fits = number_fits p place n q.object q.offset h.1.size (low q h.1.pointed) in
         subst (λ (x : Value). HoldsLeaf p place f a n x) same
         (h.0 ∙ kept_below (address_number p place n q.object q.offset) (256 ^ n) fits, h.1)
     as_pointer false q is h = absurd (cc)
@@ -145,27 +149,38 @@ typed_leaf p place f a n ty c u size is h = by_type ty c size is h
 
 module _ (p : PlainProgram) (e : Env) (slots : ℕ) (home : Temp → Location) (base : Temp → ℕ) (place : ℕ → ℕ)
     (y : Setting p e slots home base place) where
-  -- an object that has an address stands there, and its end has one too
-  pub record HasRoom (o n : ℕ) : Type 0 where
-    pub end : place o + n < 65536
-    pub at : (i : ℕ) → i ≤ n → e.address_of o i ≡ place o + i
+  -- An object with a home that has an address stands there, and its end has one too. The code has it modulo 65,536, and in
+  -- the flash bank of the core `large` the whole address
+  pub record HasRoom (kept : Home) (o n : ℕ) : Type 0 where
+    pub end : place o + n < address_end e.core kept
+    pub at : (i : ℕ) → i ≤ n → e.address_of o i ≡ (place o + i) % 65536
+    pub far : e.core ≡ Large → bank_of kept ≡ FlashBank → (i : ℕ) → i ≤ n → e.far_of o i ≡ place o + i
 
   pub room_of : (o : ℕ) (d : PlainObject) → slice_get p.objects o ≡ Some d → IsAddressable d.storage
-      → HasRoom o (size_of_type p.structs d.ty)
+      → HasRoom d.home o (size_of_type p.structs d.ty)
   room_of o d is k = by_home (bank_of d.home) refl
     where
-      by_home : (bank : Bank) → bank_of d.home ≡ bank → HasRoom o (size_of_type p.structs d.ty)
-      by_home FlashBank q = let s = y.tables_stand.each o d is q in record { end = s.end; at = s.at }
+      by_home : (bank : Bank) → bank_of d.home ≡ bank → HasRoom d.home o (size_of_type p.structs d.ty)
+      by_home FlashBank q =
+          let s = y.tables_stand.each o d is q in
+          record { end = s.end; at = s.at; far = λ large bank. s.far large }
       by_home DataBank q =
-          let s = stands_in_memory e o (size_of_type p.structs d.ty) (place o) d.storage k (y.objects_stand o d is q) in
-          record { end = s.end; at = s.at }
+          let n = size_of_type p.structs d.ty in
+          let s = stands_in_memory e o n (place o) d.storage k (y.objects_stand o d is q) in
+          let end = s.end in
+          record {
+            end = subst (λ b. place o + n < b) (sym (data_end e.core d.home q)) end;
+            at = λ i l. s.at i l ∙ sym (kept_below (place o + i) 65536 (omega (arith, end, l)));
+            far = λ large bank. let no : FlashBank ≡ DataBank = sym bank ∙ q in absurd cc;
+          }
 
   -- what a pointer points to has an address
-  pub pointed_below : (q : ObjectPointer) → IsPointed p q → place q.object + q.offset < 65536
+  pub pointed_below : (q : ObjectPointer) → IsPointed p q → place q.object + q.offset < 131_072
   pointed_below q k =
       let room = (room_of q.object k.declared k.is_object k.addressable).end in
+      let most = greatest_end e.core k.declared.home in
       let within = k.within in
-      omega (arith, room, within)
+      omega (arith, room, most, within)
 
   -- the address in a temporary that holds a pointer
   pub address_held : (v : View) (t : Temp) (q : ObjectPointer) → HoldsNumbers v → HasHome slots t

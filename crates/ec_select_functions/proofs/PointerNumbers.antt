@@ -13,9 +13,12 @@ use Rattle.std.proofs.lemmas.Int.{ints}
 use Rattle.std.proofs.lemmas.Bool.{cases_Bool, cases_lt, cases_eq, eq-eqb, ne_eqb, eqb-true, lt-ltb, and_parts}
 use Rattle.std.proofs.lemmas.Bool.Decides.{nat_tests}
 use Rattle.std.proofs.lemmas.Nat.{div-add-mod', mul-le, mul-mod_first, mul-mod_second}
+use Rattle.ec_space.specs.declared.Core.{Core}
+use Rattle.ec_space.specs.declared.Core.TheVariants.{Small, Large}
 use Rattle.ec_space.specs.declared.space.Bank.{Bank}
 use Rattle.ec_space.specs.declared.space.Bank.TheVariants.{Flash as FlashBank, Data as DataBank}
-use Rattle.ec_space.specs.declared.space.Home.TheVariants.{Data as DataHome}
+use Rattle.ec_space.specs.declared.space.Home.{Home}
+use Rattle.ec_space.specs.declared.space.Home.TheVariants.{Flash as FlashHome, Far as FarHome, Data as DataHome}
 use Rattle.ec_space.specs.declared.space.SpaceId.{SpaceId}
 use Rattle.ec_space.specs.declared.space.SpaceId.TheVariants.{Flash, FarFlash, Data, Generic}
 use Rattle.ec_space.specs.Spaces.{bank_of, holds, reaches, width}
@@ -42,27 +45,58 @@ use Rattle.ec_ir.specs.Temporaries.{is_in_space, low_bytes, number_of_bytes}
 use Rattle.ec_select_bytes.specs.Values.{fill_of}
 use Rattle.ec_select_order.specs.declared.relations.Relation.TheVariants.{Less as IsBelow, NotLess, Equal as IsSame}
 use Rattle.ec_select_order.specs.declared.relations.Relation.TheVariants.{NotEqual}
-use Rattle.ec_select_places.specs.Numbers.{Place, number_of, IsPlace, same_place, is_before, offset_of, places_stand}
+use Rattle.ec_select_places.specs.Numbers.{Place, number_of, IsPlace, same_place, is_before, places_stand}
 use Rattle.ec_select_places.specs.Numbers.Place.{Null, At}
 use Rattle.ec_select_places.specs.StepLaws.{index_of, moved_by}
+use Rattle.ec_select_places.specs.FarLaws.{IsFarPlace, InOneBank, far_moved_by}
 use Rattle.ec_select_places.specs.DistanceLaws.{signed_number, IsFrom}
 use Rattle.ec_select_places.specs.Conversions.{embedded}
-use Rattle.ec_select_pointers.specs.AddressLaws.{pointer_number}
+use Rattle.ec_select_operations.specs.Code.{is_far}
 use Rattle.ec_select_operations.specs.Places.{Apart}
 use Rattle.ec_select_operations.specs.Pointers.{home_of, tag_of, address_number, IsPointed, IsPointerIn, IsPointerSize}
 use Rattle.ec_select_operations.specs.Pointers.{is_into_data}
-use Rattle.ec_select_functions.specs.Standing.{StandsInMemory, ObjectStands, TablesStand}
+use Rattle.ec_select_functions.specs.Standing.{StandsInMemory, ObjectStands, TablesStand, address_end}
 use Rattle.ec_select_functions.proofs.Wrapped.{Lifts, low_of, lifts_number, kept_below}
 
 -- ---- where objects stand
 
--- Each object has a byte, and at most 32,767. One that has an address stands above 0, and its end below 65,536
+-- where addresses end on the core `small`, of what two-byte pointers point to, and on both cores
+pub small_end : (core : Core) (home : Home) → core ≡ Small → address_end core home ≡ 65536
+small_end Small home h = refl
+small_end Large home h = cc
+
+pub data_end : (core : Core) (home : Home) → bank_of home ≡ DataBank → address_end core home ≡ 65536
+data_end core FlashHome h = cc
+data_end core FarHome h = cc
+data_end Small DataHome h = refl
+data_end Large DataHome h = refl
+
+pub near_end : (core : Core) (space : SpaceId) (home : Home) → width space ≡ 2 → holds space home ≡ true → address_end core home ≡ 65536
+near_end Small space home w h = refl
+near_end Large Flash FlashHome w h = refl
+near_end Large Flash FarHome w h = cc
+near_end Large Flash DataHome w h = cc
+near_end Large Data FlashHome w h = cc
+near_end Large Data FarHome w h = cc
+near_end Large Data DataHome w h = refl
+near_end Large FarFlash home w h = cc
+near_end Large Generic home w h = cc
+
+pub greatest_end : (core : Core) (home : Home) → address_end core home ≤ 131_072
+greatest_end Small home = omega arith
+greatest_end Large FlashHome = omega arith
+greatest_end Large FarHome = omega arith
+greatest_end Large DataHome = omega arith
+
+-- Each object has a byte, and at most 32,767. One that has an address stands above 0, and its end where that of an object of
+-- its home can be on the core
 pub record HavePlaces (p : PlainProgram) (place : ℕ → ℕ) : Type 0 where
+  pub core : Core
   pub some : (o : ℕ) (d : PlainObject) → slice_get p.objects o ≡ Some d → 1 ≤ size_of_type p.structs d.ty
   pub small : (o : ℕ) (d : PlainObject) → slice_get p.objects o ≡ Some d → size_of_type p.structs d.ty ≤ 32_767
   pub low : (o : ℕ) (d : PlainObject) → slice_get p.objects o ≡ Some d → IsAddressable d.storage → 0 < place o
   pub high : (o : ℕ) (d : PlainObject) → slice_get p.objects o ≡ Some d → IsAddressable d.storage
-      → place o + size_of_type p.structs d.ty < 65536
+      → place o + size_of_type p.structs d.ty < address_end core d.home
 
 -- those of a bank that are live at one moment stand apart
 abbrev pub AreApartIn : (p : PlainProgram) (place : ℕ → ℕ) → State → Type 0
@@ -88,6 +122,7 @@ pub objects_have_places : (p : PlainProgram) (e : Env) (place : ℕ → ℕ)
     → ObjectStands e k (size_of_type p.structs d.ty) (place k) d.storage)
     → TablesStand p e place → AllByRecursion (IsObject p) p.objects → HavePlaces p place
 objects_have_places p e place each t valid = record {
+  core = e.core;
   some = λ k d q. (item_of (IsObject p) p.objects k d valid q).some;
   small = λ k d q. (item_of (IsObject p) p.objects k d valid q).small;
   low = λ k d q a. low_in k d q a (bank_of d.home) refl;
@@ -101,9 +136,18 @@ objects_have_places p e place each t valid = record {
         omega arith
 
     high_in : (k : ℕ) (d : PlainObject) → slice_get p.objects k ≡ Some d → IsAddressable d.storage → (b : Bank) → bank_of d.home ≡ b
-        → place k + size_of_type p.structs d.ty < 65536
+        → place k + size_of_type p.structs d.ty < address_end e.core d.home
     high_in k d q a FlashBank h = (t.each k d q h).end
-    high_in k d q a DataBank h = (in_memory e k (size_of_type p.structs d.ty) (place k) d.storage a (each k d q h)).end
+    high_in k d q a DataBank h =
+        subst (λ n. place k + size_of_type p.structs d.ty < n) (sym (data_end e.core d.home h))
+        (in_memory e k (size_of_type p.structs d.ty) (place k) d.storage a (each k d q h)).end
+
+pub places_core : (p : PlainProgram) (e : Env) (place : ℕ → ℕ)
+    (each : (k : ℕ) (d : PlainObject) → slice_get p.objects k ≡ Some d → bank_of d.home ≡ DataBank
+    → ObjectStands e k (size_of_type p.structs d.ty) (place k) d.storage)
+    (t : TablesStand p e place) (valid : AllByRecursion (IsObject p) p.objects) → (objects_have_places p e place each t valid).core ≡ e.core
+unfolding objects_have_places
+places_core p e place each t valid = refl
 
 -- ---- pointers as places
 
@@ -128,7 +172,7 @@ IsIntoSpace p space (Some q) = is_in_space p space q ≡ true
 pub home_is : (p : PlainProgram) (q : ObjectPointer) → (h : IsPointed p q) → home_of p q.object ≡ bank_of h.declared.home
 home_is p q h = ap (λ o. unwrap_or (option_map (λ (d : PlainObject). bank_of d.home) o) DataBank) h.is_object
 
-tag_small : (b : Bank) → tag_of b < 256
+tag_small : (b : Bank) → tag_of b ≤ 0x80
 tag_small FlashBank = omega arith
 tag_small DataBank = omega arith
 
@@ -137,36 +181,77 @@ module _ (p : PlainProgram) (place : ℕ → ℕ) (h : HavePlaces p place) where
   pub address_low : (q : ObjectPointer) → IsPointed p q → 0 < place q.object + q.offset
   address_low q i = let l = h.low q.object i.declared i.is_object i.addressable in omega arith
 
-  pub address_high : (q : ObjectPointer) → IsPointed p q → place q.object + q.offset < 65536
+  pub address_high : (q : ObjectPointer) (i : IsPointed p q) → place q.object + q.offset < address_end h.core i.declared.home
   address_high q i =
       let l = h.high q.object i.declared i.is_object i.addressable in
       let w = i.within in
-      omega arith
+      omega (arith, l, w)
 
-  pub is_place : (bytes : ℕ) (x : PointerValue) → IsAddressed p bytes x → IsPlace (place_of p place bytes x)
-  is_place bytes None i = tt
-  is_place bytes (Some q) i = (address_low q i.pointed, address_high q i.pointed)
+  pub address_below : (q : ObjectPointer) → IsPointed p q → place q.object + q.offset < 131_072
+  address_below q i =
+      let l = address_high q i in
+      let most = greatest_end h.core i.declared.home in
+      omega (arith, l, most)
+
+  -- on the core `small` it has two bytes, and so has that of a pointer of two bytes
+  pub small_address : (q : ObjectPointer) → IsPointed p q → h.core ≡ Small → place q.object + q.offset < 65536
+  small_address q i small =
+      subst (λ n. place q.object + q.offset < n) (small_end h.core i.declared.home small) (address_high q i)
+
+  pub near_address : (q : ObjectPointer) → IsPointerIn p 2 q → place q.object + q.offset < 65536
+  near_address q i =
+      subst (λ n. place q.object + q.offset < n)
+      (near_end h.core i.of.space i.pointed.declared.home (sym i.of.bytes) i.of.home) (address_high q i.pointed)
+
+  -- so a pointer that has no whole address has all of it in its low two bytes
+  pub low_address : (core : Core) (bytes : ℕ) (q : ObjectPointer) → core ≡ h.core → IsPointerIn p bytes q → is_far core bytes ≡ false
+      → place q.object + q.offset < 65536
+  low_address core bytes q same i near =
+      ⊎_elim
+      (λ (r : bytes ≡ 2). near_address q (subst (λ n. IsPointerIn p n q) r i))
+      (λ (r : bytes ≡ 3). small_address q i.pointed (sym same ∙ small_core core (subst (λ n. is_far core n ≡ false) r near)))
+      i.size
+    where
+      small_core : (core : Core) → is_far core 3 ≡ false → core ≡ Small
+      small_core Small h = refl
+      small_core Large h = cc
+
+  pub is_place : (bytes : ℕ) (x : PointerValue) → IsAddressed p bytes x → h.core ≡ Small → IsPlace (place_of p place bytes x)
+  is_place bytes None i small = tt
+  is_place bytes (Some q) i small = (address_low q i.pointed, small_address q i.pointed small)
+
+  pub is_far_place : (bytes : ℕ) (x : PointerValue) → IsAddressed p bytes x → IsFarPlace (place_of p place bytes x)
+  is_far_place bytes None i = tt
+  is_far_place bytes (Some q) i =
+      let l = address_below q i.pointed in
+      (address_low q i.pointed, omega (arith, l), one_tag (bytes == 3) (home_of p q.object))
+    where
+      one_tag : (b : Bool) (bank : Bank) → ((if b then tag_of bank else 0) ≡ 0x00) ⊎ ((if b then tag_of bank else 0) ≡ 0x80)
+      one_tag false bank = inl refl
+      one_tag true FlashBank = inl refl
+      one_tag true DataBank = inr refl
 
   -- its number
-  pub address_is : (bytes : ℕ) (q : ObjectPointer) → IsPointed p q
+  pub address_is : (bytes : ℕ) (q : ObjectPointer) → IsPointerIn p bytes q
       → address_number p place bytes q.object q.offset ≡ number_of (place_of p place bytes (Some q))
-  address_is bytes q i = by_size (bytes == 3)
+  address_is bytes q i =
+      ⊎_elim
+      (λ (r : bytes ≡ 2). subst Is (sym r) (λ j. let low = near_address q j in omega (arith, low)) i)
+      (λ (r : bytes ≡ 3). subst Is (sym r) (λ j. refl) i)
+      i.size
     where
-      low : (place q.object + q.offset) % 65536 ≡ place q.object + q.offset
-      low = kept_below (place q.object + q.offset) 65536 (address_high q i)
-
-      by_size : (b : Bool) → pointer_number (place q.object + q.offset) (if b then Some (tag_of (home_of p q.object)) else None)
-          ≡ place q.object + q.offset + (if b then tag_of (home_of p q.object) else 0) * 65536
-      by_size true = omega (arith, low)
-      by_size false = omega (arith, low)
+      Is : ℕ → Type 0
+      Is b = IsPointerIn p b q → address_number p place b q.object q.offset ≡ number_of (place_of p place b (Some q))
 
   pub number_below : (bytes : ℕ) (x : PointerValue) → IsPointerSize bytes → IsAddressed p bytes x
       → number_of (place_of p place bytes x) < 256 ^ bytes
   number_below bytes None s i = ⊎_elim (λ (r : bytes ≡ 2). rw r (omega arith)) (λ (r : bytes ≡ 3). rw r (omega arith)) s
   number_below bytes (Some q) s i =
-      let l = address_high q i.pointed in
+      let l = address_below q i.pointed in
       let t = tag_small (home_of p q.object) in
-      ⊎_elim (λ (r : bytes ≡ 2). rw r (omega (arith, l))) (λ (r : bytes ≡ 3). rw r (omega (arith, l, t))) s
+      ⊎_elim
+      (λ (r : bytes ≡ 2). let low = near_address q (subst (λ n. IsPointerIn p n q) r i) in rw r (omega (arith, low)))
+      (λ (r : bytes ≡ 3). rw r (omega (arith, l, t))) s
 
 -- ---- what is known of what pointers point into
 
@@ -496,6 +581,52 @@ module _ (p : PlainProgram) (place : ℕ → ℕ) (h : HavePlaces p place) where
           (λ q r a b same. ge_tells q.offset r.offset ∙ ap not (before q r a b same))
       by_op op is usable w = absurd cc
 
+-- ---- the banks of pointers that are ordered
+
+-- what is ordered points into one object
+ordered_alike : (op : BinOp) (x z : PointerValue) (n : ℤ) → ordered op x z ≡ Ok n
+    → (P : PointerValue → PointerValue → Type 0)
+    → ((q r : ObjectPointer) → q.object ≡ r.object → P (Some q) (Some r)) → P x z
+ordered_alike op None z n h P f = absurd cc
+ordered_alike op (Some q) None n h P f = absurd cc
+ordered_alike op (Some q) (Some r) n h P f = by_instance (q.object == r.object) refl (q.instance == r.instance) h
+  where
+    by_instance : (b : Bool) → (q.object == r.object) ≡ b → (c : Bool)
+        → (if b && c then compared op (nat_cmp q.offset r.offset) else Err Unrelated) ≡ Ok n → P (Some q) (Some r)
+    by_instance true e true w = f q r (eqb-true q.object r.object e)
+    by_instance true e false w = absurd cc
+    by_instance false e c w = absurd cc
+
+-- what the relation of an operator asks of the banks
+abbrev pub MayCompare : BinOp → Place → Place → Type 0
+MayCompare Lt x z = InOneBank x z
+MayCompare Gt x z = InOneBank z x
+MayCompare Le x z = InOneBank z x
+MayCompare Ge x z = InOneBank x z
+MayCompare op x z = ⊤
+
+pub compared_alike : (p : PlainProgram) (place : ℕ → ℕ) (op : BinOp) → is_comparison op ≡ true → (bytes : ℕ) (x z : PointerValue)
+    (of into : Referent) (n : ℤ)
+    → comparison_of_pointers op x of z into ≡ Ok n → MayCompare op (place_of p place bytes x) (place_of p place bytes z)
+compared_alike p place op is bytes x z of into n e = by_op op is (used_ok _ (compared_pointers op x of z into) n e).1
+  where
+    Alike : PointerValue → PointerValue → Type 0
+    Alike x z = InOneBank (place_of p place bytes x) (place_of p place bytes z) × InOneBank (place_of p place bytes z) (place_of p place bytes x)
+
+    alike : (op : BinOp) → ordered op x z ≡ Ok n → Alike x z
+    alike op w = ordered_alike op x z n w Alike
+        (λ q r same. let tags = ap (λ o. tag_byte bytes (home_of p o)) same in (tags, sym tags))
+
+    by_op : (op : BinOp) → is_comparison op ≡ true → compared_pointers op x of z into ≡ Ok n
+        → MayCompare op (place_of p place bytes x) (place_of p place bytes z)
+    by_op Eq is w = tt
+    by_op Ne is w = tt
+    by_op Lt is w = (alike Lt w).0
+    by_op Gt is w = (alike Gt w).1
+    by_op Le is w = (alike Le w).1
+    by_op Ge is w = (alike Ge w).0
+    by_op op is w = absurd cc
+
 -- ---- differences
 
 -- the elements from one offset to another
@@ -582,28 +713,37 @@ from_address a size i j n d = record { negative = d.negative; k = d.k; is = shif
     shifted true distance w = let e = w.0 in (omega arith, w.1)
 
 module _ (p : PlainProgram) (place : ℕ → ℕ) (h : HavePlaces p place) where
-  offset_small : (q : ObjectPointer) → IsPointed p q → q.offset ≤ 32767
+  pub offset_small : (q : ObjectPointer) → IsPointed p q → q.offset ≤ 32767
   offset_small q i = let l = h.small q.object i.declared i.is_object in let w = i.within in omega arith
 
   pub difference_is : (bytes size : ℕ) (x z : PointerValue) (of into : Referent) (n : ℤ) → 1 ≤ size → IsAddressed p bytes x
       → IsAddressed p bytes z → difference_of_pointers size x of z into ≡ Ok n
-      → Distance size (offset_of (place_of p place bytes x)) (offset_of (place_of p place bytes z)) n
+      → Distance size (number_of (place_of p place bytes x)) (number_of (place_of p place bytes z)) n
   difference_is bytes size x z of into n some i j e = by_pointers x z i j (used_ok _ (elements_between size x z) n e).1
     where
       by_pointers : (x z : PointerValue) → IsAddressed p bytes x → IsAddressed p bytes z → elements_between size x z ≡ Ok n
-          → Distance size (offset_of (place_of p place bytes x)) (offset_of (place_of p place bytes z)) n
+          → Distance size (number_of (place_of p place bytes x)) (number_of (place_of p place bytes z)) n
       by_pointers None z i j w = absurd cc
       by_pointers (Some q) None i j w = absurd cc
       by_pointers (Some q) (Some r) i j w = by_instance (q.object == r.object) refl (q.instance == r.instance) w
         where
+          -- the number of a pointer into an object, as an offset from that of its first byte
+          from : ℕ → ℕ
+          from o = place o + tag_byte bytes (home_of p o) * 65536
+
+          number_is : (o : ℕ) (offset : ℕ) → from o + offset ≡ place o + offset + tag_byte bytes (home_of p o) * 65536
+          number_is o offset = omega arith
+
           by_instance : (b : Bool) → (q.object == r.object) ≡ b → (c : Bool)
               → (if b && c then in_elements size (pos q.offset -ℤ pos r.offset) else Err Unrelated) ≡ Ok n
-              → Distance size (place q.object + q.offset) (place r.object + r.offset) n
+              → Distance size (number_of (place_of p place bytes (Some q))) (number_of (place_of p place bytes (Some r))) n
           by_instance true same true u =
-              subst (λ o. Distance size (place q.object + q.offset) (place o + r.offset) n) (eqb-true q.object r.object same)
-              (from_address (place q.object) size q.offset r.offset n
+              subst (λ k. Distance size k (number_of (place_of p place bytes (Some r))) n) (number_is q.object q.offset)
+              (subst (λ k. Distance size (from q.object + q.offset) k n) (number_is r.object r.offset)
+              (subst (λ o. Distance size (from q.object + q.offset) (from o + r.offset) n) (eqb-true q.object r.object same)
+              (from_address (from q.object) size q.offset r.offset n
               (elements_apart size q.offset r.offset n some (offset_small q i.pointed)
-              (offset_small r j.pointed) u))
+              (offset_small r j.pointed) u))))
           by_instance true same false u = absurd cc
           by_instance false same c u = absurd cc
 
@@ -767,7 +907,65 @@ advanced_is minus n taken a i o e x h l k =
     by_sign false g = let w : i + times ≡ o + far * 65536 = plus_step n x.lifts.k x.index i o e x.lifts.is g in omega (arith, w, l, k)
     by_sign true g = let w : i + far * 65536 ≡ o + times = minus_step n x.lifts.k x.index i o e x.lifts.is g in omega (arith, w, l, k)
 
+-- an offset and the distance from it, which is taken modulo 65,536 and then by its sign
+plus_far : (w i o far times : ℕ) → i + times ≡ o + far * 65536 → i ≤ 32767 → o ≤ 32767 → w + o < 16777216
+    → far_moved_by false (w + i) (times % 65536) ≡ w + o
+plus_far w i o far times h il ol wl =
+    ⊎_elim
+    (λ (l : o < i).
+    let y : times % 65536 ≡ 65536 + o - i = omega (arith, h, il, l) in
+    let big : nat_lt (times % 65536) 32768 ≡ false = not_lt (times % 65536) 32768 (omega (arith, y, il, l)) in
+    rw big (omega (arith, y, il, l, wl)))
+    (λ (l : i ≤ o).
+    let y : times % 65536 ≡ o - i = omega (arith, h, ol, l) in
+    let small : nat_lt (times % 65536) 32768 ≡ true = lt-ltb (times % 65536) 32768 (omega (arith, y, ol, l)) in
+    rw small (omega (arith, y, l, wl)))
+    (cases_lt o i)
+
+minus_far : (w i o far times : ℕ) → i + far * 65536 ≡ o + times → i ≤ 32767 → o ≤ 32767 → w + o < 16777216
+    → far_moved_by true (w + i) (times % 65536) ≡ w + o
+minus_far w i o far times h il ol wl =
+    ⊎_elim
+    (λ (l : i < o).
+    let y : times % 65536 ≡ 65536 + i - o = omega (arith, h, ol, l) in
+    let big : nat_lt (times % 65536) 32768 ≡ false = not_lt (times % 65536) 32768 (omega (arith, y, ol, l)) in
+    rw big (omega (arith, y, ol, l, wl)))
+    (λ (l : o ≤ i).
+    let y : times % 65536 ≡ i - o = omega (arith, h, il, l) in
+    let small : nat_lt (times % 65536) 32768 ≡ true = lt-ltb (times % 65536) 32768 (omega (arith, y, il, l)) in
+    rw small (omega (arith, y, il, l, wl)))
+    (cases_lt i o)
+
+-- so is the number of a pointer of three bytes moved, where no object has more than 32,767 bytes
+pub far_advanced_is : (minus : Bool) (n : ℤ) (taken w i o e : ℕ) → IsIndex n taken
+    → pos i +ℤ moved_elements minus n *ℤ pos e ≡ pos o → i ≤ 32767 → o ≤ 32767 → w + o < 16777216
+    → far_moved_by minus (w + i) (taken * (e % 65536) % 65536) ≡ w + o
+far_advanced_is minus n taken w i o e x h il ol wl =
+    ap (far_moved_by minus (w + i)) (x.same (e % 65536) ∙ mul-mod_second x.index e 65536) ∙ by_sign minus h
+  where
+    by_sign : (minus : Bool) → pos i +ℤ moved_elements minus n *ℤ pos e ≡ pos o
+        → far_moved_by minus (w + i) (x.index * e % 65536) ≡ w + o
+    by_sign false g =
+        plus_far w i o (x.lifts.k * e) (x.index * e) (plus_step n x.lifts.k x.index i o e x.lifts.is g) il ol wl
+    by_sign true g =
+        minus_far w i o (x.lifts.k * e) (x.index * e) (minus_step n x.lifts.k x.index i o e x.lifts.is g) il ol wl
+
 -- ---- conversions
+
+-- what is converted to a space has a home that the space holds
+pub converted_home : (p : PlainProgram) (space : SpaceId) (q : ObjectPointer) (i : IsPointed p q) (s : State) (z : PointerValue)
+    → pointer_in_space space (Some q) (referent_of p (Some q) s) ≡ Ok z → holds space i.declared.home ≡ true
+converted_home p space q i s z h = by_live (used_ok r.live _ z h)
+  where
+    r : Referent
+    r = referent_of p (Some q) s
+
+    by_space : (b : Bool) → (if b then Ok (Some q) else Err Narrowing) ≡ Ok z → b ≡ true
+    by_space true w = refl
+    by_space false w = absurd cc
+
+    by_live : (r.live ≡ true) × ((if holds space r.home then Ok (Some q) else Err Narrowing) ≡ Ok z) → holds space i.declared.home ≡ true
+    by_live w = ap (holds space) (sym (known p q i s w.0).1) ∙ by_space (holds space r.home) w.1
 
 pub in_space_is : (space : SpaceId) (x : PointerValue) (of : Referent) (z : PointerValue) → pointer_in_space space x of ≡ Ok z → z ≡ x
 in_space_is space None of z h = cc
@@ -792,11 +990,10 @@ module _ (p : PlainProgram) (place : ℕ → ℕ) (h : HavePlaces p place) where
       low_of_tagged (place q.object + q.offset) (tag_byte bytes (home_of p q.object)) n l
       ∙ sym (low_of_tagged (place q.object + q.offset) (tag_byte other (home_of p q.object)) n l)
 
-  -- the low two bytes are the address
-  pub low_is_offset : (bytes : ℕ) (x : PointerValue) → IsAddressed p bytes x
-      → number_of (place_of p place bytes x) % 65536 ≡ offset_of (place_of p place bytes x)
-  low_is_offset bytes None i = refl
-  low_is_offset bytes (Some q) i = let l = address_high p place h q i.pointed in omega (arith, l)
+  -- the low two bytes are the address, where it has no more
+  pub low_is_offset : (bytes : ℕ) (q : ObjectPointer) → place q.object + q.offset < 65536
+      → number_of (place_of p place bytes (Some q)) % 65536 ≡ place q.object + q.offset
+  low_is_offset bytes q l = omega (arith, l)
 
   pub embedded_is : (space : SpaceId) (const : Bool) (to : PlainType) (x : PointerValue) → width space ≡ 2 → IsAddressed p 2 x
       → IsIntoSpace p space x

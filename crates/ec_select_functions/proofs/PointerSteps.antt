@@ -8,6 +8,8 @@ use Rattle.std.specs.Int.{from_bool}
 use Rattle.std.proofs.lemmas.Bool.{cases_lt, eqb-true, eq-eqb, and_parts}
 use Rattle.std.proofs.lemmas.Nat.{mod_below}
 use Rattle.ec_fx.specs.declared.numbers.Mode.{Mode}
+use Rattle.ec_space.specs.declared.Core.{Core}
+use Rattle.ec_space.specs.declared.Core.TheVariants.{Small, Large}
 use Rattle.ec_space.specs.declared.space.Bank.{Bank}
 use Rattle.ec_space.specs.declared.space.Bank.TheVariants.{Flash as FlashBank, Data as DataBank}
 use Rattle.ec_space.specs.declared.space.SpaceId.{SpaceId}
@@ -35,7 +37,7 @@ use Rattle.ec_core.specs.Accesses.{referent_of, operand_of}
 use Rattle.ec_core.specs.ArithmeticValues.{is_comparison}
 use Rattle.ec_core.specs.Layout.{scalar_size, size_of_type, IsIntegerSize}
 use Rattle.ec_core.specs.Operators.{Operand, offset_result, same_type, as_number, as_pointer, unsuited}
-use Rattle.ec_core.specs.Plain.{PlainType, void, integer, fixed, pointer, array, struct, PlainProgram}
+use Rattle.ec_core.specs.Plain.{PlainType, void, integer, fixed, pointer, array, struct, PlainObject, PlainProgram}
 use Rattle.ec_core.specs.Pointers.{Pointer as PointerValue, sum_of_pointer, difference_of_pointers}
 use Rattle.ec_core.specs.Pointers.{comparison_of_pointers, pointer_in_space}
 use Rattle.ec_core.specs.State.{State, worked, Outcome, next, given}
@@ -45,6 +47,7 @@ use Rattle.ec_core.specs.Words.{widest, operation_words}
 use Rattle.ec_ir.specs.Costs.{op_steps, binary_words, conversion_words, is_bitwise, is_integer}
 use Rattle.ec_ir.specs.Meaning.{Mach, machine, held_as, Frame as Call}
 use Rattle.ec_ir.specs.Operations.{PlainIr, binary_op, conversion, PlainIrFunction}
+use Rattle.ec_ir.specs.Valid.{HasPointersOf}
 use Rattle.ec_ir.specs.Temporaries.{Content, bits, points, content_of, value_of_type, is_in_space, Held, Temps, held}
 use Rattle.ec_ir.specs.Temporaries.{with_temp, with_content}
 use Rattle.ec_ir.specs.Temporaries.{low_bytes, number_of_bytes}
@@ -53,8 +56,12 @@ use Rattle.ec_select_bytes.proofs.Straight.{values_are_straight, values_take}
 use Rattle.ec_select_order.specs.declared.relations.Relation.{Relation}
 use Rattle.ec_select_order.specs.declared.relations.Relation.TheVariants.{Less as IsBelow, NotLess, Equal as IsSame}
 use Rattle.ec_select_order.specs.declared.relations.Relation.TheVariants.{NotEqual}
-use Rattle.ec_select_places.specs.Numbers.{Place, number_of, IsPlace, places_stand, offset_of}
-use Rattle.ec_select_places.specs.Steps.{scale_index_code, advance_code, order_code}
+use Rattle.ec_select_places.specs.Numbers.{Place, number_of, IsPlace, places_stand}
+use Rattle.ec_select_order.specs.Relations.{relation_code}
+use Rattle.ec_select_order.specs.Laws.{Tells}
+use Rattle.ec_select_places.specs.Steps.{scale_index_code, advance_code}
+use Rattle.ec_select_places.specs.Far.{advance_far_code}
+use Rattle.ec_select_places.specs.FarLaws.{IsFarPlace, MayRelate, LeavesWork, far_moved_by}
 use Rattle.ec_select_places.specs.StepLaws.{LeavesZ, Scales, Advances, index_of, moved_by}
 use Rattle.ec_select_places.specs.DistanceLaws.{signed_number, IsFrom, Differs}
 use Rattle.ec_select_places.specs.ConversionLaws.{HasPut}
@@ -67,7 +74,8 @@ use Rattle.ec_select_operations.specs.Code.{is_apart}
 use Rattle.ec_select_operations.specs.Code.{Linkage, own_code, tells_next, ops_code, told_by, tells, family_of, is_signed}
 use Rattle.ec_select_operations.specs.Code.{is_only_tested}
 use Rattle.ec_select_operations.specs.Code.{wanted_bytes}
-use Rattle.ec_select_operations.specs.Code.{move_code, conversion_code, offset_code, is_difference}
+use Rattle.ec_select_operations.specs.Code.{move_code, conversion_code, is_far, moved_code, offset_code, is_difference}
+use Rattle.ec_select_operations.specs.Code.{related_bytes}
 use Rattle.ec_select_operations.specs.Code.{pointers_code}
 use Rattle.ec_select_functions.specs.Covered.{IsPointerBinary, IsPointerConversion}
 use Rattle.ec_select_operations.specs.Homes.{HasHome}
@@ -89,7 +97,8 @@ use Rattle.ec_select_functions.proofs.Transfers.{Brought}
 use Rattle.ec_select_functions.proofs.Numeric.{from_numeric}
 use Rattle.ec_select_functions.proofs.PointerNumbers.{HavePlaces, AreApartIn, objects_have_places, place_of, tag_byte}
 use Rattle.ec_select_functions.proofs.PointerNumbers.{IsAddressed, IsIntoSpace}
-use Rattle.ec_select_functions.proofs.PointerNumbers.{address_high, is_place, address_is, number_below}
+use Rattle.ec_select_functions.proofs.PointerNumbers.{places_core, low_address, offset_small, is_place, is_far_place, address_is, number_below}
+use Rattle.ec_select_functions.proofs.PointerNumbers.{MayCompare, compared_alike, converted_home, far_advanced_is}
 use Rattle.ec_select_functions.proofs.PointerNumbers.{places_compare, comparison_is}
 use Rattle.ec_select_functions.proofs.PointerNumbers.{Distance, difference_is, IsMoved, moved_is, IsIndex, index_is}
 use Rattle.ec_select_functions.proofs.PointerNumbers.{moved_elements}
@@ -119,6 +128,19 @@ leaves_z a n m l c = record { low = below 30 (omega arith) (omega arith); high =
     below : (k : ℕ) → 30 ≤ k → k < 32 → Outside a m k
     below k u w q = ⊎_elim (λ (x : a < 26). let z = c.high.left x in omega arith)
         (λ (x : 26 ≤ a). let z = c.high.right x in absurd (omega arith)) (cases_lt a 26)
+
+-- a pointer that is moved in its object is one of the same spaces
+moved_pointer : (p : PlainProgram) (n : ℕ) (q : ObjectPointer) (bytes : ℤ) (z : PointerValue) → IsPointerIn p n q
+    → (w : IsMoved p q bytes z) → IsPointerIn p n w.to
+moved_pointer p n q bytes z i w =
+    let declared : Some i.pointed.declared ≡ Some w.pointed.declared =
+    sym i.pointed.is_object ∙ ap (slice_get p.objects) (sym w.object) ∙ w.pointed.is_object in
+    let same : i.pointed.declared ≡ w.pointed.declared = cc in
+    record {
+      pointed = w.pointed;
+      size = i.size;
+      of = subst (λ (d : PlainObject). HasPointersOf d n) same i.of;
+    }
 
 -- ---- operands
 
@@ -154,6 +176,10 @@ module _ (p : PlainProgram) (e : Env) (slots : ℕ) (home : Temp → Location) (
   pub have : HavePlaces p place
   have = objects_have_places p e place y.objects_stand y.tables_stand y.valid
 
+  pub have_core : have.core ≡ e.core
+  unfolding have
+  have_core = places_core p e place y.objects_stand y.tables_stand y.valid
+
   -- those that are live at one moment stand apart
   pub are_apart : (s : State) → FramesStand p y.active y.called s.objects → AreApartIn p place s
   are_apart s frames o k d f x z od kf ox kz dx fz banks other = by_home (bank_of d.home) refl
@@ -172,32 +198,41 @@ module _ (p : PlainProgram) (e : Env) (slots : ℕ) (home : Temp → Location) (
   pointer_low need m v a None n h ia q l = ((at_width p e slots home base place y need m v a _ n h ia q refl l).0, tt)
   pointer_low need m v a (Some x) n h ia q l =
       let g = at_width p e slots home base place y need m v a _ n h ia q refl l in
-      (g.0 ∙ ap (λ k. k % 256 ^ n) (address_is p place have a.bytes x g.1.pointed), g.1)
+      (g.0 ∙ ap (λ k. k % 256 ^ n) (address_is p place have a.bytes x g.1), g.1)
 
   -- a pointer as the content of a temporary
   pub holds_pointer : (f : ℕ → ℕ) (a n bytes : ℕ) (x : PointerValue) → IsAddressed p bytes x
       → value f a n ≡ number_of (place_of p place bytes x) % 256 ^ n
       → HoldsContent p place f a n bytes (content_of bytes (Pointer x))
   holds_pointer f a n bytes None i q = (q, pow_pos bytes)
-  holds_pointer f a n bytes (Some x) i q = (q ∙ ap (λ k. k % 256 ^ n) (sym (address_is p place have bytes x i.pointed)), i)
+  holds_pointer f a n bytes (Some x) i q = (q ∙ ap (λ k. k % 256 ^ n) (sym (address_is p place have bytes x i)), i)
 
   -- ---- pointers that are moved
 
+  -- a pointer of so many bytes that has been moved. All else is kept but R0, R1, R8 to R11 and the flags
+  record IsAdvanced (v : View) (b n number : ℕ) (w : View) : Type 0 where
+    number_is : value w.at b n ≡ number
+    numbers : HoldsNumbers w
+    same : (k : ℕ) → k ≢ 0 → k ≢ 1 → Outside 8 4 k → Outside b n k → w.at k ≡ v.at k
+    inputs : w.inputs ≡ v.inputs
+    safe : w.safe ≡ v.safe
+    seen : w.seen ≡ v.seen
+
   -- the code moves a pointer by so many elements
-  pub offset_matches : (minus signed : Bool) (t a b : Temp) (size c low : ℕ) (k : ℤ) (q : ObjectPointer) (z : PointerValue)
-      (need need0 : Need) (m : Mach) (v : View) → HasHome slots t → HasHome slots a → HasHome slots b → t.bytes ≡ a.bytes
+  pub offset_matches : (core : Core) → core ≡ e.core → (minus signed : Bool) (t a b : Temp) (size c low : ℕ) (k : ℤ) (q : ObjectPointer)
+      (z : PointerValue) (need need0 : Need) (m : Mach) (v : View) → HasHome slots t → HasHome slots a → HasHome slots b → t.bytes ≡ a.bytes
       → IsPointerIn p a.bytes q → value v.at (base a) a.bytes ≡ number_of (place_of p place a.bytes (Some q))
       → value v.at (base b) b.bytes ≡ low → IsIndex k (index_of signed b.bytes low)
       → IsMoved p q (moved_elements minus k *ℤ pos size) z → ((u : ℕ) → u ≢ t.at → need u ≤ need0 u) → Shown need0 m v
       → Shown need (machine (with_content t (content_of t.bytes (Pointer z)) m.temps) (worked c m.state))
       (block e (scale_index_code (home b) signed b.bytes (size % 65536)
-      ++ (move_code (home a) (home t) a.bytes ++ advance_code minus (home t))) v)
-  offset_matches minus signed t a b size c low k q z need need0 m v it ia ib same i number index ix moves more h =
+      ++ (move_code (home a) (home t) a.bytes ++ moved_code core a.bytes minus (home t))) v)
+  offset_matches core one_core minus signed t a b size c low k q z need need0 m v it ia ib same i number index ix moves more h =
       subst (λ (x : PointerValue). Shown need (machine (with_content t (content_of t.bytes (Pointer x)) m.temps)
       (worked c m.state)) (block e (scale ++ (move ++ advance)) v)) (sym moves.is)
       (subst (λ (x : View). Shown need (machine (with_content t (points moves.to) m.temps) (worked c m.state)) x) (sym whole_block)
       (written_wide p e slots home base place y t (points moves.to) need need0 m (worked c m.state) v v3 it h more
-      frame held advances.numbers refl
+      frame held ad.numbers refl
       (ad.seen ∙ mv.seen ∙ sc.seen ∙ h.seen) (kept_left y.inputs m.state v v3 (ad.inputs ∙ mv.inputs ∙ sc.inputs)
       h.left) (ad.safe ∙ mv.safe ∙ sc.safe ∙ h.safe)))
     where
@@ -208,7 +243,7 @@ module _ (p : PlainProgram) (e : Env) (slots : ℕ) (home : Temp → Location) (
       move = move_code (home a) (home t) a.bytes
 
       advance : List AsmItem
-      advance = advance_code minus (home t)
+      advance = moved_code core a.bytes minus (home t)
 
       v1 : View
       v1 = block e scale v
@@ -277,83 +312,168 @@ module _ (p : PlainProgram) (e : Env) (slots : ℕ) (home : Temp → Location) (
           (λ j l. subst (λ (n : ℕ). n < 256) (sym (brought j l)) (held_row v (base a) a.bytes some_a h.bytes j l))
           (subst (λ (n : ℕ). n < 256) (sym (z_kept 0 (omega arith))) (sc.numbers 30 (omega arith)))
 
-      advances : Advances v2 (base t) (moved_by minus (value v2.at (base t) 2) (value v2.at 30 2)) v3
-      advances = y.pointers.advanced minus e (home t) (base t) v2 (stands_less e (home t) a.bytes 2 (base t) Own two to_stands)
-          (leaves_z (base t) t.bytes 2 (omega (arith, two, same)) clear_t) numbers2
-
-      ad : Keeps v2 v3 (base t) 2
-      ad = advances.keeps
-
-      place_from : ℕ
-      place_from = place q.object + q.offset
-
-      -- the address before, the index, and the address behind
-      address_before : value v2.at (base t) 2 ≡ place_from
-      address_before =
-          row_value v2.at v.at (base a) (base t) 2 (λ j l. brought j (omega (arith, l, two)))
-          ∙ less_value v.at (base a) a.bytes 2 (number_of (place_of p place a.bytes (Some q))) two
-          (held_row v (base a) a.bytes some_a h.bytes)
-          (number ∙ sym (kept_below (number_of (place_of p place a.bytes (Some q))) (256 ^ a.bytes)
-          (number_below p place have a.bytes (Some q) i.size i)))
-          ∙ low_is_offset p place have a.bytes (Some q) i
-
       index_there : value v2.at 30 2 ≡ index_of signed b.bytes low * (size % 65536) % 65536
       index_there =
           row_value v2.at v1.at 30 30 2 z_kept ∙ sc.number_is ∙ ap (λ (n : ℕ). index_of signed b.bytes n * (size % 65536) % 65536) index
 
-      address_behind : value v3.at (base t) 2 ≡ place q.object + moves.to.offset
-      address_behind =
-          advances.number_is ∙ ap (λ (n : ℕ). moved_by minus n (value v2.at 30 2)) address_before
-          ∙ ap (moved_by minus place_from) index_there
-          ∙ advanced_is minus k (index_of signed b.bytes low) (place q.object) q.offset moves.to.offset size ix moves.offset
-          (address_high p place have q i.pointed) (subst (λ (o : ℕ). place o + moves.to.offset < 65536) moves.object
-          (address_high p place have moves.to moves.pointed))
+      -- the pointer before, at its new place
+      number_before : value v2.at (base t) a.bytes ≡ number_of (place_of p place a.bytes (Some q))
+      number_before = row_value v2.at v.at (base a) (base t) a.bytes brought ∙ number
 
-      third : (x y z w a b t : ℕ) → x ≡ b → y ≡ w → z ≡ a → z + w * 65536 ≡ a + t * 65536 → x + y * 65536 ≡ b + t * 65536
-      third x y z w a b t p q r s = omega (arith, p, q, r, s)
+      -- the pointer that it becomes
+      moved_in : IsPointerIn p a.bytes moves.to
+      moved_in = moved_pointer p a.bytes q (moved_elements minus k *ℤ pos size) z i moves
 
-      -- with a third byte, which is kept
-      new_number : value v3.at (base t) t.bytes ≡ number_of (place_of p place t.bytes (Some moves.to))
-      new_number = ⊎_elim without_tag with_tag i.size
+      to_number : ℕ
+      to_number = number_of (place_of p place a.bytes (Some moves.to))
+
+      object : place moves.to.object ≡ place q.object
+      object = ap place moves.object
+
+      tag : tag_byte a.bytes (home_of p moves.to.object) ≡ tag_byte a.bytes (home_of p q.object)
+      tag = ap (λ (o : ℕ). tag_byte a.bytes (home_of p o)) moves.object
+
+      -- by its low two bytes
+      near : is_far core a.bytes ≡ false → IsAdvanced v2 (base t) a.bytes to_number (block e (advance_code minus (home t)) v2)
+      near is_near =
+          record {
+            number_is = ⊎_elim without_tag with_tag i.size;
+            numbers = advances.numbers;
+            same = λ k r0 r1 low_off o. keeps.same k r0 r1 (narrower (base t) a.bytes 2 k two o);
+            inputs = keeps.inputs;
+            safe = keeps.safe;
+            seen = keeps.seen;
+          }
         where
-          without_tag : a.bytes ≡ 2 → value v3.at (base t) t.bytes ≡ number_of (place_of p place t.bytes (Some moves.to))
-          without_tag r =
-              let s : t.bytes ≡ 2 = same ∙ r in
-              subst (λ (n : ℕ). value v3.at (base t) n ≡ number_of (place_of p place n (Some moves.to))) (sym s)
-              (address_behind ∙ ap (λ (o : ℕ). place o + moves.to.offset) (sym moves.object) ∙ omega arith)
+          w : View
+          w = block e (advance_code minus (home t)) v2
 
-          with_tag : a.bytes ≡ 3 → value v3.at (base t) t.bytes ≡ number_of (place_of p place t.bytes (Some moves.to))
+          advances : Advances v2 (base t) (moved_by minus (value v2.at (base t) 2) (value v2.at 30 2)) w
+          advances = y.pointers.advanced minus e (home t) (base t) v2 (stands_less e (home t) a.bytes 2 (base t) Own two to_stands)
+              (leaves_z (base t) t.bytes 2 (omega (arith, two, same)) clear_t) numbers2
+
+          keeps : Keeps v2 w (base t) 2
+          keeps = advances.keeps
+
+          place_from : ℕ
+          place_from = place q.object + q.offset
+
+          small_from : place_from < 65536
+          small_from = low_address p place have core a.bytes q (one_core ∙ sym have_core) i is_near
+
+          small_to : place q.object + moves.to.offset < 65536
+          small_to = subst (λ (n : ℕ). n + moves.to.offset < 65536) object (low_address p place have core a.bytes moves.to (one_core ∙ sym have_core)
+              moved_in is_near)
+
+          -- the address before, and the address behind
+          address_before : value v2.at (base t) 2 ≡ place_from
+          address_before =
+              less_value v2.at (base t) a.bytes 2 (number_of (place_of p place a.bytes (Some q))) two
+              (held_row v2 (base t) a.bytes some_t numbers2)
+              (number_before ∙ sym (kept_below (number_of (place_of p place a.bytes (Some q))) (256 ^ a.bytes)
+              (number_below p place have a.bytes (Some q) i.size i)))
+              ∙ low_is_offset p place have a.bytes q small_from
+
+          address_behind : value w.at (base t) 2 ≡ place q.object + moves.to.offset
+          address_behind =
+              advances.number_is ∙ ap (λ (n : ℕ). moved_by minus n (value v2.at 30 2)) address_before
+              ∙ ap (moved_by minus place_from) index_there
+              ∙ advanced_is minus k (index_of signed b.bytes low) (place q.object) q.offset moves.to.offset size ix moves.offset
+              small_from small_to
+
+          without_tag : a.bytes ≡ 2 → value w.at (base t) a.bytes ≡ to_number
+          without_tag r =
+              subst (λ (n : ℕ). value w.at (base t) n ≡ number_of (place_of p place n (Some moves.to))) (sym r)
+              (address_behind ∙ ap (λ (o : ℕ). o + moves.to.offset) (sym object) ∙ omega arith)
+
+          third : (x y z w a b t : ℕ) → x ≡ b → y ≡ w → z ≡ a → z + w * 65536 ≡ a + t * 65536 → x + y * 65536 ≡ b + t * 65536
+          third x y z w a b t p q r s = omega (arith, p, q, r, s)
+
+          with_tag : a.bytes ≡ 3 → value w.at (base t) a.bytes ≡ to_number
           with_tag r =
-              let s : t.bytes ≡ 3 = same ∙ r in
-              let last : v3.at (base t + 2) ≡ v.at (base a + 2) =
-              ad.same (base t + 2) (omega (arith, some_t)) (omega (arith, some_t)) (λ o. omega arith)
-              ∙ brought 2 (omega (arith, r)) in
-              let full : value v.at (base a) 3 ≡ number_of (place_of p place 3 (Some q)) =
-              subst (λ (n : ℕ). value v.at (base a) n ≡ number_of (place_of p place n (Some q))) r number in
-              let first : value v.at (base a) 2 ≡ place_from =
-              sym (row_value v2.at v.at (base a) (base t) 2 (λ j l. brought j (omega (arith, l, two))))
-              ∙ address_before in
-              let object : place moves.to.object ≡ place q.object = ap place moves.object in
-              let tag : tag_byte 3 (home_of p moves.to.object) ≡ tag_byte 3 (home_of p q.object) =
+              let last : w.at (base t + 2) ≡ v2.at (base t + 2) =
+              keeps.same (base t + 2) (omega (arith, some_t)) (omega (arith, some_t)) (λ o. omega arith) in
+              let full : value v2.at (base t) 3 ≡ number_of (place_of p place 3 (Some q)) =
+              subst (λ (n : ℕ). value v2.at (base t) n ≡ number_of (place_of p place n (Some q))) r number_before in
+              let tag3 : tag_byte 3 (home_of p moves.to.object) ≡ tag_byte 3 (home_of p q.object) =
               ap (λ (o : ℕ). tag_byte 3 (home_of p o)) moves.object in
-              subst (λ (n : ℕ). value v3.at (base t) n ≡ number_of (place_of p place n (Some moves.to))) (sym s)
-              (third (value v3.at (base t) 2) (v3.at (base t + 2)) (value v.at (base a) 2) (v.at (base a + 2))
+              subst (λ (n : ℕ). value w.at (base t) n ≡ number_of (place_of p place n (Some moves.to))) (sym r)
+              (third (value w.at (base t) 2) (w.at (base t + 2)) (value v2.at (base t) 2) (v2.at (base t + 2))
               place_from (place q.object + moves.to.offset) (tag_byte 3 (home_of p q.object))
-              address_behind last first full ∙ (rw (object, tag) refl))
+              address_behind last address_before full ∙ (rw (object, tag3) refl))
+
+      -- by all three
+      far : is_far core a.bytes ≡ true → IsAdvanced v2 (base t) a.bytes to_number (block e (advance_far_code minus (home t)) v2)
+      far is_so =
+          let three = three_bytes core a.bytes is_so in
+          let limit : (n : ℕ) → n ≡ 3 → IsAdvanced v2 (base t) 3 (number_of (place_of p place n (Some moves.to))) w
+          → IsAdvanced v2 (base t) n (number_of (place_of p place n (Some moves.to))) w =
+          λ n r. subst (λ (j : ℕ). IsAdvanced v2 (base t) j (number_of (place_of p place n (Some moves.to))) w) (sym r) in
+          limit a.bytes three (advanced three)
+        where
+          w : View
+          w = block e (advance_far_code minus (home t)) v2
+
+          three_bytes : (core : Core) (bytes : ℕ) → is_far core bytes ≡ true → bytes ≡ 3
+          three_bytes Small bytes h = absurd cc
+          three_bytes Large bytes h = eqb-true bytes 3 h
+
+          from : ℕ
+          from = place q.object + tag_byte a.bytes (home_of p q.object) * 65536
+
+          work : a.bytes ≡ 3 → LeavesWork (base t) 3
+          work three j l u =
+              let inside : j < t.bytes = omega (arith, l, same, three) in
+              let g = (off_work (base t) t.bytes j clear_t inside).0 u in
+              omega (arith, g)
+
+          advanced : a.bytes ≡ 3 → IsAdvanced v2 (base t) 3 to_number w
+          advanced three =
+              let stands : StandsFrom e (home t) 3 (base t) Own = subst (λ (n : ℕ). StandsFrom e (home t) n (base t) Own) three to_stands in
+              let fa = y.pointers.far.advanced minus e (home t) (base t) v2 stands
+              (leaves_z (base t) t.bytes 3 (omega (arith, same, three)) clear_t) (work three) numbers2 in
+              let full : value v2.at (base t) 3 ≡ from + q.offset =
+              subst (λ (n : ℕ). value v2.at (base t) n ≡ number_of (place_of p place a.bytes (Some q))) three number_before ∙ omega arith in
+              let limit = subst (λ (n : ℕ). to_number < 256 ^ n) three (number_below p place have a.bytes (Some moves.to) i.size moved_in) in
+              let is_to : from + moves.to.offset ≡ to_number = (rw (object, tag) (omega arith)) in
+              let small : from + moves.to.offset < 16777216 = omega (arith, limit, is_to) in
+              let behind : far_moved_by minus (from + q.offset) (index_of signed b.bytes low * (size % 65536) % 65536) ≡ from + moves.to.offset =
+              far_advanced_is minus k (index_of signed b.bytes low) from q.offset moves.to.offset size ix moves.offset
+              (offset_small p place have q i.pointed) (offset_small p place have moves.to moves.pointed) small in
+              record {
+                number_is = fa.number_is ∙ ap (λ (n : ℕ). far_moved_by minus n (value v2.at 30 2)) full
+                    ∙ ap (far_moved_by minus (from + q.offset)) index_there ∙ behind ∙ is_to;
+                numbers = fa.numbers;
+                same = fa.same;
+                inputs = fa.inputs;
+                safe = fa.safe;
+                seen = fa.seen;
+              }
+
+      ad : IsAdvanced v2 (base t) a.bytes to_number v3
+      ad = by_core (is_far core a.bytes) refl
+        where
+          by_core : (b : Bool) → is_far core a.bytes ≡ b
+              → IsAdvanced v2 (base t) a.bytes to_number (block e (if b then advance_far_code minus (home t) else advance_code minus (home t)) v2)
+          by_core true q = far q
+          by_core false q = near q
+
+      new_number : value v3.at (base t) t.bytes ≡ number_of (place_of p place t.bytes (Some moves.to))
+      new_number = subst (λ (n : ℕ). value v3.at (base t) n ≡ number_of (place_of p place n (Some moves.to))) (sym same) ad.number_is
 
       target : IsPointerIn p t.bytes moves.to
-      target = record { pointed = moves.pointed; size = subst IsPointerSize (sym same) i.size }
+      target = subst (λ (n : ℕ). IsPointerIn p n moves.to) (sym same) moved_in
 
       held : HoldsContent p place v3.at (base t) (wanted need t) t.bytes (points moves.to)
       held = holds_pointer v3.at (base t) (wanted need t) t.bytes (Some moves.to) target
           (less_value v3.at (base t) t.bytes (wanted need t) (number_of (place_of p place t.bytes (Some moves.to)))
-          (wanted_most need t) (held_row v3 (base t) t.bytes some_t advances.numbers)
+          (wanted_most need t) (held_row v3 (base t) t.bytes some_t ad.numbers)
           (new_number ∙ sym (kept_below (number_of (place_of p place t.bytes (Some moves.to))) (256 ^ t.bytes)
           (number_below p place have t.bytes (Some moves.to) target.size target))))
 
       frame : Wide v v3 (base t) t.bytes
       frame k r0 r1 low_off high_off o =
-          ad.same k r0 r1 (narrower (base t) t.bytes 2 k (omega (arith, two, same)) o)
+          ad.same k r0 r1 (λ u. let z = low_off u in omega arith) (subst (λ (n : ℕ). Outside (base t) n k) same o)
           ∙ mv.same k r0 (subst (λ (n : ℕ). Outside (base t) n k) same o)
           ∙ sc.same k r0 r1 (λ u. let z = low_off u in omega arith) (λ u. let z = high_off (omega arith) in omega arith)
 
@@ -361,13 +481,14 @@ module _ (p : PlainProgram) (e : Env) (slots : ℕ) (home : Temp → Location) (
 
   -- the code counts the elements between two pointers
   pub difference_matches : (t a b : Temp) (size c : ℕ) (x z : PointerValue) (k : ℤ) (need need0 : Need) (m : Mach) (v : View)
-      → HasHome slots t → HasHome slots a → HasHome slots b → t.bytes ≡ 2 → 2 ≤ a.bytes → 2 ≤ b.bytes → 1 ≤ size
-      → value v.at (base a) 2 ≡ offset_of (place_of p place a.bytes x) → value v.at (base b) 2 ≡ offset_of (place_of p place b.bytes z)
-      → Distance size (offset_of (place_of p place a.bytes x)) (offset_of (place_of p place b.bytes z)) k
+      → HasHome slots t → HasHome slots a → HasHome slots b → t.bytes ≡ 2 → b.bytes ≡ a.bytes → IsPointerSize a.bytes → 1 ≤ size
+      → value v.at (base a) a.bytes ≡ number_of (place_of p place a.bytes x)
+      → value v.at (base b) a.bytes ≡ number_of (place_of p place a.bytes z)
+      → Distance size (number_of (place_of p place a.bytes x)) (number_of (place_of p place a.bytes z)) k
       → ((u : ℕ) → u ≢ t.at → need u ≤ need0 u) → Shown need0 m v
       → Shown need (machine (with_content t (bits (low_bytes t.bytes k)) m.temps) (worked c m.state))
       (block e (elements_code (home a) (home b) (home t) size) v)
-  difference_matches t a b size c x z k need need0 m v it ia ib two two_a two_b some left right d more h =
+  difference_matches t a b size c x z k need need0 m v it ia ib two same size_a some left right d more h =
       written_wide p e slots home base place y t (bits (low_bytes t.bytes k)) need need0 m (worked c m.state) v v1
       it h more frame (low, low_below t.bytes k) dif.numbers refl
       (dif.seen ∙ h.seen) (kept_left y.inputs m.state v v1 dif.inputs h.left) (dif.safe ∙ h.safe)
@@ -375,23 +496,34 @@ module _ (p : PlainProgram) (e : Env) (slots : ℕ) (home : Temp → Location) (
       v1 : View
       v1 = block e (elements_code (home a) (home b) (home t) size) v
 
-      stands : (u : Temp) → HasHome slots u → 2 ≤ u.bytes → StandsFrom e (home u) 2 (base u) Own
-      stands u iu l = stands_less e (home u) u.bytes 2 (base u) Own l (y.layout.temps_at u iu)
+      stands : (u : Temp) → HasHome slots u → (n : ℕ) → n ≤ u.bytes → StandsFrom e (home u) n (base u) Own
+      stands u iu n l = stands_less e (home u) u.bytes n (base u) Own l (y.layout.temps_at u iu)
 
-      clear : (u : Temp) → HasHome slots u → 2 ≤ u.bytes → LeavesZ (base u) 2
-      clear u iu l = leaves_z (base u) u.bytes 2 l (y.layout.temps_work u iu)
+      clear : (u : Temp) → HasHome slots u → (n : ℕ) → n ≤ u.bytes → LeavesZ (base u) n
+      clear u iu n l = leaves_z (base u) u.bytes n l (y.layout.temps_work u iu)
 
       two_t : 2 ≤ t.bytes
       two_t = omega (arith, two)
 
-      is_from : IsFrom d.negative (value v.at (base a) 2) (value v.at (base b) 2) (d.k * size)
-      is_from = subst (λ (n : ℕ). IsFrom d.negative n (value v.at (base b) 2) (d.k * size)) (sym left)
-          (subst (λ (n : ℕ). IsFrom d.negative (offset_of (place_of p place a.bytes x)) n (d.k * size)) (sym right) d.is)
+      is_from : IsFrom d.negative (value v.at (base a) a.bytes) (value v.at (base b) a.bytes) (d.k * size)
+      is_from = subst (λ (n : ℕ). IsFrom d.negative n (value v.at (base b) a.bytes) (d.k * size)) (sym left)
+          (subst (λ (n : ℕ). IsFrom d.negative (number_of (place_of p place a.bytes x)) n (d.k * size)) (sym right) d.is)
+
+      from_bytes : (n : ℕ) → a.bytes ≡ n → IsFrom d.negative (value v.at (base a) n) (value v.at (base b) n) (d.k * size)
+      from_bytes n r = subst (λ (j : ℕ). IsFrom d.negative (value v.at (base a) j) (value v.at (base b) j) (d.k * size)) r is_from
 
       dif : Differs v (base t) (signed_number d.negative d.k) v1
-      dif = y.pointers.elements d.negative e (home a) (home b) (home t) (base a) (base b) (base t) size d.k v
-          (stands a ia two_a) (clear a ia two_a)
-          (stands b ib two_b) (clear b ib two_b) (stands t it two_t) (clear t it two_t) h.bytes some is_from
+      dif =
+          ⊎_elim
+          (λ (r : a.bytes ≡ 2). let la : 2 ≤ a.bytes = omega (arith, r) in let lb : 2 ≤ b.bytes = omega (arith, r, same) in
+          y.pointers.elements d.negative e (home a) (home b) (home t) (base a) (base b) (base t) size d.k v
+          (stands a ia 2 la) (clear a ia 2 la)
+          (stands b ib 2 lb) (clear b ib 2 lb) (stands t it 2 two_t) (clear t it 2 two_t) h.bytes some (from_bytes 2 r))
+          (λ (r : a.bytes ≡ 3). let la : 3 ≤ a.bytes = omega (arith, r) in let lb : 3 ≤ b.bytes = omega (arith, r, same) in
+          y.pointers.far.elements d.negative e (home a) (home b) (home t) (base a) (base b) (base t) size d.k v
+          (stands a ia 3 la) (clear a ia 3 la)
+          (stands b ib 3 lb) (clear b ib 3 lb) (stands t it 2 two_t) (clear t it 2 two_t) h.bytes some (from_bytes 3 r))
+          size_a
 
       whole : value v1.at (base t) t.bytes ≡ low_bytes t.bytes k
       whole = subst (λ (n : ℕ). value v1.at (base t) n ≡ low_bytes n k) (sym two) (dif.number_is ∙ sym d.number)
@@ -555,10 +687,15 @@ tell_steps a t n =
     let z = (values_take t 0 1 n).2 false in
     omega (arith, steps-append (move_code a t (min n 1)) (extend_code false t 1 n), x, z)
 
--- a pointer of other bytes
-resized : (p : PlainProgram) (bytes other : ℕ) (x : PointerValue) → IsPointerSize other → IsAddressed p bytes x → IsAddressed p other x
-resized p bytes other None s i = tt
-resized p bytes other (Some q) s i = record { pointed = i.pointed; size = s }
+-- a pointer into another space, where it can be converted
+resized : (p : PlainProgram) (space : SpaceId) (bytes other : ℕ) (x z : PointerValue) (s : State) → other ≡ width space
+    → pointer_in_space space x (referent_of p x s) ≡ Ok z → IsAddressed p bytes x → IsAddressed p other x
+resized p space bytes other None z s size is i = tt
+resized p space bytes other (Some q) z s size is i = record {
+  pointed = i.pointed;
+  size = pointer_size other space size;
+  of = record { space = space; home = converted_home p space q i.pointed s z is; bytes = size };
+}
 
 -- what is no integer is no number of elements
 pub no_count : (op : BinOp) (count : PlainType) → (IsIntegerType count → ⊥) → HaveOffsetTypes op count → ⊥
@@ -700,13 +837,6 @@ module _ (p : PlainProgram) (functions : List PlainIrFunction) (e : Env) (slots 
       g.0 ∙ kept_below (number_of (place_of p place a.bytes x)) (256 ^ a.bytes)
       (number_below p place (have p e slots home base place y) a.bytes x s g.1)
 
-  -- its address
-  low_number : (need : Need) (m : Mach) (v : View) (a : Temp) (x : PointerValue) → M need m v → HasHome slots a → HoldsPointer m a x
-      → 2 ≤ a.bytes → a.bytes ≤ wanted need a → value v.at (base a) 2 ≡ offset_of (place_of p place a.bytes x)
-  low_number need m v a x h ia q two l =
-      let g = pointer_low p e slots home base place y need m v a x 2 h ia q (omega (arith, two, l)) in
-      g.0 ∙ low_is_offset p place (have p e slots home base place y) a.bytes x g.1
-
   -- how a result goes on
   abbrev Onward : ℕ → List PlainIr → Temp → Mach → State → Result Value Undefined → Outcome Value
   Onward n rest t m st r = next (given r st) (λ u s3. R (suc n) rest (machine (with_temp t u m.temps) s3))
@@ -714,16 +844,16 @@ module _ (p : PlainProgram) (functions : List PlainIrFunction) (e : Env) (slots 
   -- ---- a pointer and a number of elements
 
   offset_passes : (i : PlainIr) (minus signed : Bool) (t a b : Temp) (size low : ℕ) (x : PointerValue) (rest : List PlainIr) (n pc : ℕ)
-      (need0 : Need) (m : Mach) (v : View) → HasHome slots t → HasHome slots a → HasHome slots b → t.bytes ≡ a.bytes
+      (need0 : Need) (m : Mach) (v : View) → link.core ≡ e.core → HasHome slots t → HasHome slots a → HasHome slots b → t.bytes ≡ a.bytes
       → IsPointerSize a.bytes → IsIntegerSize b.bytes
-      → code_of i rest ≡ offset_code minus signed (home a) (home b) (home t) a.bytes b.bytes size (wanted (needs at rest) t)
+      → code_of i rest ≡ offset_code link.core minus signed (home a) (home b) (home t) a.bytes b.bytes size (wanted (needs at rest) t)
       → 640 ≤ op_steps i → HoldsPointer m a x → m.temps b.at ≡ Some (record { bytes = b.bytes; content = bits low })
       → ((wanted (needs at rest) t == 0) ≡ false → (a.bytes ≤ wanted need0 a) × (b.bytes ≤ wanted need0 b))
       → HasAt e (code_of i rest ++ items rest) pc end → ((u : ℕ) → u ≢ t.at → needs at rest u ≤ need0 u) → M need0 m v → Rest (suc n) rest
       → G (suc n) m.state.work pc v (Onward n rest t m (worked (op_steps i) m.state)
       (as_pointer (sum_of_pointer x (referent_of p x (worked (op_steps i) m.state))
       (moved_elements minus (number_of_bytes signed b.bytes low)) size)))
-  offset_passes i minus signed t a b size low x rest n pc need0 m v it ia ib same sa sb code_is room qa qb there stands more h f =
+  offset_passes i minus signed t a b size low x rest n pc need0 m v one_core it ia ib same sa sb code_is room qa qb there stands more h f =
       by_pointer x qa (sum_of_pointer x (referent_of p x st) elements size) refl
     where
       st : State
@@ -738,8 +868,27 @@ module _ (p : PlainProgram) (functions : List PlainIrFunction) (e : Env) (slots 
       scale : List AsmItem
       scale = scale_index_code (home b) signed b.bytes (size % 65536)
 
+      moved : List AsmItem
+      moved = moved_code link.core a.bytes minus (home t)
+
       code : List AsmItem
-      code = scale ++ (move_code (home a) (home t) a.bytes ++ advance_code minus (home t))
+      code = scale ++ (move_code (home a) (home t) a.bytes ++ moved)
+
+      moved_form : (all_straight moved ≡ true) × (code_steps moved ≤ 20)
+      moved_form = by_far (is_far link.core a.bytes)
+        where
+          far : List AsmItem
+          far = advance_far_code minus (home t)
+
+          near : List AsmItem
+          near = advance_code minus (home t)
+
+          by_far : (b : Bool) → (all_straight (if b then far else near) ≡ true) × (code_steps (if b then far else near) ≤ 20)
+          by_far true = let short = y.pointers.far.steps_short minus (home t) in let most = short.at_most in (short.straight, omega (arith, most))
+          by_far false =
+              let short = (y.pointers.steps_short (home b) (home t) signed minus b.bytes (size % 65536)).1 in
+              let most = short.at_most in
+              (short.straight, omega (arith, most))
 
       by_pointer : (x : PointerValue) → HoldsPointer m a x → (r : Result PointerValue Undefined)
           → sum_of_pointer x (referent_of p x st) elements size ≡ r
@@ -756,7 +905,7 @@ module _ (p : PlainProgram) (functions : List PlainIrFunction) (e : Env) (slots 
 
           fits : IsContent t.bytes (content_of t.bytes (Pointer z))
           fits = subst (λ (k : PointerValue). IsContent t.bytes (content_of t.bytes (Pointer k))) (sym moves.is)
-              (record { pointed = moves.pointed; size = subst IsPointerSize (sym same) sa })
+              (subst (λ (k : ℕ). IsPointerIn p k moves.to) (sym same) (moved_pointer p a.bytes o (elements *ℤ pos size) z into moves))
 
           by_need : (k : Bool) → (w == 0) ≡ k → G (suc n) m.state.work pc v
               (R (suc n) rest (resulted t (content_of t.bytes (Pointer z)) (op_steps i) m))
@@ -769,18 +918,17 @@ module _ (p : PlainProgram) (functions : List PlainIrFunction) (e : Env) (slots 
               let g = at_width p e slots home base place y need0 m v b _ b.bytes h ib qb refl l.1 in
               let index : value v.at (base b) b.bytes ≡ low = g.0 ∙ kept_below low (256 ^ b.bytes) g.1 in
               let short = y.pointers.steps_short (home b) (home t) signed minus b.bytes (size % 65536) in
-              let behind = straight-append (move_code (home a) (home t) a.bytes) (advance_code minus (home t))
-              (move_straight (home a) (home t) a.bytes) short.1.straight in
-              let steps = steps-append scale (move_code (home a) (home t) a.bytes ++ advance_code minus (home t)) in
-              let steps1 = steps-append (move_code (home a) (home t) a.bytes) (advance_code minus (home t)) in
+              let behind = straight-append (move_code (home a) (home t) a.bytes) moved (move_straight (home a) (home t) a.bytes) moved_form.0 in
+              let steps = steps-append scale (move_code (home a) (home t) a.bytes ++ moved) in
+              let steps1 = steps-append (move_code (home a) (home t) a.bytes) moved in
               let steps2 = move_steps (home a) (home t) a.bytes in
               let most_scale = short.0.at_most in
-              let most_advance = short.1.at_most in
+              let most_advance = moved_form.1 in
               let most = ia.most in
               straight_passes i code t (content_of t.bytes (Pointer z)) rest n pc m v (code_is ∙ ap (λ j. if j then [] else code) k)
-              (straight-append scale (move_code (home a) (home t) a.bytes ++ advance_code minus (home t)) short.0.straight behind)
+              (straight-append scale (move_code (home a) (home t) a.bytes ++ moved) short.0.straight behind)
               (omega (arith, steps, steps1, steps2, most_scale, most_advance, most)) room stands
-              (offset_matches p e slots home base place y minus signed t a b size (op_steps i) low
+              (offset_matches p e slots home base place y link.core one_core minus signed t a b size (op_steps i) low
               (number_of_bytes signed b.bytes low) o z (needs at rest) need0 m v
               it ia ib same into number index (index_is signed b.bytes low sb g.1) moves more h) f
 
@@ -796,9 +944,9 @@ module _ (p : PlainProgram) (functions : List PlainIrFunction) (e : Env) (slots 
       → IsPointerBinary p slots op t a b ty (pointer space const to) (integer signed bytes)
       → HasAt e (code_of (binary_op op ty mode t a (pointer space const to) b (integer signed bytes)) rest ++ items rest) pc end
       → M (operands_needed t a b (wanted (needs at rest) t) (needs at rest)) m v
-      → Rest (suc n) rest → G (suc n) m.state.work pc v
+      → link.core ≡ e.core → Rest (suc n) rest → G (suc n) m.state.work pc v
       (P n (binary_op op ty mode t a (pointer space const to) b (integer signed bytes)) rest m)
-  pointer_first op ty mode t a space const to b signed bytes rest n pc m v k stands h f =
+  pointer_first op ty mode t a space const to b signed bytes rest n pc m v k stands h one_core f =
       from_pointer p place e space const to a m.temps st _ (suc n) m.state.work pc v
       (λ x qa into. from_numeric p place e (integer signed bytes) b m.temps st _ (suc n) m.state.work pc v tt (sym k.right_bytes)
       (λ low qb.
@@ -806,7 +954,7 @@ module _ (p : PlainProgram) (functions : List PlainIrFunction) (e : Env) (slots 
       (sym (offset_is op (integer signed bytes) k.types.0 (operand_of p (pointer space const to) (Pointer x) st)
       x (number_of_bytes signed b.bytes low)))
       (offset_passes i (is_difference op) signed t a b (size_of_type p.structs to) low x rest n pc
-      (operands_needed t a b w (needs at rest)) m v k.result k.left k.right
+      (operands_needed t a b w (needs at rest)) m v one_core k.result k.left k.right
       same (pointer_size a.bytes space k.left_bytes) (subst IsIntegerSize (sym k.right_bytes) k.right_known) refl
       (binary_room op ty (pointer space const to) (integer signed bytes)) qa qb
       (λ some. (first_there t a b w (needs at rest) some, second_there t a b w (needs at rest) some)) stands
@@ -830,14 +978,14 @@ module _ (p : PlainProgram) (functions : List PlainIrFunction) (e : Env) (slots 
       → IsPointerBinary p slots Add t a b ty (integer signed bytes) (pointer space const to)
       → HasAt e (code_of (binary_op Add ty mode t a (integer signed bytes) b (pointer space const to)) rest ++ items rest) pc end
       → M (operands_needed t a b (wanted (needs at rest) t) (needs at rest)) m v
-      → Rest (suc n) rest → G (suc n) m.state.work pc v
+      → link.core ≡ e.core → Rest (suc n) rest → G (suc n) m.state.work pc v
       (P n (binary_op Add ty mode t a (integer signed bytes) b (pointer space const to)) rest m)
-  pointer_second ty mode t a signed bytes b space const to rest n pc m v k stands h f =
+  pointer_second ty mode t a signed bytes b space const to rest n pc m v k stands h one_core f =
       from_numeric p place e (integer signed bytes) a m.temps st _ (suc n) m.state.work pc v tt (sym k.left_bytes)
       (λ low qa. from_pointer p place e space const to b m.temps st _ (suc n) m.state.work pc v
       (λ x qb into.
       offset_passes i false signed t b a (size_of_type p.structs to) low x rest n pc
-      (operands_needed t a b w (needs at rest)) m v k.result k.right k.left
+      (operands_needed t a b w (needs at rest)) m v one_core k.result k.right k.left
       same (pointer_size b.bytes space k.right_bytes) (subst IsIntegerSize (sym k.left_bytes) k.left_known) refl
       (binary_room Add ty (integer signed bytes) (pointer space const to)) qb qa
       (λ some. (second_there t a b w (needs at rest) some, first_there t a b w (needs at rest) some)) stands
@@ -891,12 +1039,6 @@ module _ (p : PlainProgram) (functions : List PlainIrFunction) (e : Env) (slots 
       size_a : IsPointerSize a.bytes
       size_a = pointer_size a.bytes space k.left_bytes
 
-      two_a : 2 ≤ a.bytes
-      two_a = ⊎_elim (λ (r : a.bytes ≡ 2). omega arith) (λ (r : a.bytes ≡ 3). omega arith) size_a
-
-      two_b : 2 ≤ b.bytes
-      two_b = omega (arith, same, two_a)
-
       room : 640 ≤ op_steps i
       room = binary_room Sub ty (pointer space const to) (pointer space2 const2 to2)
 
@@ -921,10 +1063,10 @@ module _ (p : PlainProgram) (functions : List PlainIrFunction) (e : Env) (slots 
               let far = difference_is p place (have p e slots home base place y) a.bytes size x z
               (referent_of p x st) (referent_of p z st) number k.left_known.1 ia
               (subst (λ (d : ℕ). IsAddressed p d z) same ib) u in
-              let far1 = subst (λ (d : ℕ). Distance size (offset_of (place_of p place a.bytes x))
-              (offset_of (place_of p place d z)) number) (sym same) far in
-              let left = low_number need0 m v a x h k.left qa two_a (first_there t a b w (needs at rest) j) in
-              let right = low_number need0 m v b z h k.right qb two_b (second_there t a b w (needs at rest) j) in
+              let left = whole_number need0 m v a x h k.left qa size_a (first_there t a b w (needs at rest) j) in
+              let right : value v.at (base b) a.bytes ≡ number_of (place_of p place a.bytes z) =
+              subst (λ (d : ℕ). value v.at (base b) d ≡ number_of (place_of p place d z)) same
+              (whole_number need0 m v b z h k.right qb (subst IsPointerSize (sym same) size_a) (second_there t a b w (needs at rest) j)) in
               let short = y.pointers.elements_short (home a) (home b) (home t) size in
               let most = short.at_most in
               straight_passes i (elements_code (home a) (home b) (home t) size) t content rest n pc m v
@@ -932,32 +1074,51 @@ module _ (p : PlainProgram) (functions : List PlainIrFunction) (e : Env) (slots 
               short.straight (omega (arith, most)) room stands
               (difference_matches p e slots home base place y t a b size (op_steps i) x z number (needs at rest)
               need0 m v k.result k.left k.right (k.result_bytes ∙ ap scalar_size k.types.2)
-              two_a two_b k.left_known.1 left right far1 (other_needed t a b w (needs at rest)) h) f
+              same size_a k.left_known.1 left right far (other_needed t a b w (needs at rest)) h) f
 
-  -- the code of a relation of two pointers, and what comes after it
+  -- what is known of two places that a relation is of, by the core
+  abbrev ArePlaces : Core → Relation → (X Z : Place) → Type 0
+  ArePlaces Small r X Z = IsPlace X × IsPlace Z
+  ArePlaces Large r X Z = IsFarPlace X × IsFarPlace Z × MayRelate r X Z
+
+  -- the code of a relation of two pointers
+  abbrev related_code : Core → Relation → (l u : Location) → ℕ → List AsmItem
+  related_code core r l u bytes = relation_code r false l u (related_bytes core r bytes)
+
+  related : (core : Core) (r : Relation) (l u : Location) (bytes a b pc to : ℕ) (X Z : Place) (v : View)
+      → IsPointerSize bytes → StandsFrom e l bytes a Own → StandsFrom e u bytes b Own → HoldsNumbers v → ArePlaces core r X Z
+      → value v.at a bytes ≡ number_of X → value v.at b bytes ≡ number_of Z → HasAt e (related_code core r l u bytes) pc to
+      → Tells e (3 + 3 * bytes) pc v to (places_stand r X Z)
+  related Small r l u bytes a b pc to X Z v size left right numbers places xl zu stands =
+      let two : 2 ≤ bytes = ⊎_elim (λ (q : bytes ≡ 2). omega arith) (λ (q : bytes ≡ 3). omega arith) size in
+      y.pointers.compared r e l u bytes a b pc to X Z v two left right numbers places.0 places.1 xl zu stands
+  related Large r l u bytes a b pc to X Z v size left right numbers places xl zu stands =
+      let one : 1 ≤ bytes = ⊎_elim (λ (q : bytes ≡ 2). omega arith) (λ (q : bytes ≡ 3). omega arith) size in
+      y.pointers.far.compared r e l u bytes a b pc to X Z v one left right numbers places.0 places.1 places.2 xl zu stands
+
+  -- and what comes after it
   related_passes : (r : Relation) (t l u : Temp) (bytes c : ℕ) (X Z : Place) (rest : List PlainIr) (n pc : ℕ)
       (need0 : Need) (m : Mach) (v : View)
       → HasHome slots t → HasHome slots l → HasHome slots u → l.bytes ≡ bytes → u.bytes ≡ bytes
-      → IsPointerSize bytes → IsPlace X → IsPlace Z
+      → IsPointerSize bytes → ArePlaces link.core r X Z
       → value v.at (base l) bytes ≡ number_of X → value v.at (base u) bytes ≡ number_of Z → 640 ≤ c
-      → HasAt e ((order_code r (home l) (home u) bytes ++ conversion_code false (InRegisters 30) (home t) 1
+      → HasAt e ((related_code link.core r (home l) (home u) bytes ++ conversion_code false (InRegisters 30) (home t) 1
       (wanted (needs at rest) t)) ++ items rest) pc end
       → ((k : ℕ) → k ≢ t.at → needs at rest k ≤ need0 k) → M need0 m v → Rest (suc n) rest
       → G (suc n) m.state.work pc v (R (suc n) rest (resulted t (bits (low_bytes t.bytes (pos (from_bool (places_stand r X Z))))) c m))
-  related_passes r t l u bytes c X Z rest n pc need0 m v it il iu ql qu size place_x place_z xl zu room stands more h f =
+  related_passes r t l u bytes c X Z rest n pc need0 m v it il iu ql qu size places xl zu room stands more h f =
       let k = wanted (needs at rest) t in
-      let relation = order_code r (home l) (home u) bytes in
+      let relation = related_code link.core r (home l) (home u) bytes in
       let conversion = conversion_code false (InRegisters 30) (home t) 1 k in
       let s1 = has_parts e (relation ++ conversion) (items rest) pc end stands in
       let s2 = has_parts e relation conversion pc s1.0 s1.1 in
-      let two : 2 ≤ bytes = ⊎_elim (λ (q : bytes ≡ 2). omega arith) (λ (q : bytes ≡ 3). omega arith) size in
       let few : bytes ≤ 3 = ⊎_elim (λ (q : bytes ≡ 2). omega arith) (λ (q : bytes ≡ 3). omega arith) size in
       let left : StandsFrom e (home l) bytes (base l) Own = subst (λ (j : ℕ). StandsFrom e (home l) j (base l) Own)
       ql (y.layout.temps_at l il) in
       let right : StandsFrom e (home u) bytes (base u) Own =
       subst (λ (j : ℕ). StandsFrom e (home u) j (base u) Own) qu (y.layout.temps_at u iu) in
-      let told = y.pointers.compared r e (home l) (home u) bytes (base l) (base u) pc s2.0 X Z v two left right
-      h.bytes place_x place_z xl zu s2.1 in
+      let told = related link.core r (home l) (home u) bytes (base l) (base u) pc s2.0 X Z v size left right
+      h.bytes places xl zu s2.1 in
       let m1 = resulted t (bits (low_bytes t.bytes (pos (from_bool (places_stand r X Z))))) c m in
       let second = block_goes e conversion s2.0 s1.0 told.last (tell_straight (InRegisters 30) (home t) k) s2.2 in
       let take = tell_steps (InRegisters 30) (home t) k in
@@ -978,16 +1139,17 @@ module _ (p : PlainProgram) (functions : List PlainIrFunction) (e : Env) (slots 
 
   comparison_follows : (op : BinOp) (r : Relation) (exchanged : Bool) → family_of op ≡ Compared r exchanged → is_comparison op ≡ true
       → ((X Z : Place) → places_compare op X Z ≡ places_stand r (first_of exchanged X Z) (first_of exchanged Z X))
+      → ((X Z : Place) → MayCompare op X Z → MayRelate r (first_of exchanged X Z) (first_of exchanged Z X))
       → (ty : PlainType) (mode : Mode) (t a : Temp) (space : SpaceId) (const : Bool) (to : PlainType) (b : Temp)
       (space2 : SpaceId) (const2 : Bool) (to2 : PlainType)
       (rest : List PlainIr) (n pc : ℕ) (m : Mach) (v : View) → space ≡ space2
       → IsPointerBinary p slots op t a b ty (pointer space const to) (pointer space2 const2 to2)
       → HasAt e (code_of (binary_op op ty mode t a (pointer space const to) b (pointer space2 const2 to2)) rest ++ items rest) pc end
       → M (operands_needed t a b (wanted (needs at rest) t) (needs at rest)) m v
-      → Rest (suc n) rest → G (suc n) m.state.work pc v
+      → link.core ≡ e.core → Rest (suc n) rest → G (suc n) m.state.work pc v
       (P n (binary_op op ty mode t a (pointer space const to) b (pointer space2 const2 to2)) rest m)
-  comparison_follows op r exchanged is compares relates ty mode t a space const to b space2 const2 to2 rest n pc m v
-      one_space k stands h f =
+  comparison_follows op r exchanged is compares relates banks ty mode t a space const to b space2 const2 to2 rest n pc m v
+      one_space k stands h one_core f =
       from_pointer p place e space const to a m.temps st _ (suc n) m.state.work pc v
       (λ x qa into. from_pointer p place e space2 const2 to2 b m.temps st _ (suc n) m.state.work pc v
       (λ z qb also.
@@ -1019,8 +1181,8 @@ module _ (p : PlainProgram) (functions : List PlainIrFunction) (e : Env) (slots 
       room : 640 ≤ op_steps i
       room = binary_room op ty (pointer space const to) (pointer space2 const2 to2)
 
-      code_is : code_of i rest ≡ pointers_code (Compared r exchanged) (home a) (home b) (home t) a.bytes (size_of_type p.structs to) w
-      code_is = ap (λ (d : Family). pointers_code d (home a) (home b) (home t) a.bytes (size_of_type p.structs to) w) is
+      code_is : code_of i rest ≡ pointers_code link.core (Compared r exchanged) (home a) (home b) (home t) a.bytes (size_of_type p.structs to) w
+      code_is = ap (λ (d : Family). pointers_code link.core d (home a) (home b) (home t) a.bytes (size_of_type p.structs to) w) is
 
       by_result : (x z : PointerValue) → HoldsPointer m a x → HoldsPointer m b z → IsIntoSpace p space x
           → IsIntoSpace p space z → (d : Result ℤ Undefined)
@@ -1062,10 +1224,10 @@ module _ (p : PlainProgram) (functions : List PlainIrFunction) (e : Env) (slots 
               (code_is ∙ none exchanged) j (low_below t.bytes (pos (from_bool truth))) stands
               (other_needed t a b w (needs at rest)) h room f
             where
-              none : (d : Bool) → pointers_code (Compared r d) (home a) (home b) (home t) a.bytes (size_of_type p.structs to) w ≡ []
+              none : (d : Bool) → pointers_code link.core (Compared r d) (home a) (home b) (home t) a.bytes (size_of_type p.structs to) w ≡ []
               none false = rw j refl
               none true = rw j refl
-          by_need false j = by_side exchanged code_is
+          by_need false j = by_side exchanged code_is places
             where
               left : value v.at (base a) a.bytes ≡ number_of X
               left = whole_number need0 m v a x h k.left qa size_a (first_there t a b w (needs at rest) j)
@@ -1074,28 +1236,48 @@ module _ (p : PlainProgram) (functions : List PlainIrFunction) (e : Env) (slots 
               right = subst (λ (d : ℕ). value v.at (base b) d ≡ number_of (place_of p place d z)) same
                   (whole_number need0 m v b z h k.right qb (subst IsPointerSize (sym same) size_a) (second_there t a b w (needs at rest) j))
 
-              place_x : IsPlace X
-              place_x = is_place p place (have p e slots home base place y) a.bytes x ix
+              -- the relation may be told of them
+              places : ArePlaces link.core r (first_of exchanged X Z) (first_of exchanged Z X)
+              places = by_link link.core one_core
+                where
+                  places_of : HavePlaces p place
+                  places_of = have p e slots home base place y
 
-              place_z : IsPlace Z
-              place_z = is_place p place (have p e slots home base place y) a.bytes z iz
+                  is_small : Small ≡ e.core → places_of.core ≡ Small
+                  is_small small = have_core p e slots home base place y ∙ sym small
 
-              by_side : (d : Bool) → code_of i rest ≡ pointers_code (Compared r d) (home a) (home b) (home t)
+                  both : (P : Place → Type 0) → P X → P Z → (d : Bool) → P (first_of d X Z) × P (first_of d Z X)
+                  both P x z true = (z, x)
+                  both P x z false = (x, z)
+
+                  by_link : (core : Core) → core ≡ e.core → ArePlaces core r (first_of exchanged X Z) (first_of exchanged Z X)
+                  by_link Small small =
+                      both IsPlace (is_place p place places_of a.bytes x ix (is_small small)) (is_place p place places_of a.bytes z iz (is_small small))
+                      exchanged
+                  by_link Large large =
+                      let far = both IsFarPlace (is_far_place p place places_of a.bytes x ix) (is_far_place p place places_of a.bytes z iz) exchanged in (
+                        far.0,
+                        far.1,
+                        banks X Z (compared_alike p place op compares a.bytes x z (referent_of p x st) (referent_of p z st) number u),
+                      )
+
+              by_side : (d : Bool) → code_of i rest ≡ pointers_code link.core (Compared r d) (home a) (home b) (home t)
                   a.bytes (size_of_type p.structs to) w
+                  → ArePlaces link.core r (first_of d X Z) (first_of d Z X)
                   → G (suc n) m.state.work pc v (R (suc n) rest
                   (resulted t (bits (low_bytes t.bytes (pos
                   (from_bool (places_stand r (first_of d X Z) (first_of d Z X)))))) (op_steps i) m))
-              by_side false c =
-                  let code : code_of i rest ≡ order_code r (home a) (home b) a.bytes ++ conversion_code false
+              by_side false c places =
+                  let code : code_of i rest ≡ related_code link.core r (home a) (home b) a.bytes ++ conversion_code false
                   (InRegisters 30) (home t) 1 w = c ∙ rw j refl in
                   related_passes r t a b a.bytes (op_steps i) X Z rest n pc need0 m v k.result k.left k.right refl
-                  same size_a place_x place_z left right room
+                  same size_a places left right room
                   (subst (λ (d : List AsmItem). HasAt e (d ++ items rest) pc end) code stands) (other_needed t a b w (needs at rest)) h f
-              by_side true c =
-                  let code : code_of i rest ≡ order_code r (home b) (home a) a.bytes ++ conversion_code false
+              by_side true c places =
+                  let code : code_of i rest ≡ related_code link.core r (home b) (home a) a.bytes ++ conversion_code false
                   (InRegisters 30) (home t) 1 w = c ∙ rw j refl in
                   related_passes r t b a a.bytes (op_steps i) Z X rest n pc need0 m v k.result k.right k.left same
-                  refl size_a place_z place_x right left room
+                  refl size_a places right left room
                   (subst (λ (d : List AsmItem). HasAt e (d ++ items rest) pc end) code stands) (other_needed t a b w (needs at rest)) h f
 
   two_pointers : (op : BinOp) (ty : PlainType) (mode : Mode) (t a : Temp) (space : SpaceId) (const : Bool)
@@ -1104,29 +1286,29 @@ module _ (p : PlainProgram) (functions : List PlainIrFunction) (e : Env) (slots 
       → IsPointerBinary p slots op t a b ty (pointer space const to) (pointer space2 const2 to2)
       → HasAt e (code_of (binary_op op ty mode t a (pointer space const to) b (pointer space2 const2 to2)) rest ++ items rest) pc end
       → M (operands_needed t a b (wanted (needs at rest) t) (needs at rest)) m v
-      → Rest (suc n) rest → G (suc n) m.state.work pc v
+      → link.core ≡ e.core → Rest (suc n) rest → G (suc n) m.state.work pc v
       (P n (binary_op op ty mode t a (pointer space const to) b (pointer space2 const2 to2)) rest m)
-  two_pointers Sub ty mode t a space const to b space2 const2 to2 rest n pc m v k stands h f =
+  two_pointers Sub ty mode t a space const to b space2 const2 to2 rest n pc m v k stands h one_core f =
       difference_follows ty mode t a space const to b space2 const2 to2 rest n pc m v k stands h f
-  two_pointers Lt ty mode t a space const to b space2 const2 to2 rest n pc m v k stands h f =
-      comparison_follows Lt IsBelow false refl refl (λ X Z. refl) ty mode t a space const to b space2 const2 to2
-      rest n pc m v k.types.0 k stands h f
-  two_pointers Gt ty mode t a space const to b space2 const2 to2 rest n pc m v k stands h f =
-      comparison_follows Gt IsBelow true refl refl (λ X Z. refl) ty mode t a space const to b space2 const2 to2 rest
-      n pc m v k.types.0 k stands h f
-  two_pointers Le ty mode t a space const to b space2 const2 to2 rest n pc m v k stands h f =
-      comparison_follows Le NotLess true refl refl (λ X Z. refl) ty mode t a space const to b space2 const2 to2 rest
-      n pc m v k.types.0 k stands h f
-  two_pointers Ge ty mode t a space const to b space2 const2 to2 rest n pc m v k stands h f =
-      comparison_follows Ge NotLess false refl refl (λ X Z. refl) ty mode t a space const to b space2 const2 to2
-      rest n pc m v k.types.0 k stands h f
-  two_pointers Eq ty mode t a space const to b space2 const2 to2 rest n pc m v k stands h f =
-      comparison_follows Eq IsSame false refl refl (λ X Z. refl) ty mode t a space const to b space2 const2 to2 rest
-      n pc m v k.types.0 k stands h f
-  two_pointers Ne ty mode t a space const to b space2 const2 to2 rest n pc m v k stands h f =
-      comparison_follows Ne NotEqual false refl refl (λ X Z. refl) ty mode t a space const to b space2 const2 to2
-      rest n pc m v k.types.0 k stands h f
-  two_pointers op ty mode t a space const to b space2 const2 to2 rest n pc m v k stands h f = absurd k.types
+  two_pointers Lt ty mode t a space const to b space2 const2 to2 rest n pc m v k stands h one_core f =
+      comparison_follows Lt IsBelow false refl refl (λ X Z. refl) (λ X Z c. c) ty mode t a space const to b space2 const2 to2
+      rest n pc m v k.types.0 k stands h one_core f
+  two_pointers Gt ty mode t a space const to b space2 const2 to2 rest n pc m v k stands h one_core f =
+      comparison_follows Gt IsBelow true refl refl (λ X Z. refl) (λ X Z c. c) ty mode t a space const to b space2 const2 to2 rest
+      n pc m v k.types.0 k stands h one_core f
+  two_pointers Le ty mode t a space const to b space2 const2 to2 rest n pc m v k stands h one_core f =
+      comparison_follows Le NotLess true refl refl (λ X Z. refl) (λ X Z c. c) ty mode t a space const to b space2 const2 to2 rest
+      n pc m v k.types.0 k stands h one_core f
+  two_pointers Ge ty mode t a space const to b space2 const2 to2 rest n pc m v k stands h one_core f =
+      comparison_follows Ge NotLess false refl refl (λ X Z. refl) (λ X Z c. c) ty mode t a space const to b space2 const2 to2
+      rest n pc m v k.types.0 k stands h one_core f
+  two_pointers Eq ty mode t a space const to b space2 const2 to2 rest n pc m v k stands h one_core f =
+      comparison_follows Eq IsSame false refl refl (λ X Z. refl) (λ X Z c. c) ty mode t a space const to b space2 const2 to2 rest
+      n pc m v k.types.0 k stands h one_core f
+  two_pointers Ne ty mode t a space const to b space2 const2 to2 rest n pc m v k stands h one_core f =
+      comparison_follows Ne NotEqual false refl refl (λ X Z. refl) (λ X Z c. c) ty mode t a space const to b space2 const2 to2
+      rest n pc m v k.types.0 k stands h one_core f
+  two_pointers op ty mode t a space const to b space2 const2 to2 rest n pc m v k stands h one_core f = absurd k.types
 
   -- ---- all of them
 
@@ -1137,7 +1319,7 @@ module _ (p : PlainProgram) (functions : List PlainIrFunction) (e : Env) (slots 
       IsPointerBinary p slots op t a b ty aty bty
       → HasAt e (plain_items (binary_op op ty mode t a aty b bty) rest) pc end → M
       (plain_needs (binary_op op ty mode t a aty b bty) rest) m v
-      → Rest (suc n) rest → G (suc n) m.state.work pc v (P n (binary_op op ty mode t a aty b bty) rest m)
+      → link.core ≡ e.core → Rest (suc n) rest → G (suc n) m.state.work pc v (P n (binary_op op ty mode t a aty b bty) rest m)
 
   -- where an operand is a pointer, nothing is told
   untold : (op : BinOp) (ty : PlainType) (mode : Mode) (t a : Temp) (aty : PlainType) (b : Temp) (bty : PlainType)
@@ -1158,36 +1340,36 @@ module _ (p : PlainProgram) (functions : List PlainIrFunction) (e : Env) (slots 
       (rest : List PlainIr) (n pc : ℕ) (m : Mach) (v : View) → IsPointerBinary p slots op t a b ty aty bty
       → HasAt e (plain_items (binary_op op ty mode t a aty b bty) rest) pc end → M
       (plain_needs (binary_op op ty mode t a aty b bty) rest) m v
-      → Rest (suc n) rest → G (suc n) m.state.work pc v (P n (binary_op op ty mode t a aty b bty) rest m)
+      → link.core ≡ e.core → Rest (suc n) rest → G (suc n) m.state.work pc v (P n (binary_op op ty mode t a aty b bty) rest m)
   pointer_binary_follows op ty mode t a aty b bty rest n pc m v = by_types aty bty
     where
       first : (space : SpaceId) (const : Bool) (to z : PlainType) → IsShown op ty mode t a (pointer space const to) b z rest n pc m v
-      first space const to (pointer space2 const2 to2) k stands h f =
+      first space const to (pointer space2 const2 to2) k stands h one_core f =
           two_pointers op ty mode t a space const to b space2 const2 to2 rest n pc m v k
-          (untold op ty mode t a (pointer space const to) b (pointer space2 const2 to2) rest pc refl stands) h f
-      first space const to (integer signed bytes) k stands h f =
+          (untold op ty mode t a (pointer space const to) b (pointer space2 const2 to2) rest pc refl stands) h one_core f
+      first space const to (integer signed bytes) k stands h one_core f =
           pointer_first op ty mode t a space const to b signed bytes rest n pc m v k
-          (untold op ty mode t a (pointer space const to) b (integer signed bytes) rest pc refl stands) h f
-      first space const to (fixed kind saturates) k stands h f = absurd (no_count op (fixed kind saturates) (λ i. i) k.types.0)
-      first space const to void k stands h f = absurd (no_count op void (λ i. i) k.types.0)
-      first space const to (array of len) k stands h f = absurd (no_count op (array of len) (λ i. i) k.types.0)
-      first space const to (struct index) k stands h f = absurd (no_count op (struct index) (λ i. i) k.types.0)
+          (untold op ty mode t a (pointer space const to) b (integer signed bytes) rest pc refl stands) h one_core f
+      first space const to (fixed kind saturates) k stands h one_core f = absurd (no_count op (fixed kind saturates) (λ i. i) k.types.0)
+      first space const to void k stands h one_core f = absurd (no_count op void (λ i. i) k.types.0)
+      first space const to (array of len) k stands h one_core f = absurd (no_count op (array of len) (λ i. i) k.types.0)
+      first space const to (struct index) k stands h one_core f = absurd (no_count op (struct index) (λ i. i) k.types.0)
 
       second : (op : BinOp) (signed : Bool) (bytes : ℕ) (space : SpaceId) (const : Bool) (to : PlainType)
           → IsShown op ty mode t a (integer signed bytes) b (pointer space const to) rest n pc m v
-      second Add signed bytes space const to k stands h f =
+      second Add signed bytes space const to k stands h one_core f =
           pointer_second ty mode t a signed bytes b space const to rest n pc m v k
-          (untold Add ty mode t a (integer signed bytes) b (pointer space const to) rest pc refl stands) h f
-      second op signed bytes space const to k stands h f = absurd k.types.0
+          (untold Add ty mode t a (integer signed bytes) b (pointer space const to) rest pc refl stands) h one_core f
+      second op signed bytes space const to k stands h one_core f = absurd k.types.0
 
       by_types : (x z : PlainType) → IsShown op ty mode t a x b z rest n pc m v
-      by_types (pointer space const to) z k stands h f = first space const to z k stands h f
-      by_types (integer signed bytes) (pointer space const to) k stands h f = second op signed bytes space const to k stands h f
-      by_types (fixed kind saturates) (pointer space const to) k stands h f = absurd k.types.1
-      by_types void (pointer space const to) k stands h f = absurd k.types.1
-      by_types (array of len) (pointer space const to) k stands h f = absurd k.types.1
-      by_types (struct index) (pointer space const to) k stands h f = absurd k.types.1
-      by_types x z k stands h f = absurd (let g = k.pointer in cc)
+      by_types (pointer space const to) z k stands h one_core f = first space const to z k stands h one_core f
+      by_types (integer signed bytes) (pointer space const to) k stands h one_core f = second op signed bytes space const to k stands h one_core f
+      by_types (fixed kind saturates) (pointer space const to) k stands h one_core f = absurd k.types.1
+      by_types void (pointer space const to) k stands h one_core f = absurd k.types.1
+      by_types (array of len) (pointer space const to) k stands h one_core f = absurd k.types.1
+      by_types (struct index) (pointer space const to) k stands h one_core f = absurd k.types.1
+      by_types x z k stands h one_core f = absurd (let g = k.pointer in cc)
 
   -- ---- conversions
 
@@ -1252,7 +1434,7 @@ module _ (p : PlainProgram) (functions : List PlainIrFunction) (e : Env) (slots 
           ix = addressed need0 m v a x h k.from q
 
           target : IsAddressed p t.bytes x
-          target = resized p a.bytes t.bytes x size_t ix
+          target = resized p space a.bytes t.bytes x z st k.result_bytes u ix
 
           by_sizes : (b : Bool) → (a.bytes == 2 && t.bytes == 3) ≡ b
               → G (suc n) m.state.work pc v (R (suc n) rest (resulted t content (op_steps i) m))

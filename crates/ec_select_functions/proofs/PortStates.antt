@@ -5,7 +5,7 @@ use Rattle.std.proofs.Common.{ap, ◌∙◌, subst, arith, ⊎_elim}
 use Rattle.std.proofs.lemmas.Bool.{and_parts, cases_lt}
 use native.Mathlib.Nat.{pow-suc}
 use Rattle.ec_runs.specs.Behaviours.{BeginWith}
-use Rattle.ec_asm.specs.Change.{Env, Kind, Own, Object, Port, Stacked, Barred}
+use Rattle.ec_asm.specs.Change.{Env, Kind, Own, Object, Port, Stacked, Page, Barred}
 use Rattle.ec_core.specs.Laws.{left_of}
 use Rattle.ec_core.specs.PortAccesses.{next_byte, byte_read, bytes_read, number_read, bytes_written}
 use Rattle.ec_core.specs.State.{Inputs, Event, In, Out, State}
@@ -76,6 +76,7 @@ module _ (e : Env) where
   port_kind Own q = cc
   port_kind Object q = cc
   port_kind Stacked q = cc
+  port_kind Page q = cc
   port_kind Barred q = cc
 
   ports_front : (es fs : List Event) → are_on_ports e (es ++ fs) ≡ true → are_on_ports e es ≡ true

@@ -86,7 +86,7 @@ module _ (p : PlainIrProgram) (e : Env) (place entry_of : ℕ → ℕ) (w : Worl
   one_more n below f g s aside was a stack stacked returns =
       let x = selected_of p e place entry_of w f g a.is in
       let labels = (w.selected.made f).labels in
-      let link = linkage_of p entry_of f g.slots (w.selected.made f) in
+      let link = linkage_of e.core p entry_of f g.slots (w.selected.made f) in
       let hs = home (homes_of p e place entry_of w f) in
       let bs = base_of p e place entry_of w f in
       let setting = setting_of p e place entry_of w f g s aside was a in
@@ -97,7 +97,7 @@ module _ (p : PlainIrProgram) (e : Env) (place entry_of : ℕ → ℕ) (w : Worl
             (λ i there l q. (x.routines i l there q, x.callers i l there q));
         live = x.live;
         inside = λ b q. q;
-        here = record { active = a.runs; stacked = stacked };
+        here = record { active = a.runs; stacked = stacked; core = refl };
         stands = stands.2;
       } in
       follows D p.functions e g.slots hs bs place setting labels g.code x.end w.selected.results f link stack stands.0 ready n
@@ -319,7 +319,7 @@ module _ (laws : CodeLaws) (p : PlainIrProgram) (place entry_of : ℕ → ℕ) (
           let x = selected_of p e place entry_of w p.main g a.is in
           let stands = x.stands in
           let labels = (selected.made p.main).labels in
-          let link = linkage_of p entry_of p.main g.slots (selected.made p.main) in
+          let link = linkage_of e.core p entry_of p.main g.slots (selected.made p.main) in
           let hs = home (homes_of p e place entry_of w p.main) in
           let here : x.pc ≡ s.pc = sym (stands.1.0 enters.word) ∙ sym enters.at in
           let mid : stands.0 ≡ s.pc = stands.1.1 ∙ here in
@@ -330,7 +330,7 @@ module _ (laws : CodeLaws) (p : PlainIrProgram) (place entry_of : ℕ → ℕ) (
                 (λ i there l q. (x.routines i l there q, x.callers i l there q));
             live = x.live;
             inside = λ b q. q;
-            here = record { active = a.runs; stacked = refl };
+            here = record { active = a.runs; stacked = refl; core = refl };
             stands = subst
                 (λ i. HasAt e (ops_code program_data hs link (facts_of labels g.code) None g.code) i x.end) mid stands.2;
           } in

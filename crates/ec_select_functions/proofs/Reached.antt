@@ -1,8 +1,10 @@
 -- Accesses through pointers: what the code brings, and what comes of the operation.
-use Rattle.std.proofs.Common.{◌≡◌, ℕ, zero, suc, ◌+◌, ◌*◌, ◌<◌, ◌≤◌, Bool, true, false, Ok, Err}
-use Rattle.std.proofs.Common.{⊎_elim, refl, sym, ap, ◌∙◌, subst, arith, Some, None, Option}
+use Rattle.std.proofs.Common.{◌≡◌, ℕ, zero, suc, ◌+◌, ◌*◌, ◌%◌, ◌<◌, ◌≤◌, Bool, true, false, Ok, Err}
+use Rattle.std.proofs.Common.{⊎_elim, refl, sym, ap, ◌∙◌, subst, arith, Some, None, Option, List}
 use Rattle.std.specs.Prelude.{Result, ◌==◌, ◌&&◌, if◌then◌else◌, slice_get, option_map, option_and_then}
 use Rattle.std.proofs.lemmas.Bool.{cases_lt, eqb-true, and_parts}
+use Rattle.ec_space.specs.declared.Core.{Core}
+use Rattle.ec_space.specs.declared.Core.TheVariants.{Small, Large}
 use Rattle.ec_space.specs.declared.space.Bank.{Bank}
 use Rattle.ec_space.specs.declared.space.Bank.TheVariants.{Flash as FlashBank, Data as DataBank}
 use Rattle.ec_space.specs.declared.space.Home.{Home}
@@ -11,6 +13,7 @@ use Rattle.ec_space.specs.declared.space.SpaceId.{SpaceId}
 use Rattle.ec_space.specs.declared.space.SpaceId.TheVariants.{Flash, FarFlash, Data, Generic}
 use Rattle.ec_space.specs.Spaces.{bank_of, holds, reaches}
 use Rattle.ec_avr.specs.declared.machine.Access.TheVariants.{Read as ByteRead, Write as ByteWrite}
+use Rattle.ec_asm.specs.declared.items.AsmItem.{AsmItem}
 use Rattle.ec_asm.specs.declared.pieces.Location.{Location}
 use Rattle.ec_asm.specs.View.{View}
 use Rattle.ec_asm.specs.Change.{Env, Own, Object}
@@ -36,16 +39,21 @@ use Rattle.ec_ir.specs.Temporaries.{Content, bits, points, value_of_type, Held, 
 use Rattle.ec_select_pointers.specs.Accesses.{load_data_code, load_flash_code, load_any_code, store_data_code}
 use Rattle.ec_select_pointers.specs.Accesses.{load_table_code}
 use Rattle.ec_select_pointers.specs.AccessLaws.{each, Brings, RunBrings, LeavesZ, AreData, AreFlash, HasPointer}
-use Rattle.ec_select_operations.specs.Code.{load_code}
+use Rattle.ec_select_pointers.specs.Far.{load_far_code, load_far_table_code, load_any_far_code}
+use Rattle.ec_select_pointers.specs.FarLaws.{HasPage, AreFarFlash}
+use Rattle.ec_select_operations.specs.Code.{load_code, banked_code}
 use Rattle.ec_select_functions.specs.Covered.{IsInto}
 use Rattle.ec_select_operations.specs.Homes.{HasHome}
 use Rattle.ec_select_operations.specs.Places.{ObjectLeaf, IsClear}
-use Rattle.ec_select_operations.specs.Pointers.{tag_of, IsPointed}
+use Rattle.ec_select_operations.specs.Pointers.{IsPointed}
+use Rattle.ec_select_functions.specs.Standing.{address_end}
 use Rattle.ec_select_functions.proofs.Accesses.{leaf_found, bytes_of, leaf_inside}
 use Rattle.ec_select_functions.proofs.Accesses.{after_read, after_write}
 use Rattle.ec_select_functions.proofs.Follow.{Follows, from_held, from_nothing, next_next, held_is}
 use Rattle.ec_select_functions.proofs.Moves.{stands_less}
 use Rattle.ec_select_functions.proofs.Pointed.{IsAddressedBy, stands_in_memory, room_of}
+use Rattle.ec_select_functions.proofs.PointerNumbers.{small_end, near_end, greatest_end}
+use Rattle.ec_select_functions.proofs.Wrapped.{kept_below}
 use Rattle.ec_select_functions.proofs.Setting.{Setting}
 
 -- bytes of a temporary leave R30 and R31 alone
@@ -88,23 +96,44 @@ module _ (p : PlainProgram) (e : Env) (slots : ℕ) (home : Temp → Location) (
         kind = λ i q. subst (λ b. e.kind b ≡ Object) (sym (reached (place l.object) l.at i)) (s.kind (l.at + i) (omega (arith, inside, q)));
       }
 
-  table_there : (l : ObjectLeaf p FlashBank) → AreFlash e (place l.object + l.at) l.bytes
+  -- n bytes of an object with a home, in the flash bank
+  pub record AreInFlash (kept : Home) (from n : ℕ) : Type 0 where
+    pub end : from + n < address_end e.core kept
+    pub kind : (i : ℕ) → i < n → e.table (from + i) ≡ Object
+
+  table_there : (l : ObjectLeaf p FlashBank) → AreInFlash l.declared.home (place l.object + l.at) l.bytes
   table_there l =
       let s = y.tables_stand.each l.object l.declared l.is_object l.home in
       let inside = leaf_inside p e slots home base place y FlashBank l in
       let end = s.end in
       record {
-        room = omega (arith, end, inside);
+        end = omega (arith, end, inside);
         kind = λ i q. subst (λ b. e.table b ≡ Object) (sym (reached (place l.object) l.at i))
             (s.kind (l.at + i) (omega (arith, inside, q)));
       }
+
+  -- which two bytes tell, or three
+  near_flash : (kept : Home) (from n : ℕ) → address_end e.core kept ≡ 65536 → AreInFlash kept from n → AreFlash e from n
+  near_flash kept from n low there =
+      let end = there.end in
+      record { room = omega (arith, low, end); kind = there.kind }
+
+  far_flash : (kept : Home) (from n : ℕ) → AreInFlash kept from n → AreFarFlash e from n
+  far_flash kept from n there =
+      let end = there.end in
+      let most = greatest_end e.core kept in
+      record { room = omega (arith, most, end); kind = there.kind }
+
+  -- code may write RAMPZ
+  has_page : e.core ≡ Large → HasPage e
+  has_page large = record { core = large; kind = y.page large }
 
   -- ---- loads through a pointer
 
   -- what a load from a place brings to a temporary
   abbrev pub Loads : (bank : Bank) → (from pc mid : ℕ) → View → Temp → Type 0
   Loads bank from pc mid v to =
-      RunBrings e 1 (5 + 2 * to.bytes) pc v mid (base to) to.bytes (λ i. bytes_of p e slots home base place y bank v (from + i))
+      RunBrings e 1 (6 + 2 * to.bytes) pc v mid (base to) to.bytes (λ i. bytes_of p e slots home base place y bank v (from + i))
       (each (ByteRead bank) from (λ i. bytes_of p e slots home base place y bank v (from + i)) to.bytes)
 
   has_pointer : (ptr t : Temp) (m : ℕ) → HasHome slots ptr → HasHome slots t → m ≤ ptr.bytes
@@ -161,25 +190,58 @@ module _ (p : PlainProgram) (e : Env) (slots : ℕ) (home : Temp → Location) (
         brings = brings;
       }
 
-  -- the bytes of an object, from which a temporary's may be brought
-  abbrev pub IsThere : Bank → (from b n : ℕ) → Type 0
-  IsThere FlashBank from b n = AreFlash e from n
-  IsThere DataBank from b n = AreData e from n × IsReadFirst from b n
+  loads_far : (ptr to : Temp) (from pc mid : ℕ) (v : View) → e.core ≡ Large → HasHome slots ptr → HasHome slots to → 3 ≤ ptr.bytes
+      → value v.at (base ptr) 3 ≡ from → AreFarFlash e from to.bytes
+      → HasAt e (load_far_code (home ptr) (home to) to.bytes) pc mid → Loads FlashBank from pc mid v to
+  loads_far ptr to from pc mid v large ip it three whole there stands =
+      let n = to.bytes in
+      let code = load_far_code (home ptr) (home to) n in
+      let byte = λ (z i : ℕ). bytes_of p e slots home base place y FlashBank v (z + i) in
+      let done = λ (z : ℕ). AreFarFlash e z n → Brings v (base to) n (byte z) (each (ByteRead FlashBank) z (byte z) n) (block e code v) in
+      let brings =
+      subst done whole
+      (y.pointers.far.from_flash e (home ptr) (home to) n (base ptr) (base to) v (has_page large) (has_pointer ptr to 3 ip it three))
+      there in
+      let straight = (y.pointers.far.straight 0 0 (home ptr) (home to) n).2 in
+      let take = (y.pointers.far.take 0 0 (home ptr) (home to) n).2 in
+      record {
+        steps = code_steps code;
+        at_least = omega (arith, take.0);
+        at_most = omega (arith, take.1);
+        last = block e code v;
+        goes = block_goes e code pc mid v straight stands;
+        brings = brings;
+      }
+
+  -- the bytes of an object with a home, from which a temporary's may be brought
+  abbrev pub IsThere : Bank → Home → (from b n : ℕ) → Type 0
+  IsThere FlashBank kept from b n = AreInFlash kept from n
+  IsThere DataBank kept from b n = AreData e from n × IsReadFirst from b n
 
   pub leaf_there : (bank : Bank) (l : ObjectLeaf p bank) (to : Temp) → IsAddressable l.declared.storage → HasHome slots to
-      → l.bytes ≡ to.bytes → IsThere bank (place l.object + l.at) (base to) to.bytes
-  leaf_there FlashBank l to k it size = subst (λ (n : ℕ). AreFlash e (place l.object + l.at) n) size (table_there l)
+      → l.bytes ≡ to.bytes → IsThere bank l.declared.home (place l.object + l.at) (base to) to.bytes
+  leaf_there FlashBank l to k it size =
+      subst (λ (n : ℕ). AreInFlash l.declared.home (place l.object + l.at) n) size (table_there l)
   leaf_there DataBank l to k it size =
       let far : IsReadFirst (place l.object + l.at) (base to) l.bytes = λ r. (y.layout.leaf_temp l to it).left r in
       subst (λ (n : ℕ). AreData e (place l.object + l.at) n × IsReadFirst (place l.object + l.at) (base to) n) size (data_there l k, far)
 
+  -- the low two bytes of an address that has no more
+  low_is : (x from n : ℕ) → x ≡ from % 65536 → from + n ≤ 65536 → 1 ≤ n → x ≡ from
+  low_is x from n q l some = q ∙ kept_below from 65536 (omega (arith, l, some))
+
   -- from the bank that the tag tells
-  loads_by_tag : (bank : Bank) (ptr to : Temp) (from pc mid : ℕ) (v : View) → HasHome slots ptr → HasHome slots to
-      → 3 ≤ ptr.bytes → value v.at (base ptr) 2 ≡ from → v.at (base ptr + 2) ≡ tag_of bank
-      → IsThere bank from (base to) to.bytes → HasAt e (load_any_code (home ptr) (home to) to.bytes) pc mid
-      → Loads bank from pc mid v to
-  loads_by_tag FlashBank ptr to from pc mid v ip it three low tag there stands =
+  loads_by_tag : (bank : Bank) (kept : Home) (ptr to : Temp) (from pc mid : ℕ) (v : View) → e.core ≡ Small → HasHome slots ptr
+      → HasHome slots to → ptr.bytes ≡ 3 → IsAddressedBy v.at (base ptr) ptr.bytes from bank → IsThere bank kept from (base to) to.bytes
+      → HasAt e (load_any_code (home ptr) (home to) to.bytes) pc mid → Loads bank from pc mid v to
+  loads_by_tag FlashBank kept ptr to from pc mid v small ip it three a there stands =
       let n = to.bytes in
+      let near = near_flash kept from n (small_end e.core kept small) there in
+      let room = near.room in
+      let some = it.some in
+      let low = low_is (value v.at (base ptr) 2) from n a.low room some in
+      let whole = a.whole three in
+      let tag : v.at (base ptr + 2) ≡ 0 = omega (arith, whole, low) in
       let byte = λ (z i : ℕ). bytes_of p e slots home base place y FlashBank v (z + i) in
       let done =
       λ (z : ℕ). AreFlash e z n
@@ -187,17 +249,22 @@ module _ (p : PlainProgram) (e : Env) (slots : ℕ) (home : Temp → Location) (
       let r =
       subst done low
       (y.pointers.from_flash_by_tag e (home ptr) (home to) n (base ptr) (base to) pc mid v
-      (has_pointer ptr to 3 ip it three) stands tag) there in
+      (has_pointer ptr to 3 ip it (omega (arith, three))) stands tag) near in
       record {
         steps = r.steps;
         at_least = (let few = r.at_least in omega arith);
-        at_most = r.at_most;
+        at_most = (let most = r.at_most in omega (arith, most));
         last = r.last;
         goes = r.goes;
         brings = r.brings;
       }
-  loads_by_tag DataBank ptr to from pc mid v ip it three low tag there stands =
+  loads_by_tag DataBank kept ptr to from pc mid v small ip it three a there stands =
       let n = to.bytes in
+      let room = there.0.room in
+      let some = it.some in
+      let low = low_is (value v.at (base ptr) 2) from n a.low room some in
+      let whole = a.whole three in
+      let tag : v.at (base ptr + 2) ≡ 0x80 = omega (arith, whole, low) in
       let byte = λ (z i : ℕ). v.at (z + i) in
       let done =
       λ (z : ℕ). AreData e z n → IsReadFirst z (base to) n
@@ -205,7 +272,59 @@ module _ (p : PlainProgram) (e : Env) (slots : ℕ) (home : Temp → Location) (
       let r =
       subst done low
       (y.pointers.from_data_by_tag e (home ptr) (home to) n (base ptr) (base to) pc mid v
-      (has_pointer ptr to 3 ip it three) stands tag) there.0 there.1 in
+      (has_pointer ptr to 3 ip it (omega (arith, three))) stands tag) there.0 there.1 in
+      record {
+        steps = r.steps;
+        at_least = (let few = r.at_least in omega arith);
+        at_most = (let most = r.at_most in omega (arith, most));
+        last = r.last;
+        goes = r.goes;
+        brings = r.brings;
+      }
+
+  -- from the bank that the top bit tells
+  loads_by_top : (bank : Bank) (kept : Home) (ptr to : Temp) (from pc mid : ℕ) (v : View) → e.core ≡ Large → HasHome slots ptr
+      → HasHome slots to → ptr.bytes ≡ 3 → IsAddressedBy v.at (base ptr) ptr.bytes from bank
+      → IsThere bank kept from (base to) to.bytes
+      → HasAt e (load_any_far_code (home ptr) (home to) to.bytes) pc mid → Loads bank from pc mid v to
+  loads_by_top FlashBank kept ptr to from pc mid v large ip it three a there stands =
+      let n = to.bytes in
+      let end = there.end in
+      let most = greatest_end e.core kept in
+      let whole = a.whole three in
+      let is : value v.at (base ptr) 3 ≡ from = omega (arith, whole) in
+      let top : v.at (base ptr + 2) < 0x80 = omega (arith, is, end, most) in
+      let byte = λ (z i : ℕ). bytes_of p e slots home base place y FlashBank v (z + i) in
+      let done =
+      λ (z : ℕ). AreFarFlash e z n
+      → RunBrings e (4 + n) (6 + 2 * n) pc v mid (base to) n (byte z) (each (ByteRead FlashBank) z (byte z) n) in
+      let r =
+      subst done is
+      (y.pointers.far.from_flash_by_top e (home ptr) (home to) n (base ptr) (base to) pc mid v (has_page large)
+      (has_pointer ptr to 3 ip it (omega (arith, three))) stands top) (far_flash kept from n there) in
+      record {
+        steps = r.steps;
+        at_least = (let few = r.at_least in omega arith);
+        at_most = r.at_most;
+        last = r.last;
+        goes = r.goes;
+        brings = r.brings;
+      }
+  loads_by_top DataBank kept ptr to from pc mid v large ip it three a there stands =
+      let n = to.bytes in
+      let room = there.0.room in
+      let some = it.some in
+      let low = low_is (value v.at (base ptr) 2) from n a.low room some in
+      let whole = a.whole three in
+      let tag : v.at (base ptr + 2) ≡ 0x80 = omega (arith, whole, low) in
+      let byte = λ (z i : ℕ). v.at (z + i) in
+      let done =
+      λ (z : ℕ). AreData e z n → IsReadFirst z (base to) n
+      → RunBrings e (4 + n) (6 + 2 * n) pc v mid (base to) n (byte z) (each (ByteRead DataBank) z (byte z) n) in
+      let r =
+      subst done low
+      (y.pointers.far.from_data_by_top e (home ptr) (home to) n (base ptr) (base to) pc mid v (has_page large)
+      (has_pointer ptr to 3 ip it (omega (arith, three))) stands tag) there.0 there.1 in
       record {
         steps = r.steps;
         at_least = (let few = r.at_least in omega arith);
@@ -215,35 +334,60 @@ module _ (p : PlainProgram) (e : Env) (slots : ℕ) (home : Temp → Location) (
         brings = r.brings;
       }
 
-  -- through a pointer into a space
-  pub loads : (space : SpaceId) (bank : Bank) (ptr to : Temp) (from pc mid : ℕ) (v : View) → reaches space bank ≡ true
-      → IsInto slots space ptr → HasHome slots to → IsAddressedBy v.at (base ptr) ptr.bytes from bank
-      → IsThere bank from (base to) to.bytes → HasAt e (load_code space (home ptr) (home to) to.bytes) pc mid
-      → Loads bank from pc mid v to
-  loads Flash FlashBank ptr to from pc mid v h into it a there stands =
-      let q = into.1 in loads_flash ptr to from pc mid v into.0 it (omega arith) a.low there stands
-  loads Flash DataBank ptr to from pc mid v h into it a there stands = absurd (cc)
-  loads FarFlash FlashBank ptr to from pc mid v h into it a there stands =
-      let q = into.1 in loads_flash ptr to from pc mid v into.0 it (omega arith) a.low there stands
-  loads FarFlash DataBank ptr to from pc mid v h into it a there stands = absurd (cc)
-  loads Data FlashBank ptr to from pc mid v h into it a there stands = absurd (cc)
-  loads Data DataBank ptr to from pc mid v h into it a there stands =
-      let q = into.1 in loads_data ptr to from pc mid v into.0 it (omega arith) a.low there.0 there.1 stands
-  loads Generic bank ptr to from pc mid v h into it a there stands =
-      let q = into.1 in loads_by_tag bank ptr to from pc mid v into.0 it (omega arith) a.low (a.tag q) there stands
+  -- by two bytes, where an address of the home has no more
+  loads_near : (kept : Home) (ptr to : Temp) (from pc mid : ℕ) (v : View) → address_end e.core kept ≡ 65536 → HasHome slots ptr
+      → HasHome slots to → 2 ≤ ptr.bytes → IsAddressedBy v.at (base ptr) ptr.bytes from FlashBank → AreInFlash kept from to.bytes
+      → HasAt e (load_flash_code (home ptr) (home to) to.bytes) pc mid → Loads FlashBank from pc mid v to
+  loads_near kept ptr to from pc mid v end ip it two a there stands =
+      let near = near_flash kept from to.bytes end there in
+      loads_flash ptr to from pc mid v ip it two (low_is (value v.at (base ptr) 2) from to.bytes a.low near.room it.some) near stands
 
-  -- from an object of the flash bank
-  pub loads_table : (l : ObjectLeaf p FlashBank) (to : Temp) (v : View) → IsAddressable l.declared.storage → HasHome slots to
-      → l.bytes ≡ to.bytes → let from = place l.object + l.at in
+  -- through a pointer into a space, which holds the home
+  pub loads : (core : Core) (space : SpaceId) (bank : Bank) (kept : Home) (ptr to : Temp) (from pc mid : ℕ) (v : View)
+      → e.core ≡ core → reaches space bank ≡ true → holds space kept ≡ true
+      → IsInto slots space ptr → HasHome slots to → IsAddressedBy v.at (base ptr) ptr.bytes from bank
+      → IsThere bank kept from (base to) to.bytes → HasAt e (load_code core space (home ptr) (home to) to.bytes) pc mid
+      → Loads bank from pc mid v to
+  loads core Flash FlashBank kept ptr to from pc mid v same h held into it a there stands =
+      let q = into.1 in
+      loads_near kept ptr to from pc mid v (near_end e.core Flash kept refl held) into.0 it (omega (arith, q)) a there stands
+  loads core Flash DataBank kept ptr to from pc mid v same h held into it a there stands = absurd (cc)
+  loads Small FarFlash FlashBank kept ptr to from pc mid v same h held into it a there stands =
+      let q = into.1 in
+      loads_near kept ptr to from pc mid v (small_end e.core kept same) into.0 it (omega (arith, q)) a there stands
+  loads Large FarFlash FlashBank kept ptr to from pc mid v same h held into it a there stands =
+      let q = into.1 in
+      let whole = a.whole q in
+      loads_far ptr to from pc mid v same into.0 it (omega (arith, q)) (omega (arith, whole)) (far_flash kept from to.bytes there) stands
+  loads core FarFlash DataBank kept ptr to from pc mid v same h held into it a there stands = absurd (cc)
+  loads core Data FlashBank kept ptr to from pc mid v same h held into it a there stands = absurd (cc)
+  loads core Data DataBank kept ptr to from pc mid v same h held into it a there stands =
+      let q = into.1 in
+      loads_data ptr to from pc mid v into.0 it (omega (arith, q))
+      (low_is (value v.at (base ptr) 2) from to.bytes a.low there.0.room it.some) there.0 there.1 stands
+  loads Small Generic bank kept ptr to from pc mid v same h held into it a there stands =
+      loads_by_tag bank kept ptr to from pc mid v same into.0 it into.1 a there stands
+  loads Large Generic bank kept ptr to from pc mid v same h held into it a there stands =
+      loads_by_top bank kept ptr to from pc mid v same into.0 it into.1 a there stands
+
+  -- what a load from an object of the flash bank brings
+  abbrev pub BringsTable : (l : ObjectLeaf p FlashBank) (to : Temp) (v : View) → List AsmItem → Type 0
+  BringsTable l to v code =
+      let from = place l.object + l.at in
       Brings v (base to) to.bytes (λ i. bytes_of p e slots home base place y FlashBank v (from + i))
-      (each (ByteRead FlashBank) from (λ i. bytes_of p e slots home base place y FlashBank v (from + i)) to.bytes)
-      (block e (load_table_code l.object l.at (home to) to.bytes) v)
-  loads_table l to v k it size =
+      (each (ByteRead FlashBank) from (λ i. bytes_of p e slots home base place y FlashBank v (from + i)) to.bytes) (block e code v)
+
+  loads_near_table : (l : ObjectLeaf p FlashBank) (to : Temp) (v : View) → address_end e.core l.declared.home ≡ 65536
+      → IsAddressable l.declared.storage → HasHome slots to → l.bytes ≡ to.bytes
+      → BringsTable l to v (load_table_code l.object l.at (home to) to.bytes)
+  loads_near_table l to v end k it size =
       let n = to.bytes in
       let from = place l.object + l.at in
       let inside = leaf_inside p e slots home base place y FlashBank l in
+      let near = near_flash l.declared.home from n end (subst (λ (i : ℕ). AreInFlash l.declared.home from i) size (table_there l)) in
       let low : e.address_of l.object l.at ≡ from =
-      (room_of p e slots home base place y l.object l.declared l.is_object k).at l.at (omega (arith, inside)) in
+      low_is (e.address_of l.object l.at) from n
+      ((room_of p e slots home base place y l.object l.declared l.is_object k).at l.at (omega (arith, inside))) near.room it.some in
       let byte = λ (z i : ℕ). bytes_of p e slots home base place y FlashBank v (z + i) in
       let done =
       λ (z : ℕ). AreFlash e z n
@@ -251,26 +395,59 @@ module _ (p : PlainProgram) (e : Env) (slots : ℕ) (home : Temp → Location) (
       (block e (load_table_code l.object l.at (home to) n) v) in
       subst done low
       (y.pointers.from_tables e (home to) l.object l.at n (base to) v (y.layout.temps_at to it)
-      (leaves_z (base to) n n (omega arith) (y.layout.temps_work to it)))
-      (subst (λ (i : ℕ). AreFlash e from i) size (table_there l))
+      (leaves_z (base to) n n (omega arith) (y.layout.temps_work to it))) near
+
+  loads_far_table : (l : ObjectLeaf p FlashBank) (to : Temp) (v : View) → e.core ≡ Large → IsAddressable l.declared.storage
+      → HasHome slots to → l.bytes ≡ to.bytes → BringsTable l to v (load_far_table_code l.object l.at (home to) to.bytes)
+  loads_far_table l to v large k it size =
+      let n = to.bytes in
+      let from = place l.object + l.at in
+      let inside = leaf_inside p e slots home base place y FlashBank l in
+      let far = far_flash l.declared.home from n (subst (λ (i : ℕ). AreInFlash l.declared.home from i) size (table_there l)) in
+      let room = room_of p e slots home base place y l.object l.declared l.is_object k in
+      let whole : e.far_of l.object l.at ≡ from = room.far large l.home l.at (omega (arith, inside)) in
+      let low : e.address_of l.object l.at ≡ e.far_of l.object l.at % 65536 =
+      room.at l.at (omega (arith, inside)) ∙ ap (λ i. i % 65536) (sym whole) in
+      let byte = λ (z i : ℕ). bytes_of p e slots home base place y FlashBank v (z + i) in
+      let done =
+      λ (z : ℕ). AreFarFlash e z n
+      → Brings v (base to) n (byte z) (each (ByteRead FlashBank) z (byte z) n)
+      (block e (load_far_table_code l.object l.at (home to) n) v) in
+      subst done whole
+      (y.pointers.far.from_tables e (home to) l.object l.at n (base to) v (has_page large) (y.layout.temps_at to it)
+      (leaves_z (base to) n n (omega arith) (y.layout.temps_work to it)) low) far
+
+  -- from an object of the flash bank, by its home
+  pub loads_table : (core : Core) (kept : Home) (l : ObjectLeaf p FlashBank) (to : Temp) (v : View) → e.core ≡ core
+      → l.declared.home ≡ kept
+      → IsAddressable l.declared.storage → HasHome slots to → l.bytes ≡ to.bytes
+      → BringsTable l to v (banked_code core kept p.objects l.object l.at (home to) to.bytes)
+  loads_table core FlashHome l to v same is k it size =
+      loads_near_table l to v (near_end e.core Flash l.declared.home refl (ap (holds Flash) is)) k it size
+  loads_table Small FarHome l to v same is k it size = loads_near_table l to v (small_end e.core l.declared.home same) k it size
+  loads_table Large FarHome l to v same is k it size = loads_far_table l to v same k it size
+  loads_table core DataHome l to v same is k it size =
+      let no : DataBank ≡ FlashBank = ap bank_of (sym is) ∙ l.home in
+      absurd (cc)
 
   -- ---- stores through a pointer
 
   pub stores : (ptr from : Temp) (l : ObjectLeaf p DataBank) (v : View) → HasHome slots ptr → HasHome slots from → 2 ≤ ptr.bytes
       → IsAddressable l.declared.storage → l.bytes ≡ from.bytes → let to = place l.object + l.at in
-      value v.at (base ptr) 2 ≡ to
+      value v.at (base ptr) 2 ≡ to % 65536
       → Brings v to from.bytes (λ i. v.at (base from + i)) (each ByteWrite to (λ i. v.at (base from + i)) from.bytes)
       (block e (store_data_code (home from) (home ptr) from.bytes) v)
   stores ptr from l v ip it two k size low =
       let n = from.bytes in
       let to = place l.object + l.at in
+      let there : AreData e to n = subst (λ (i : ℕ). AreData e to i) size (data_there l k) in
       let far : IsReadFirst (base from) to n = λ r. (y.layout.temp_leaf from l it).left r in
       let byte = λ (i : ℕ). v.at (base from + i) in
       let done =
       λ (z : ℕ). AreData e z n → IsReadFirst (base from) z n
       → Brings v z n byte (each ByteWrite z byte n) (block e (store_data_code (home from) (home ptr) n) v) in
-      subst done low (y.pointers.stored e (home from) (home ptr) n (base from) (base ptr) v (has_pointer ptr from 2 ip it two))
-      (subst (λ (i : ℕ). AreData e to i) size (data_there l k)) far
+      subst done (low_is (value v.at (base ptr) 2) to n low there.room it.some)
+      (y.pointers.stored e (home from) (home ptr) n (base from) (base ptr) v (has_pointer ptr from 2 ip it two)) there far
 
   -- ---- accesses of what a pointer points to
 
@@ -291,6 +468,7 @@ module _ (p : PlainProgram) (e : Env) (slots : ℕ) (home : Temp → Location) (
     pub addressable : IsAddressable leaf.declared.storage
     pub is_state : slice_get s.objects leaf.object ≡ Some state
     pub within : reaches space bank ≡ true
+    pub held : holds space leaf.declared.home ≡ true
     pub live : state.live ≡ true
 
   -- an access, where the space allows one of so many bytes
@@ -353,6 +531,7 @@ module _ (p : PlainProgram) (e : Env) (slots : ℕ) (home : Temp → Location) (
                 addressable = k.addressable;
                 is_state = i;
                 within = home_reached space d.home parts.0;
+                held = parts.0;
                 live = both.0;
               })
           by_test false t = none

@@ -182,14 +182,14 @@ module _ (p : PlainIrProgram) (e : Env) (place entry_of : ℕ → ℕ) (w : Worl
     pub return_follows : (n : ℕ) → Returns f g a.functions aside was stack n
         → ReturnCase D p.functions e slots hs bs place
         (setting_of p e place entry_of w f g s aside was a) labels g.code x.end w.selected.results f
-        (linkage_of p entry_of f slots (w.selected.made f)) stack n
+        (linkage_of e.core p entry_of f slots (w.selected.made f)) stack n
     return_follows n returns None pc rest m v r h = by_flag (f == p.main) refl
         (at_use D p.functions e slots hs bs place
         (setting_of p e place entry_of w f g s aside was a) labels g.code x.end w.selected.results f
-        (linkage_of p entry_of f slots (w.selected.made f)) stack (return_from None) rest pc r (λ l none. none))
+        (linkage_of e.core p entry_of f slots (w.selected.made f)) stack (return_from None) rest pc r (λ l none. none))
       where
         left_over : List AsmItem
-        left_over = ops_code D hs (linkage_of p entry_of f slots (w.selected.made f)) at None rest
+        left_over = ops_code D hs (linkage_of e.core p entry_of f slots (w.selected.made f)) at None rest
 
         by_flag : (b : Bool) → (f == p.main) ≡ b → HasAt e (return_code hs b None ++ left_over) pc x.end
             → Follows D place e (suc n) m.state.work pc v (leave D stack None (go_on n) (worked (op_steps (return_from None)) m.state))
@@ -251,7 +251,7 @@ module _ (p : PlainIrProgram) (e : Env) (place entry_of : ℕ → ℕ) (w : Worl
         it = r.covered.0.0.0
 
         left_over : List AsmItem
-        left_over = ops_code D hs (linkage_of p entry_of f slots (w.selected.made f)) at None rest
+        left_over = ops_code D hs (linkage_of e.core p entry_of f slots (w.selected.made f)) at None rest
 
         by_content : (c : Content) → HoldsContent D place v.at (bs t) t.bytes t.bytes c
             → Follows D place e (suc n) m.state.work pc v (next (got (Some (record { bytes = t.bytes; content = c })) st) leaves)
@@ -277,7 +277,7 @@ module _ (p : PlainIrProgram) (e : Env) (place entry_of : ℕ → ℕ) (w : Worl
             (op_steps (return_from (Some t))) st v
             (at_use D p.functions e slots hs bs place
             (setting_of p e place entry_of w f g s aside was a) labels g.code x.end w.selected.results f
-            (linkage_of p entry_of f slots (w.selected.made f)) stack (return_from (Some t)) rest pc r (λ l none. none))
+            (linkage_of e.core p entry_of f slots (w.selected.made f)) stack (return_from (Some t)) rest pc r (λ l none. none))
             (move_straight (hs t) (result_location t.bytes) t.bytes)
             (omega (arith, take, most)) (omega arith) (omega arith) (r.covered.0.0.1, most, moved) left
             (pointer_is nothing (machine no_temps st) v1 left) returns

@@ -26,15 +26,20 @@ use Rattle.ec_select_places.specs.ConversionLaws.{PointersAreEmbedded}
 use Rattle.ec_select_places.specs.DistanceLaws.{ElementsAreRight}
 use Rattle.ec_select_places.specs.StepLaws.{IndexesAreScaled, PointersAreAdvanced, PointersAreCompared}
 use Rattle.ec_select_places.specs.Form.{StepsAreShort, ConversionsAreShort, ElementsAreShort}
+use Rattle.ec_select_places.specs.FarLaws.{FarPointersAreAdvanced, FarElementsAreRight, FarPointersAreCompared}
+use Rattle.ec_select_places.specs.FarForm.{FarStepsAreShort}
 use Rattle.ec_select_pointers.specs.AccessLaws.{DataIsLoaded, FlashIsLoaded, DataIsLoadedByTag, FlashIsLoadedByTag}
 use Rattle.ec_select_pointers.specs.AccessLaws.{TableIsLoaded, DataIsStored}
 use Rattle.ec_select_pointers.specs.AddressLaws.{AddressesAreRight, FieldsAreRight}
 use Rattle.ec_select_pointers.specs.Form.{PointersAreStraight, PointersTake, TablesAreShort}
+use Rattle.ec_select_pointers.specs.FarLaws.{FarFlashIsLoaded, FarTableIsLoaded, DataIsLoadedByTop, FarFlashIsLoadedByTop}
+use Rattle.ec_select_pointers.specs.FarLaws.{FarAddressesAreRight, FarFieldsAreRight}
+use Rattle.ec_select_pointers.specs.FarForm.{FarPointersAreStraight, FarPointersTake}
 use Rattle.ec_select_operations.specs.Places.{ObjectLeaf, owner_of, Chained, CanBeLiveTogether, Apart, Layout}
 use Rattle.ec_select_routines.specs.Laws.{BinaryRoutinesAreRight, UnaryRoutinesAreRight, ConversionRoutinesAreRight}
 use Rattle.ec_select_routines.specs.Laws.{QuotientRoutinesAreRight}
 use Rattle.ec_select_functions.specs.Relation.{AreFrames}
-use Rattle.ec_select_functions.specs.Standing.{ObjectStands, TablesStand, WorkStands}
+use Rattle.ec_select_functions.specs.Standing.{ObjectStands, TablesStand, PageStands, WorkStands}
 
 -- what the code of operations with a fixed-point type does
 pub record FixedLaws : Type 0 where
@@ -48,6 +53,21 @@ pub record RoutineLaws : Type 0 where
   pub unaries : UnaryRoutinesAreRight
   pub conversions : ConversionRoutinesAreRight
   pub quotients : QuotientRoutinesAreRight
+
+-- what the code for a core with RAMPZ does
+pub record FarLaws : Type 0 where
+  pub addresses : FarAddressesAreRight
+  pub fields : FarFieldsAreRight
+  pub from_flash : FarFlashIsLoaded
+  pub from_tables : FarTableIsLoaded
+  pub from_data_by_top : DataIsLoadedByTop
+  pub from_flash_by_top : FarFlashIsLoadedByTop
+  pub straight : FarPointersAreStraight
+  pub take : FarPointersTake
+  pub advanced : FarPointersAreAdvanced
+  pub steps_short : FarStepsAreShort
+  pub elements : FarElementsAreRight
+  pub compared : FarPointersAreCompared
 
 -- what the code of operations with pointers does
 pub record PointerLaws : Type 0 where
@@ -70,6 +90,7 @@ pub record PointerLaws : Type 0 where
   pub compared : PointersAreCompared
   pub embedded : PointersAreEmbedded
   pub embeddings_short : ConversionsAreShort
+  pub far : FarLaws
 
 -- what the code of operators with a known number does
 pub record NumberLaws : Type 0 where
@@ -111,6 +132,7 @@ pub record Setting (p : PlainProgram) (e : Env) (slots : ℕ) (home : Temp → L
       → slice_get p.objects k ≡ Some f → bank_of f.home ≡ DataBank → o ≢ k → CanBeLiveTogether program d.storage f.storage
       → Apart (place o) (size_of_type p.structs d.ty) (place k) (size_of_type p.structs f.ty)
   pub tables_stand : TablesStand p e place
+  pub page : PageStands e
   pub valid : AllByRecursion (IsObject p) p.objects
   pub structs : AreStructs p.structs
   pub leaves_aside : (l : ObjectLeaf p DataBank) (k : ℕ) → aside k ≡ true → Outside (place l.object + l.at) l.bytes k

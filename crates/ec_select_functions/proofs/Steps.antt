@@ -2017,7 +2017,7 @@ module _ (p : PlainProgram) (functions : List PlainIrFunction) (e : Env) (slots 
       code_is =
           ap (λ z. code_by_kind z (fixed_binary None op ty aty bty mode (home a) (home b) (home t) a.bytes w)
           (code_by_kind (is_pointer aty || is_pointer bty)
-          (pointer_binary (is_pointer aty) (is_pointer bty) p op aty bty (home a) (home b) (home t) a.bytes b.bytes w)
+          (pointer_binary link.core (is_pointer aty) (is_pointer bty) p op aty bty (home a) (home b) (home t) a.bytes b.bytes w)
           (binary_code (family_of op) (is_signed aty) (is_signed bty) (home a) (home b) (home t) a.bytes w))) fx
           ∙ ap
           (λ z. if z then binary_code (family_of op) (is_signed aty) (is_signed bty) (home a) (home b) (home t) a.bytes w
@@ -3318,7 +3318,7 @@ module _ (p : PlainProgram) (functions : List PlainIrFunction) (e : Env) (slots 
       → IsPointerIn p bytes q → (x == 0) ≡ false
   not_null bytes x q is known =
       let places = objects_have_places p e place y.objects_stand y.tables_stand y.valid in
-      let number = address_is p place places bytes q known.pointed in
+      let number = address_is p place places bytes q known in
       let below = number_below p place places bytes (Some q) known.size known in
       let low = address_low p place places q known.pointed in
       let whole : x ≡ number_of (place_of p place bytes (Some q)) =
@@ -3811,11 +3811,11 @@ module _ (p : PlainProgram) (functions : List PlainIrFunction) (e : Env) (slots 
           let stand = subst (λ x. StandsTelling op ty mode t a aty b bty pc (Some told) (branch_zero x l ∷ ops)) same stands in
           let flags : HasAt e (own ++ after) pc end =
           subst (λ x. HasAt e (code_by_kind x
-          (pointer_binary (is_pointer aty) (is_pointer bty) p op aty bty (home a) (home b) (home t) a.bytes b.bytes w) own
+          (pointer_binary link.core (is_pointer aty) (is_pointer bty) p op aty bty (home a) (home b) (home t) a.bytes b.bytes w) own
           ++ after) pc end) px
           (subst (λ x. HasAt e (code_by_kind x (fixed_binary (Some told) op ty aty bty mode (home a) (home b) (home t) a.bytes w)
           (code_by_kind (is_pointer aty || is_pointer bty)
-          (pointer_binary (is_pointer aty) (is_pointer bty) p op aty bty (home a) (home b) (home t) a.bytes b.bytes w) own)
+          (pointer_binary link.core (is_pointer aty) (is_pointer bty) p op aty bty (home a) (home b) (home t) a.bytes b.bytes w) own)
           ++ after) pc end) fx stand) in
           let branch : HasAt e (own ++ own_told (Some told) (branch_zero t l) ops) pc end =
           at_use_behind own (Some told) (branch_zero t l) ops pc (subst (λ x. Behind (branch_zero x l ∷ ops)) same r).covered.0.1
@@ -4256,7 +4256,8 @@ module _ (p : PlainProgram) (functions : List PlainIrFunction) (e : Env) (slots 
       (λ (k : IsFixedBinary slots op t a b ty aty bty). on_fixed k)
       (λ (k : IsPointerBinary p slots op t a b ty aty bty).
       pointer_binary_follows p functions e slots home base place y labels all end results me link stack op ty mode t a aty b bty
-      rest n pc m v k (own_stands (or_right is_fx is_px k.pointer) (either_whole aty bty k.pointer)) (own_needs (either_whole aty bty k.pointer)) f)
+      rest n pc m v k (own_stands (or_right is_fx is_px k.pointer) (either_whole aty bty k.pointer)) (own_needs (either_whole aty bty k.pointer))
+      r.here.core f)
       j)
       r.covered.0.0
     where
@@ -4285,7 +4286,7 @@ module _ (p : PlainProgram) (functions : List PlainIrFunction) (e : Env) (slots 
       of_fixed = fixed_binary telling op ty aty bty mode (home a) (home b) (home t) a.bytes w
 
       of_pointers : List AsmItem
-      of_pointers = pointer_binary (is_pointer aty) (is_pointer bty) p op aty bty (home a) (home b) (home t) a.bytes b.bytes w
+      of_pointers = pointer_binary link.core (is_pointer aty) (is_pointer bty) p op aty bty (home a) (home b) (home t) a.bytes b.bytes w
 
       -- what it tells where so much of the second operand is taken
       telling_with : Option RightNumber → Option Told
@@ -4556,7 +4557,7 @@ module _ (p : PlainProgram) (functions : List PlainIrFunction) (e : Env) (slots 
   performs start ready n go calls returns pc (load_object t o offset) rest m v r h held more =
       let i = r.covered.0.0 in
       load_follows p functions e slots home base place y labels all end results me link stack t o offset rest n pc m v i.0 i.1
-      (at_use (load_object t o offset) rest pc r (λ l none. none)) h
+      (at_use (load_object t o offset) rest pc r (λ l none. none)) h r.here.core
       (λ pc1 m1 v1 s z. go pc1 rest m1 v1
       (record { covered = r.covered.1; live = r.live; inside = r.inside; here = r.here; stands = s }) z)
   performs start ready n go calls returns pc (store_object o offset t) rest m v r h held more =
@@ -4596,18 +4597,18 @@ module _ (p : PlainProgram) (functions : List PlainIrFunction) (e : Env) (slots 
       (record { covered = r.covered.1; live = r.live; inside = r.inside; here = r.here; stands = s }) z)
   performs start ready n go calls returns pc (address t o offset) rest m v r h held more =
       address_follows p functions e slots home base place y labels all end results me link stack t o offset rest n pc m v
-      r.covered.0.0 (at_use (address t o offset) rest pc r (λ l none. none)) h
+      r.covered.0.0 (at_use (address t o offset) rest pc r (λ l none. none)) h r.here.core
       (λ pc1 m1 v1 s z. more pc1 m1 v1
       (record { covered = r.covered.1; live = r.live; inside = r.inside; here = r.here; stands = s }) z)
   performs start ready n go calls returns pc (field t space offset) rest m v r h held more =
       field_follows p functions e slots home base place y labels all end results me link stack t space offset rest n pc m v
-      r.covered.0.0 (at_use (field t space offset) rest pc r (λ l none. none)) h
+      r.covered.0.0 (at_use (field t space offset) rest pc r (λ l none. none)) h r.here.core
       (λ pc1 m1 v1 s z. more pc1 m1 v1
       (record { covered = r.covered.1; live = r.live; inside = r.inside; here = r.here; stands = s }) z)
   performs start ready n go calls returns pc (load_at t u space) rest m v r h held more =
       let i = r.covered.0.0 in
       load_at_follows p functions e slots home base place y labels all end results me link stack t u space rest n pc m v i.0 i.1
-      (at_use (load_at t u space) rest pc r (λ l none. none)) h
+      (at_use (load_at t u space) rest pc r (λ l none. none)) h r.here.core
       (λ pc1 m1 v1 s z. go pc1 rest m1 v1
       (record { covered = r.covered.1; live = r.live; inside = r.inside; here = r.here; stands = s }) z)
   performs start ready n go calls returns pc (store_at t space u) rest m v r h held more =

@@ -16,7 +16,7 @@ use Rattle.ec_ir.specs.declared.operations.Temp.{Temp}
 use Rattle.ec_ir.specs.Operations.{PlainIr, constant, copy, address, field, load_at, store_at, load_object}
 use Rattle.ec_ir.specs.Operations.{store_object, binary_op, unary_op, conversion, label, jump, branch_zero}
 use Rattle.ec_ir.specs.Operations.{call_function, return_from, port_in, port_out}
-use Rattle.ec_ir.specs.Valid.{IsParameterOf}
+use Rattle.ec_ir.specs.Valid.{IsParameterOf, HasPointersOf}
 use Rattle.ec_select_operations.specs.declared.families.Family.{Family}
 use Rattle.ec_select_operations.specs.declared.families.Family.TheVariants.{Combined, Compared, Multiplied, Shifted}
 use Rattle.ec_select_operations.specs.declared.families.Family.TheVariants.{Divided}
@@ -135,7 +135,7 @@ pub record IsFixedConversion (slots : ℕ) (to a : Temp) (ty aty : PlainType) : 
   pub result_bytes : to.bytes ≡ scalar_size ty
   pub from_bytes : a.bytes ≡ scalar_size aty
 
--- a pointer to an offset in an object that has an address
+-- a pointer to an offset in an object that has an address, of a space that its home is in
 pub record IsAddress (p : PlainProgram) (slots : ℕ) (t : Temp) (o offset : ℕ) : Type 0 where
   pub result : HasHome slots t
   pub size : IsPointerSize t.bytes
@@ -143,6 +143,7 @@ pub record IsAddress (p : PlainProgram) (slots : ℕ) (t : Temp) (o offset : ℕ
   pub is_object : slice_get p.objects o ≡ Some declared
   pub addressable : IsAddressable declared.storage
   pub within : offset ≤ size_of_type p.structs declared.ty
+  pub of : HasPointersOf declared t.bytes
 
 -- a pointer into a space
 abbrev pub IsInto : (slots : ℕ) → SpaceId → Temp → Type 0

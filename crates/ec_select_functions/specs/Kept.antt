@@ -1,7 +1,7 @@
 -- Runs whose port bytes are ports of a machine.
 use Rattle.std.specs.Prelude.{ℕ, Bool, true, false, ◌&&◌, if◌then◌else◌, ℤ, List, [], ◌∷◌}
 use Rattle.ec_runs.specs.Behaviours.{Behaviour, Running, Ended, Failed}
-use Rattle.ec_asm.specs.Change.{Env, Kind, Own, Object, Port, Stacked, Barred}
+use Rattle.ec_asm.specs.Change.{Env, Kind, Own, Object, Port, Stacked, Page, Barred}
 use Rattle.ec_core.specs.declared.values.Undefined.{Undefined}
 use Rattle.ec_core.specs.declared.values.Undefined.TheVariants.{Access as NoAccess}
 use Rattle.ec_core.specs.State.{Inputs, Event, In, Out, Read, Write}
@@ -13,6 +13,7 @@ is_port_kind Own = false
 is_port_kind Object = false
 is_port_kind Port = true
 is_port_kind Stacked = false
+is_port_kind Page = false
 is_port_kind Barred = false
 
 -- the byte that an event reads from or writes to a port is a port of the machine

@@ -1,6 +1,7 @@
 -- The laws of the code of operations.
 use Rattle.std.specs.Prelude.{◌≡◌, ℕ, ◌+◌, ◌*◌, ◌%◌, ◌<◌, ◌≤◌, ◌==◌, nat_le, Bool, true, false, List, [], ◌∷◌, ⊤, Some}
 use Rattle.std.specs.Prelude.{slice_get, ℤ, Contains, IsSomeAnd, IsTrue, length, Option}
+use Rattle.ec_space.specs.declared.Core.{Core}
 use Rattle.ec_space.specs.declared.space.Bank.TheVariants.{Data as DataBank}
 use Rattle.ec_runs.specs.Behaviours.{Behaviour, Running, Ended, Failed, Reaches, IsWithin, seen_as}
 use Rattle.ec_isa.specs.declared.instructions.Instr.TheVariants.{Break}
@@ -30,7 +31,7 @@ use Rattle.ec_select_operations.specs.Needs.{Need, IsLive}
 use Rattle.ec_select_operations.specs.Routines.{HasRoutineOf}
 use Rattle.ec_select_operations.specs.Places.{ObjectLeaf, CanBeLiveTogether, Apart, Layout}
 use Rattle.ec_select_functions.specs.Relation.{accesses, HoldsLeaf}
-use Rattle.ec_select_functions.specs.Standing.{home_address, ScratchStands, ObjectsStand, TablesStand, WorkStands}
+use Rattle.ec_select_functions.specs.Standing.{home_address, ScratchStands, ObjectsStand, TablesStand, PageStands, WorkStands}
 
 -- ---- where code and data stand
 
@@ -42,8 +43,9 @@ pub record Made : Type 0 where
   pub labels : ℕ → Need
   pub routine_of : PlainIr → Option ℕ
 
-abbrev pub linkage_of : PlainIrProgram → (entry_of : ℕ → ℕ) → (f slots : ℕ) → Made → Linkage
-linkage_of p entry_of f slots made = record {
+abbrev pub linkage_of : Core → PlainIrProgram → (entry_of : ℕ → ℕ) → (f slots : ℕ) → Made → Linkage
+linkage_of core p entry_of f slots made = record {
+  core = core;
   label_of = made.label_of;
   entry_of = entry_of;
   homes = made.homes;
@@ -58,7 +60,7 @@ CanCall (binary_op op ty mode to a aty b bty) = is_on_integers (family_of op) mo
 CanCall i = ⊤
 
 -- Its operations are all covered, the table of labels tells what is needed, the scratch memory stands apart from the
--- objects, the code stands between two words, and the routines that it calls stand and can be called
+-- objects, the code for the core stands between two words, and the routines that it calls stand and can be called
 pub record IsSelected (p : PlainIrProgram) (e : Env) (place : ℕ → ℕ) (entry_of results : ℕ → ℕ) (f : ℕ)
     (g : PlainIrFunction) (made : Made) (scratch : ℕ) : Type 0 where
   pub pc : ℕ
@@ -67,13 +69,14 @@ pub record IsSelected (p : PlainIrProgram) (e : Env) (place : ℕ → ℕ) (entr
   pub live : IsLive made.labels g.code
   pub scratch_stands : ScratchStands e g.slots made.homes scratch
   pub objects_stand : ObjectsStand p e g.slots scratch place
-  pub stands : HasAt e (function_code (data_of p) (linkage_of p entry_of f g.slots made) f made.labels g.code) pc end
+  pub stands : HasAt e (function_code (data_of p) (linkage_of e.core p entry_of f g.slots made) f made.labels g.code) pc end
   pub routines : (i : PlainIr) (l : ℕ) → Contains g.code i → made.routine_of i ≡ Some l → HasRoutineOf e l i
   pub callers : (i : PlainIr) (l : ℕ) → Contains g.code i → made.routine_of i ≡ Some l → CanCall i
 
 -- All functions are selected, each with its scratch memory at an address. That of a function stands apart from that of
 -- any other which it calls, itself or through others. `results` are the bytes of the results, and `entry_of` are the
--- labels at which functions begin. The objects of the flash bank stand there with their initial values
+-- labels at which functions begin. The objects of the flash bank stand there with their initial values, and RAMPZ where the
+-- core has it
 pub record AreSelected (p : PlainIrProgram) (e : Env) (place : ℕ → ℕ) (entry_of : ℕ → ℕ) : Type 0 where
   pub results : ℕ → ℕ
   pub made : ℕ → Made
@@ -84,6 +87,7 @@ pub record AreSelected (p : PlainIrProgram) (e : Env) (place : ℕ → ℕ) (ent
   pub apart : (f h : ℕ) (a b : PlainIrFunction) → CallsTo p h f → slice_get p.functions f ≡ Some a
       → slice_get p.functions h ≡ Some b → Apart (scratch f) (16 * a.slots) (scratch h) (16 * b.slots)
   pub tables : TablesStand (data_of p) e place
+  pub page : PageStands e
   pub work : ℕ
   pub work_stands : WorkStands (data_of p) e place work
   pub work_apart : (f : ℕ) (g : PlainIrFunction) → slice_get p.functions f ≡ Some g

@@ -1,9 +1,13 @@
 -- The homes of `home` and the objects, wherever scratch memory and objects stand.
-use Rattle.std.specs.Prelude.{◌≡◌, ◌≢◌, ◌⊎◌, ℕ, ◌+◌, ◌-◌, ◌*◌, ◌<◌, ◌≤◌, nat_le, ◌&&◌, if◌then◌else◌, Some, slice_get}
+use Rattle.std.specs.Prelude.{◌≡◌, ◌≢◌, ◌⊎◌, ℕ, ◌+◌, ◌-◌, ◌*◌, ◌%◌, ◌<◌, ◌≤◌, nat_le, ◌&&◌, if◌then◌else◌, Some, slice_get}
 use Rattle.std.specs.Prelude.{slice_index}
+use Rattle.ec_space.specs.declared.Core.{Core}
+use Rattle.ec_space.specs.declared.Core.TheVariants.{Small, Large}
 use Rattle.ec_space.specs.declared.space.Bank.TheVariants.{Flash as FlashBank, Data as DataBank}
+use Rattle.ec_space.specs.declared.space.Home.{Home}
+use Rattle.ec_space.specs.declared.space.Home.TheVariants.{Flash as FlashHome, Far as FarHome, Data as DataHome}
 use Rattle.ec_space.specs.Spaces.{bank_of}
-use Rattle.ec_asm.specs.Change.{Env, Own, Object}
+use Rattle.ec_asm.specs.Change.{Env, Own, Object, Page}
 use Rattle.ec_core.specs.declared.values.Value.{Value}
 use Rattle.ec_core.specs.Accesses.{leaf_of}
 use Rattle.ec_core.specs.Layout.{size_of_type}
@@ -63,18 +67,32 @@ pub record ObjectsStand (p : PlainIrProgram) (e : Env) (slots scratch : ℕ) (pl
   pub scratch_apart : (o : ℕ) (d : PlainObject) → slice_get p.objects o ≡ Some d → bank_of d.home ≡ DataBank
       → Apart (place o) (size_of_type p.structs d.ty) scratch (16 * slots)
 
--- n bytes of an object stand in flash, but not at address 0, and its end has an address too
-pub record StandsInFlash (e : Env) (o n place : ℕ) : Type 0 where
+-- One past the greatest address of a byte or an end of objects of a home: past the first 65,536 bytes of its bank none but
+-- those of the home far have any, and only where the flash of the core goes on there
+abbrev pub address_end : Core → Home → ℕ
+address_end Small home = 65536
+address_end Large FlashHome = 65536
+address_end Large FarHome = 131_072
+address_end Large DataHome = 65536
+
+-- n bytes of an object of a home stand in flash, but not at address 0, and its end has an address too. The code has the
+-- low two bytes of an address, and on the core `large` the whole address
+pub record StandsInFlash (e : Env) (home : Home) (o n place : ℕ) : Type 0 where
   pub some : 0 < place
-  pub end : place + n < 65536
-  pub at : (i : ℕ) → i ≤ n → e.address_of o i ≡ place + i
+  pub end : place + n < address_end e.core home
+  pub at : (i : ℕ) → i ≤ n → e.address_of o i ≡ (place + i) % 65536
+  pub far : e.core ≡ Large → (i : ℕ) → i ≤ n → e.far_of o i ≡ place + i
   pub kind : (i : ℕ) → i < n → e.table (place + i) ≡ Object
+
+-- code may write RAMPZ, where the core has it
+abbrev pub PageStands : Env → Type 0
+PageStands e = e.core ≡ Large → e.kind 0x5B ≡ Page
 
 -- the objects of the flash bank stand apart from one another, with their initial values, and the flash holds bytes
 pub record TablesStand (p : PlainProgram) (e : Env) (place : ℕ → ℕ) : Type 0 where
   pub bytes : (k : ℕ) → slice_index e.flash k < 256
   pub each : (o : ℕ) (d : PlainObject) → slice_get p.objects o ≡ Some d → bank_of d.home ≡ FlashBank
-      → StandsInFlash e o (size_of_type p.structs d.ty) (place o)
+      → StandsInFlash e d.home o (size_of_type p.structs d.ty) (place o)
   pub apart : (o k : ℕ) (d f : PlainObject) → slice_get p.objects o ≡ Some d → bank_of d.home ≡ FlashBank
       → slice_get p.objects k ≡ Some f → bank_of f.home ≡ FlashBank → o ≢ k
       → Apart (place o) (size_of_type p.structs d.ty) (place k) (size_of_type p.structs f.ty)

@@ -9,11 +9,13 @@ use ec_select_fixed::laws::{
 };
 use ec_select_numbers::laws::numbers_are_operands;
 use ec_select_places::laws::{
-    elements_are_formed, elements_are_right, indexes_are_scaled, places_are_short,
+    elements_are_formed, elements_are_right, far_elements_are_right, far_places_are_formed,
+    far_pointers_are_advanced, far_pointers_are_compared, indexes_are_scaled, places_are_short,
     pointers_are_advanced, pointers_are_compared, pointers_are_converted,
 };
 use ec_select_pointers::laws::{
-    addresses_are_right, fields_are_right, loads_are_right, loads_by_tag_are_right,
+    addresses_are_right, far_addresses_are_right, far_loads_are_right, far_loads_by_top_are_right,
+    far_pointers_are_straight, fields_are_right, loads_are_right, loads_by_tag_are_right,
     pointers_are_straight, stores_are_right, tables_are_formed, tables_are_loaded,
 };
 use ec_select_routines::laws::{
@@ -26,7 +28,7 @@ use ec_select_routines::laws::{
 /// only where they end, and never fails, as long as they access none but ports of the machine. The functions are those
 /// of a valid program, wherever their code, their scratch memory, the objects and the stack stand. The code of an
 /// operation stands at its use, or calls a routine that stands once. Objects that are never live at one moment may share
-/// bytes.
+/// bytes. It holds of the code for each core.
 pub fn code_follows_operations()
     ensures { CodeFollowsOperations }
 {
@@ -56,6 +58,14 @@ pub fn code_follows_operations()
     pointers_are_compared();
     pointers_are_converted();
     places_are_short();
+    far_addresses_are_right();
+    far_loads_are_right();
+    far_loads_by_top_are_right();
+    far_pointers_are_straight();
+    far_pointers_are_advanced();
+    far_elements_are_right();
+    far_pointers_are_compared();
+    far_places_are_formed();
     numbers_are_operands();
     known_numbers_are_held();
 }

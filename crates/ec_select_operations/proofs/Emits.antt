@@ -1,7 +1,11 @@
 -- Lemmas of the emitters.
-use Rattle.std.proofs.Common.{◌≡◌, ◌++◌, ℕ, ◌≤◌, List, Ok, Err, append_assoc, ap, ◌∙◌, inl, inr, subst, arith}
+use Rattle.std.proofs.Common.{◌≡◌, ◌++◌, ℕ, ◌≤◌, true, List, Ok, Err, append_assoc, ap, ◌∙◌, inl, inr, subst, arith}
 use Rattle.std.specs.Prelude.{Result, OnOk}
+use Rattle.std.proofs.lemmas.Bool.{eqb-true}
+use Rattle.ec_space.specs.declared.Core.{Core}
+use Rattle.ec_space.specs.declared.Core.TheVariants.{Small, Large}
 use Rattle.ec_space.specs.declared.space.Bank.{Bank}
+use Rattle.ec_space.specs.declared.space.Bank.TheVariants.{Flash as FlashBank, Data as DataBank}
 use Rattle.ec_asm.specs.declared.pieces.Location.{Location}
 use Rattle.ec_asm.specs.declared.pieces.Location.TheVariants.{InRegisters, InMemory}
 use Rattle.ec_asm.specs.Pieces.{HasBytes}
@@ -10,6 +14,7 @@ use Rattle.ec_select_order.specs.declared.relations.Relation.TheVariants.{Less, 
 pub use Rattle.ec_select_bytes.proofs.Bytes.{byte_there}
 use Rattle.ec_select_places.specs.Steps.{compared_bytes}
 use Rattle.ec_select_pointers.specs.Addresses.{pointer_bytes}
+use Rattle.ec_select_operations.specs.Code.{is_far, is_whole_address, related_bytes}
 use Rattle.ec_select_operations.specs.Pointers.{tag_in, IsPointerSize}
 
 pub fewer_bytes : (p : Location) (n m : ℕ) → m ≤ n → HasBytes p n → HasBytes p m
@@ -22,12 +27,27 @@ pub tag_there : (p : Location) (bytes : ℕ) (bank : Bank) → IsPointerSize byt
 tag_there p bytes bank (inl q) h = rw q (subst (HasBytes p) q h)
 tag_there p bytes bank (inr q) h = rw q (subst (HasBytes p) q h)
 
+-- a pointer that has whole addresses has three bytes
+pub far_there : (p : Location) (core : Core) (bytes : ℕ) → is_far core bytes ≡ true → HasBytes p bytes → HasBytes p 3
+far_there p Small bytes e h = absurd cc
+far_there p Large bytes e h = subst (HasBytes p) (eqb-true bytes 3 e) h
+
+pub whole_there : (p : Location) (core : Core) (bytes : ℕ) (bank : Bank) → is_whole_address core bytes bank ≡ true
+    → HasBytes p bytes → HasBytes p 3
+whole_there p core bytes FlashBank e h = far_there p core bytes e h
+whole_there p core bytes DataBank e h = absurd cc
+
 -- what is compared of a pointer
-pub fewer_compared : (r : Relation) (p : Location) (n : ℕ) → 2 ≤ n → HasBytes p n → HasBytes p (compared_bytes r n)
+fewer_compared : (r : Relation) (p : Location) (n : ℕ) → 2 ≤ n → HasBytes p n → HasBytes p (compared_bytes r n)
 fewer_compared Less p n l h = fewer_bytes p n 2 l h
 fewer_compared NotLess p n l h = fewer_bytes p n 2 l h
 fewer_compared Equal p n l h = h
 fewer_compared NotEqual p n l h = h
+
+pub fewer_related : (core : Core) (r : Relation) (p : Location) (n : ℕ) → 2 ≤ n → HasBytes p n
+    → HasBytes p (related_bytes core r n)
+fewer_related Small r p n l h = fewer_compared r p n l h
+fewer_related Large r p n l h = h
 
 -- code behind code
 pub joined_code : {E T X : Type 0} (r : Result T X) (old mid new first second : List E) → mid ≡ old ++ first

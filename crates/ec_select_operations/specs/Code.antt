@@ -1,11 +1,15 @@
 -- The code of operations.
 use Rattle.std.specs.Prelude.{◌≤◌, ⊤, ℕ, suc, ◌+◌, ◌-◌, ◌*◌, ◌/◌, ◌%◌, ◌==◌, nat_le, Bool, true, false, ◌&&◌, ◌||◌, not}
 use Rattle.std.specs.Prelude.{if◌then◌else◌}
-use Rattle.std.specs.Prelude.{min, List, [], ◌∷◌, ◌++◌, Option, Some, None, option_map, slice_get, slice_index, ℤ}
+use Rattle.std.specs.Prelude.{min, List, [], ◌∷◌, ◌++◌, Option, Some, None, option_map, slice_get, slice_index}
 use Rattle.ec_fx.specs.declared.numbers.Mode.{Mode}
 use Rattle.ec_fx.specs.Formats.{format_of}
+use Rattle.ec_space.specs.declared.Core.{Core}
+use Rattle.ec_space.specs.declared.Core.TheVariants.{Small, Large}
 use Rattle.ec_space.specs.declared.space.Bank.{Bank}
 use Rattle.ec_space.specs.declared.space.Bank.TheVariants.{Flash as FlashBank, Data as DataBank}
+use Rattle.ec_space.specs.declared.space.Home.{Home}
+use Rattle.ec_space.specs.declared.space.Home.TheVariants.{Flash as FlashHome, Far as FarHome, Data as DataHome}
 use Rattle.ec_space.specs.declared.space.SpaceId.{SpaceId}
 use Rattle.ec_space.specs.declared.space.SpaceId.TheVariants.{Flash, FarFlash, Data, Generic}
 use Rattle.ec_isa.specs.declared.instructions.Instr.TheVariants.{Movw, Ret}
@@ -39,10 +43,13 @@ use Rattle.ec_select_order.specs.Relations.{relation_code, unless_code}
 pub use Rattle.ec_select_bytes.specs.Operators.{reversed_code}
 use Rattle.ec_select_places.specs.Conversions.{embed_code}
 use Rattle.ec_select_places.specs.Distances.{elements_code}
+use Rattle.ec_select_places.specs.Far.{advance_far_code}
 use Rattle.ec_select_places.specs.Steps.{scale_index_code, advance_code, compared_bytes}
 use Rattle.ec_select_pointers.specs.Accesses.{load_data_code, load_flash_code, load_any_code, load_table_code}
 use Rattle.ec_select_pointers.specs.Accesses.{store_data_code}
 use Rattle.ec_select_pointers.specs.Addresses.{address_code, field_code}
+use Rattle.ec_select_pointers.specs.Far.{load_far_code, load_far_table_code, load_any_far_code, far_address_code}
+use Rattle.ec_select_pointers.specs.Far.{field_far_code}
 use Rattle.ec_select_products.specs.Products.{product_code}
 use Rattle.ec_select_quotients.specs.Signs.{quotient_code}
 use Rattle.ec_select_shifts.specs.declared.shifts.Direction.{Direction}
@@ -67,7 +74,7 @@ use Rattle.ec_select_operations.specs.Needs.{is_fixed, is_whole, number_taken, c
 use Rattle.ec_select_operations.specs.Needs.{Need, nothing, wanted, wanted_result, without_result, either}
 use Rattle.ec_select_operations.specs.Needs.{Facts, facts_of, needs}
 use Rattle.ec_select_operations.specs.Places.{object_location}
-use Rattle.ec_select_operations.specs.Pointers.{is_pointer, is_into_data, home_of, tag_in}
+use Rattle.ec_select_operations.specs.Pointers.{is_pointer, is_into_data, home_of, kept_in, tag_in}
 use Rattle.ec_select_operations.specs.Ports.{in_code, out_code}
 
 abbrev pub same_location : Location → Location → Bool
@@ -300,10 +307,11 @@ tested_code (Some told) p bytes l = unless_code told.relation told.signed l
 
 -- ---- calls
 
--- How the code of a function is put together with that of the others: the label of items for each of its own, and the
--- one at which each function begins; where its temporaries stand, at so many places; whether it is main; and the label of
--- the routine, if there is one, that an operation calls
+-- The core that the code is for, and how the code of a function is put together with that of the others: the label of
+-- items for each of its own, and the one at which each function begins; where its temporaries stand, at so many places;
+-- whether it is main; and the label of the routine, if there is one, that an operation calls
 pub record Linkage : Type 0 where
+  pub core : Core
   pub label_of : ℕ → ℕ
   pub entry_of : ℕ → ℕ
   pub homes : Homes
@@ -478,50 +486,88 @@ fixed_conversion ty aty mode a to bytes n =
 
 -- ---- pointers
 
+-- the code for one core or for the other
+abbrev pub by_core : Core → (small large : List AsmItem) → List AsmItem
+by_core Small small large = small
+by_core Large small large = large
+
+-- a pointer of so many bytes has whole addresses of flash: one of three bytes, where the flash goes past two
+abbrev pub is_far : Core → (bytes : ℕ) → Bool
+is_far Small bytes = false
+is_far Large bytes = bytes == 3
+
+-- what such a pointer to a place in a bank has is the place's whole address
+abbrev pub is_whole_address : Core → (bytes : ℕ) → Bank → Bool
+is_whole_address core bytes FlashBank = is_far core bytes
+is_whole_address core bytes DataBank = false
+
 -- the address of a place is put to a pointer of so many bytes, where some of them are needed
-abbrev pub addressed_code : PlainProgram → (o offset : ℕ) → Location → (bytes n : ℕ) → List AsmItem
-addressed_code p o offset to bytes n =
-    if n == 0 then [] else address_code o offset (tag_in bytes (home_of p o)) to
+abbrev pub addressed_code : Core → PlainProgram → (o offset : ℕ) → Location → (bytes n : ℕ) → List AsmItem
+addressed_code core p o offset to bytes n =
+    if n == 0 then []
+    else (if is_whole_address core bytes (home_of p o) then far_address_code o offset to
+    else address_code o offset (tag_in bytes (home_of p o)) to)
+
+-- a pointer of so many bytes to a member at an offset
+abbrev pub member_code : Core → (bytes : ℕ) → Location → (offset : ℕ) → List AsmItem
+member_code core bytes ptr offset = if is_far core bytes then field_far_code ptr offset else field_code ptr offset
 
 -- n bytes through a pointer into a space, which stands at p
-abbrev pub load_code : SpaceId → (p to : Location) → ℕ → List AsmItem
-load_code Flash p to n = load_flash_code p to n
-load_code FarFlash p to n = load_flash_code p to n
-load_code Data p to n = load_data_code p to n
-load_code Generic p to n = load_any_code p to n
+abbrev pub load_code : Core → SpaceId → (p to : Location) → ℕ → List AsmItem
+load_code core Flash p to n = load_flash_code p to n
+load_code core FarFlash p to n = by_core core (load_flash_code p to n) (load_far_code p to n)
+load_code core Data p to n = load_data_code p to n
+load_code core Generic p to n = by_core core (load_any_code p to n) (load_any_far_code p to n)
 
--- n bytes of an object from an offset on, which is kept in a bank
-abbrev pub banked_code : Bank → List PlainObject → (o offset : ℕ) → (to : Location) → ℕ → List AsmItem
-banked_code FlashBank objects o offset to n = load_table_code o offset to n
-banked_code DataBank objects o offset to n = copy_code (object_location objects o offset) to n
+-- n bytes of an object with a home, from an offset on
+abbrev pub banked_code : Core → Home → List PlainObject → (o offset : ℕ) → (to : Location) → ℕ → List AsmItem
+banked_code core FlashHome objects o offset to n = load_table_code o offset to n
+banked_code core FarHome objects o offset to n =
+    by_core core (load_table_code o offset to n) (load_far_table_code o offset to n)
+banked_code core DataHome objects o offset to n = copy_code (object_location objects o offset) to n
+
+-- a pointer of so many bytes is moved by the bytes in R31:R30, further or back
+abbrev pub moved_code : Core → (bytes : ℕ) → (minus : Bool) → Location → List AsmItem
+moved_code core bytes minus to = if is_far core bytes then advance_far_code minus to else advance_code minus to
 
 -- A pointer so many elements further, or back: the number of elements becomes one of bytes in R31:R30, then the pointer
 -- is brought to the result's place and moved there
-abbrev pub offset_code : (minus signed : Bool) → (from index to : Location) → (bytes index_bytes size n : ℕ)
+abbrev pub offset_code : Core → (minus signed : Bool) → (from index to : Location) → (bytes index_bytes size n : ℕ)
     → List AsmItem
-offset_code minus signed from index to bytes index_bytes size n =
+offset_code core minus signed from index to bytes index_bytes size n =
     if n == 0 then []
-    else scale_index_code index signed index_bytes (size % 65536) ++ (move_code from to bytes ++ advance_code minus to)
+    else scale_index_code index signed index_bytes (size % 65536)
+    ++ (move_code from to bytes ++ moved_code core bytes minus to)
 
 -- the elements of so many bytes between two pointers
 abbrev pub difference_code : (a b to : Location) → (size n : ℕ) → List AsmItem
 difference_code a b to size n = if n == 0 then [] else elements_code a b to size
 
--- two pointers of so many bytes: what is compared of them is told by the relation
-abbrev pub pointers_code : Family → (a b to : Location) → (bytes size n : ℕ) → List AsmItem
-pointers_code (Combined op) a b to bytes size n = difference_code a b to size n
-pointers_code (Compared r false) a b to bytes size n = compared_code r false a b to (compared_bytes r bytes) n
-pointers_code (Compared r true) a b to bytes size n = compared_code r false b a to (compared_bytes r bytes) n
-pointers_code f a b to bytes size n = []
+-- what is compared of pointers of so many bytes: all where a third byte may have a part of the address, and else what
+-- the relation asks for
+abbrev pub related_bytes : Core → Relation → (bytes : ℕ) → ℕ
+related_bytes Small r bytes = compared_bytes r bytes
+related_bytes Large r bytes = bytes
+
+-- two pointers of so many bytes
+abbrev pub pointers_code : Core → Family → (a b to : Location) → (bytes size n : ℕ) → List AsmItem
+pointers_code core (Combined op) a b to bytes size n = difference_code a b to size n
+pointers_code core (Compared r false) a b to bytes size n =
+    compared_code r false a b to (related_bytes core r bytes) n
+pointers_code core (Compared r true) a b to bytes size n =
+    compared_code r false b a to (related_bytes core r bytes) n
+pointers_code core f a b to bytes size n = []
 
 -- two pointers, or a pointer and a number of elements, in either order
-abbrev pub pointer_binary : (left right : Bool) → PlainProgram → BinOp → (aty bty : PlainType) → (a b to : Location)
-    → (bytes index_bytes n : ℕ) → List AsmItem
-pointer_binary true true p op aty bty a b to m k n = pointers_code (family_of op) a b to m (element_size p aty) n
-pointer_binary true false p op aty bty a b to m k n =
-    offset_code (is_difference op) (is_signed bty) a b to m k (element_size p aty) n
-pointer_binary false true p op aty bty a b to m k n = offset_code false (is_signed aty) b a to k m (element_size p bty) n
-pointer_binary false false p op aty bty a b to m k n = []
+abbrev pub pointer_binary : Core → (left right : Bool) → PlainProgram → BinOp → (aty bty : PlainType)
+    → (a b to : Location) → (bytes index_bytes n : ℕ) → List AsmItem
+pointer_binary core true true p op aty bty a b to m k n =
+    pointers_code core (family_of op) a b to m (element_size p aty) n
+pointer_binary core true false p op aty bty a b to m k n =
+    offset_code core (is_difference op) (is_signed bty) a b to m k (element_size p aty) n
+pointer_binary core false true p op aty bty a b to m k n =
+    offset_code core false (is_signed aty) b a to k m (element_size p bty) n
+pointer_binary core false false p op aty bty a b to m k n = []
 
 -- a pointer of two bytes gets a third one, which tells its bank, and one of three bytes loses it
 abbrev pub pointer_conversion : PlainType → (from to : Location) → (from_bytes to_bytes n : ℕ) → List AsmItem
@@ -538,20 +584,23 @@ abbrev pub operation_code : PlainProgram → (Temp → Location) → Linkage →
 operation_code p home k told telling known bytes kept (constant t n) = constant_code (home t) (low_bytes 16 n) bytes
 operation_code p home k told telling known bytes kept (copy to from) = move_code (home from) (home to) bytes
 operation_code p home k told telling known bytes kept (address t o offset) =
-    addressed_code p o offset (home t) t.bytes bytes
-operation_code p home k told telling known bytes kept (field ptr space offset) = field_code (home ptr) offset
-operation_code p home k told telling known bytes kept (load_at to ptr space) = load_code space (home ptr) (home to) to.bytes
+    addressed_code k.core p o offset (home t) t.bytes bytes
+operation_code p home k told telling known bytes kept (field ptr space offset) =
+    member_code k.core ptr.bytes (home ptr) offset
+operation_code p home k told telling known bytes kept (load_at to ptr space) =
+    load_code k.core space (home ptr) (home to) to.bytes
 operation_code p home k told telling known bytes kept (store_at ptr space from) =
     store_data_code (home from) (home ptr) from.bytes
 operation_code p home k told telling known bytes kept (load_object t o offset) =
-    banked_code (home_of p o) p.objects o offset (home t) t.bytes
+    banked_code k.core (kept_in p o) p.objects o offset (home t) t.bytes
 operation_code p home k told telling known bytes kept (store_object o offset t) =
     copy_code (home t) (object_location p.objects o offset) t.bytes
 operation_code p home k told telling known bytes kept (binary_op op ty mode to a aty b bty) =
     by_kind (is_fixed aty || is_fixed bty)
     (fixed_binary telling op ty aty bty mode (home a) (home b) (home to) a.bytes bytes)
     (by_kind (is_pointer aty || is_pointer bty)
-    (pointer_binary (is_pointer aty) (is_pointer bty) p op aty bty (home a) (home b) (home to) a.bytes b.bytes bytes)
+    (pointer_binary k.core (is_pointer aty) (is_pointer bty) p op aty bty (home a) (home b) (home to) a.bytes b.bytes
+    bytes)
     (integer_binary known telling op (is_signed aty) (is_signed bty) (home a) (home b) (home to) a.bytes bytes))
 operation_code p home k told telling known bytes kept (unary_op op ty mode to a) =
     by_kind (is_fixed ty) (fixed_unary op ty mode (home a) (home to) bytes) (unary_code op (home a) (home to) bytes)

@@ -34,6 +34,7 @@ declarations program = data_of (plain_ir_program program)
 -- are told beside
 abbrev pub linkage : Linking → Linkage
 linkage l = record {
+  core = l.core;
   label_of = λ k. l.first_label + k;
   entry_of = λ f. l.first_entry + f;
   homes = l.homes;

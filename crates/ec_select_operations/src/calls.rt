@@ -16,11 +16,13 @@ use ec_asm::{AsmItem, Location, copy};
 use ec_ir::Temp;
 use ec_isa::Instr;
 use ec_select_bytes::constant;
-use ec_space::{NoMemory, Seq};
+use ec_space::{Core, NoMemory, Seq};
 
 /// How the code of a function is put together with that of the others.
 #[derive(Clone, Copy)]
 pub struct Linking {
+    /// The core that the code is for.
+    pub core: Core,
     /// The label of items for the function's label 0. Those for its other labels follow.
     pub first_label: u64,
     /// The label of items at which function 0 begins. Those of the other functions follow.

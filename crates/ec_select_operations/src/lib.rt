@@ -5,6 +5,9 @@
 //! bytes, `specs/Routines.antt` which operations may have code that stands once, and `specs/Written.antt` the code of a
 //! list of operations. The laws in `laws` tell that the code which is written with the bytes that are needed is the code
 //! of the operations, and that operations of one shape have one routine.
+//!
+//! [`Linking`] names the core. On one whose flash goes past the first 65,536 bytes pointers of three bytes have whole
+//! addresses, which code loads through, moves and compares as such, and far objects are loaded by them.
 #![tactic(auto)]
 
 mod calls;
@@ -31,8 +34,8 @@ pub use laws::{needed_code_is_written, needed_functions_are_written, one_shape_h
 pub use numbers::{compared_bytes, first_bytes, integer_binary, number_at, number_taken};
 pub use operations::{Flags, all_operations, function, operation};
 pub use pointers::{
-    Offset, Pointers, combine_pointers, load_object, load_through, move_pointer, pointer_binary,
-    pointer_conversion, put_address,
+    Offset, Pointers, combine_pointers, load_object, load_through, move_pointer, move_to_member,
+    pointer_binary, pointer_conversion, put_address,
 };
 pub use routines::{called, routine};
 pub use types::{is_fixed, is_pointer, is_whole};

@@ -16,7 +16,8 @@ use crate::fixed::{fixed_binary, fixed_conversion, fixed_unary, is_apart};
 use crate::homes::{home, index_place};
 use crate::numbers::{bits_of, compared_signed, integer_binary, number_at, number_taken};
 use crate::pointers::{
-    load_object, load_through, object_location, pointer_binary, pointer_conversion, put_address,
+    load_object, load_through, move_to_member, object_location, pointer_binary, pointer_conversion,
+    put_address,
 };
 use crate::routines::called;
 use crate::types::{is_fixed, is_pointer, is_signed, is_whole};
@@ -24,7 +25,7 @@ use ec_asm::{AsmItem, Location, copy};
 use ec_ir::{Ir, IrProgram, Temp};
 use ec_ir_known::RightNumber;
 use ec_select_bytes::{PortAccess, constant, jump, read_port, write_port};
-use ec_select_pointers::{field, store_data};
+use ec_select_pointers::store_data;
 use ec_space::{NoMemory, Seq};
 
 /// What an operation has been told by the one before it, and what it tells the next one.
@@ -107,22 +108,40 @@ pub fn operation(
         (need_in kept.now) (plain_ir i.now)) }
     ensures err { OnErr result (BeginWith out.old.items out.new.items) }
 {
-    let homes = of.homes;
+    let (core, homes) = (of.core, of.homes);
     match i {
         Ir::Const(t, n) => constant(out, bits_of(*n), home(homes, *t), wanted),
         Ir::Copy(to, from) => move_number(out, home(homes, *from), home(homes, *to), wanted),
         Ir::Addr(t, o, offset) => {
-            put_address(out, program, *o, *offset, home(homes, *t), t.bytes, wanted)
+            put_address(
+                out,
+                core,
+                program,
+                *o,
+                *offset,
+                home(homes, *t),
+                t.bytes,
+                wanted,
+            )
         }
-        Ir::Field { ptr, offset, .. } => field(out, home(homes, *ptr), *offset),
+        Ir::Field { ptr, offset, .. } => {
+            move_to_member(out, core, home(homes, *ptr), ptr.bytes, *offset)
+        }
         Ir::Load { to, ptr, space } => {
-            load_through(out, *space, home(homes, *ptr), home(homes, *to), to.bytes)
+            load_through(
+                out,
+                core,
+                *space,
+                home(homes, *ptr),
+                home(homes, *to),
+                to.bytes,
+            )
         }
         Ir::Store { ptr, from, .. } => {
             store_data(out, home(homes, *from), home(homes, *ptr), from.bytes)
         }
         Ir::LoadObj(t, o, offset) => {
-            load_object(out, program, *o, *offset, home(homes, *t), t.bytes)
+            load_object(out, core, program, *o, *offset, home(homes, *t), t.bytes)
         }
         Ir::StoreObj(o, offset, t) => copy(
             out,
@@ -147,7 +166,9 @@ pub fn operation(
                 );
             }
             if is_pointer(aty) || is_pointer(bty) {
-                return pointer_binary(out, homes, program, *op, ty, *to, *a, aty, *b, bty, wanted);
+                return pointer_binary(
+                    out, core, homes, program, *op, ty, *to, *a, aty, *b, bty, wanted,
+                );
             }
             let binary_operation = BinaryOperation {
                 to: *to,

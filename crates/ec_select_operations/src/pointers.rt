@@ -8,13 +8,16 @@ ghost use Rattle.ec_core.specs.Layout.{AreStructs};
 ghost use Rattle.ec_core.specs.Plain.{plain_object, plain_type};
 ghost use Rattle.ec_core.specs.Valid.{IsExprType};
 ghost use Rattle.ec_select_places.specs.Steps.{compared_bytes};
-ghost use Rattle.ec_select_operations.specs.Code.{family_of, is_signed};
-ghost use Rattle.ec_select_operations.specs.Code.{addressed_code, load_code, banked_code, offset_code, is_difference};
+ghost use Rattle.ec_select_pointers.specs.Accesses.{load_flash_code, load_any_code, load_table_code};
+ghost use Rattle.ec_select_pointers.specs.Far.{load_far_code, load_any_far_code, load_far_table_code};
+ghost use Rattle.ec_select_operations.specs.Code.{family_of, is_signed, by_core, is_far, is_whole_address};
+ghost use Rattle.ec_select_operations.specs.Code.{addressed_code, member_code, load_code, banked_code, moved_code};
+ghost use Rattle.ec_select_operations.specs.Code.{offset_code, is_difference, related_bytes};
 ghost use Rattle.ec_select_operations.specs.Code.{difference_code, pointers_code, pointer_binary, pointer_conversion};
 ghost use Rattle.ec_select_operations.specs.Emitted.{declarations, PointersHaveBytes, PointerHasBytes};
 ghost use Rattle.ec_select_operations.specs.Homes.{home};
 ghost use Rattle.ec_select_operations.specs.Places.{object_location};
-ghost use Rattle.ec_select_operations.specs.Pointers.{is_pointer, home_of, tag_of, tag_in, IsPointerSize};
+ghost use Rattle.ec_select_operations.specs.Pointers.{is_pointer, home_of, kept_in, tag_of, tag_in, IsPointerSize};
 
 use crate::families::{Family, Operands, family_of, move_number, tell};
 use crate::homes::{Homes, home};
@@ -23,9 +26,22 @@ use ec_asm::{AsmItem, Location, copy};
 use ec_core::{BinOp, CType, Obj, Storage, size_of};
 use ec_ir::{IrProgram, Temp};
 use ec_select_order::Relation;
-use ec_select_places::{advance, elements, embed, scale_index};
-use ec_select_pointers::{address, load_any, load_data, load_flash, load_table};
-use ec_space::{Bank, NoMemory, Seq, SpaceId};
+use ec_select_places::{advance, advance_far, elements, embed, scale_index};
+use ec_select_pointers::{
+    address, far_address, far_field, field, load_any, load_any_far, load_data, load_far,
+    load_far_table, load_flash, load_table,
+};
+use ec_space::{Bank, Core, Home, NoMemory, Seq, SpaceId};
+
+/// The home of an object.
+fn kept_in(program: &IrProgram, o: u16) -> Home
+    ensures { result ≡ kept_in (declarations program.now) o }
+{
+    match program.objs.get(usize::from(o)) {
+        None => Home::Data,
+        Some(d) => d.home,
+    }
+}
 
 /// The bank where an object is kept.
 fn home_of(program: &IrProgram, o: u16) -> Bank
@@ -34,6 +50,26 @@ fn home_of(program: &IrProgram, o: u16) -> Bank
     match program.objs.get(usize::from(o)) {
         None => Bank::Data,
         Some(d) => d.home.bank(),
+    }
+}
+
+/// Whether a pointer of so many bytes has whole addresses of flash.
+fn is_far(core: Core, bytes: u8) -> bool
+    ensures { result ≡ is_far core bytes }
+{
+    match core {
+        Core::Small => false,
+        Core::Large => bytes == 3,
+    }
+}
+
+/// Whether what a pointer of so many bytes to a place in a bank has is the place's whole address.
+fn is_whole_address(core: Core, bytes: u8, bank: Bank) -> bool
+    ensures { result ≡ is_whole_address core bytes bank }
+{
+    match bank {
+        Bank::Flash => is_far(core, bytes),
+        Bank::Data => false,
     }
 }
 
@@ -56,9 +92,10 @@ fn tag_in(bytes: u8, bank: Bank) -> Option<u8>
 
 /// Appends code that puts the address of a place to a pointer of so many bytes, where some of them are wanted. Where
 /// memory runs out, a part of the code is appended.
-#[tactic(auto, using(crate::proofs::Emits::tag_there))]
+#[tactic(auto, using(crate::proofs::Emits::tag_there, crate::proofs::Emits::whole_there))]
 pub fn put_address(
     out: &mut Seq<AsmItem>,
+    core: Core,
     program: &IrProgram,
     o: u16,
     offset: u32,
@@ -69,19 +106,86 @@ pub fn put_address(
     requires size { IsPointerSize bytes }
     requires to { HasBytes to bytes }
     ensures ok { OnOk result (out.new.items ≡ out.old.items
-        ++ addressed_code (declarations program.now) o offset to bytes wanted) }
+        ++ addressed_code core (declarations program.now) o offset to bytes wanted) }
     ensures err { OnErr result (BeginWith out.old.items out.new.items) }
 {
     if wanted == 0 {
         return Ok(());
     }
-    address(out, o, offset, tag_in(bytes, home_of(program, o)), to)
+    let bank = home_of(program, o);
+    if is_whole_address(core, bytes, bank) {
+        return far_address(out, o, offset, to);
+    }
+    address(out, o, offset, tag_in(bytes, bank), to)
+}
+
+/// Appends code that moves a pointer of so many bytes to a member at an offset. Where memory runs out, a part of the
+/// code is appended.
+#[tactic(auto, using(crate::proofs::Emits::fewer_bytes, crate::proofs::Emits::far_there))]
+pub fn move_to_member(
+    out: &mut Seq<AsmItem>,
+    core: Core,
+    pointer: Location,
+    bytes: u8,
+    offset: u32,
+) -> Result<(), NoMemory>
+    requires two { 2 ≤ bytes }
+    requires pointer { HasBytes pointer bytes }
+    ensures ok { OnOk result (out.new.items ≡ out.old.items ++ member_code core bytes pointer offset) }
+    ensures err { OnErr result (BeginWith out.old.items out.new.items) }
+{
+    if is_far(core, bytes) {
+        return far_field(out, pointer, offset);
+    }
+    field(out, pointer, offset)
+}
+
+/// Appends code that loads a number of so many bytes through a pointer into `__farflash`.
+#[tactic(auto, using(crate::proofs::Emits::fewer_bytes))]
+fn load_through_far(
+    out: &mut Seq<AsmItem>,
+    core: Core,
+    pointer: Location,
+    to: Location,
+    bytes: u8,
+) -> Result<(), NoMemory>
+    requires pointer { HasBytes pointer 3 }
+    requires to { HasBytes to bytes }
+    ensures ok { OnOk result (out.new.items ≡ out.old.items
+        ++ by_core core (load_flash_code pointer to bytes) (load_far_code pointer to bytes)) }
+    ensures err { OnErr result (BeginWith out.old.items out.new.items) }
+{
+    match core {
+        Core::Small => load_flash(out, pointer, to, bytes),
+        Core::Large => load_far(out, pointer, to, bytes),
+    }
+}
+
+/// Appends code that loads a number of so many bytes through a pointer into the unnamed space.
+fn load_through_any(
+    out: &mut Seq<AsmItem>,
+    core: Core,
+    pointer: Location,
+    to: Location,
+    bytes: u8,
+) -> Result<(), NoMemory>
+    requires pointer { HasBytes pointer 3 }
+    requires to { HasBytes to bytes }
+    ensures ok { OnOk result (out.new.items ≡ out.old.items
+        ++ by_core core (load_any_code pointer to bytes) (load_any_far_code pointer to bytes)) }
+    ensures err { OnErr result (BeginWith out.old.items out.new.items) }
+{
+    match core {
+        Core::Small => load_any(out, pointer, to, bytes),
+        Core::Large => load_any_far(out, pointer, to, bytes),
+    }
 }
 
 /// Appends code that loads a number of so many bytes through a pointer into a space. Where memory runs out, a part of
 /// the code is appended.
 pub fn load_through(
     out: &mut Seq<AsmItem>,
+    core: Core,
     space: SpaceId,
     pointer: Location,
     to: Location,
@@ -89,13 +193,14 @@ pub fn load_through(
 ) -> Result<(), NoMemory>
     requires pointer { HasBytes pointer (width space) }
     requires to { HasBytes to bytes }
-    ensures ok { OnOk result (out.new.items ≡ out.old.items ++ load_code space pointer to bytes) }
+    ensures ok { OnOk result (out.new.items ≡ out.old.items ++ load_code core space pointer to bytes) }
     ensures err { OnErr result (BeginWith out.old.items out.new.items) }
 {
     match space {
-        SpaceId::Flash | SpaceId::FarFlash => load_flash(out, pointer, to, bytes),
+        SpaceId::Flash => load_flash(out, pointer, to, bytes),
+        SpaceId::FarFlash => load_through_far(out, core, pointer, to, bytes),
         SpaceId::Data => load_data(out, pointer, to, bytes),
-        SpaceId::Generic => load_any(out, pointer, to, bytes),
+        SpaceId::Generic => load_through_any(out, core, pointer, to, bytes),
     }
 }
 
@@ -113,10 +218,31 @@ pub(crate) fn object_location(objects: &[Obj], o: u16, offset: u32, bytes: u8) -
     }
 }
 
-/// Appends code that loads a number of so many bytes from an offset in an object, from the bank where it is kept. Where
-/// memory runs out, a part of the code is appended.
+/// Appends code that loads a number of so many bytes from an offset in an object with the home far.
+fn load_far_object(
+    out: &mut Seq<AsmItem>,
+    core: Core,
+    o: u16,
+    offset: u32,
+    to: Location,
+    bytes: u8,
+) -> Result<(), NoMemory>
+    requires { HasBytes to bytes }
+    ensures ok { OnOk result (out.new.items ≡ out.old.items
+        ++ by_core core (load_table_code o offset to bytes) (load_far_table_code o offset to bytes)) }
+    ensures err { OnErr result (BeginWith out.old.items out.new.items) }
+{
+    match core {
+        Core::Small => load_table(out, o, offset, to, bytes),
+        Core::Large => load_far_table(out, o, offset, to, bytes),
+    }
+}
+
+/// Appends code that loads a number of so many bytes from an offset in an object, by the object's home. Where memory
+/// runs out, a part of the code is appended.
 pub fn load_object(
     out: &mut Seq<AsmItem>,
+    core: Core,
     program: &IrProgram,
     o: u16,
     offset: u32,
@@ -126,13 +252,14 @@ pub fn load_object(
     requires from { HasBytes (object_location (map plain_object program.now.objs.items) o offset) bytes }
     requires to { HasBytes to bytes }
     ensures ok { OnOk result (out.new.items ≡ out.old.items
-        ++ banked_code (home_of (declarations program.now) o) (map plain_object program.now.objs.items) o offset to
+        ++ banked_code core (kept_in (declarations program.now) o) (map plain_object program.now.objs.items) o offset to
         bytes) }
     ensures err { OnErr result (BeginWith out.old.items out.new.items) }
 {
-    match home_of(program, o) {
-        Bank::Flash => load_table(out, o, offset, to, bytes),
-        Bank::Data => {
+    match kept_in(program, o) {
+        Home::Flash => load_table(out, o, offset, to, bytes),
+        Home::Far => load_far_object(out, core, o, offset, to, bytes),
+        Home::Data => {
             let from = object_location(program.objs.as_slice(), o, offset, bytes);
             copy(out, from, to, bytes)
         }
@@ -151,6 +278,26 @@ fn element_size(program: &IrProgram, ty: &CType) -> u32
     }
 }
 
+/// Appends code that moves a pointer of so many bytes by the bytes in R31:R30, further or back.
+#[tactic(auto, using(crate::proofs::Emits::fewer_bytes, crate::proofs::Emits::far_there))]
+fn advance_by(
+    out: &mut Seq<AsmItem>,
+    core: Core,
+    bytes: u8,
+    minus: bool,
+    pointer: Location,
+) -> Result<(), NoMemory>
+    requires two { 2 ≤ bytes }
+    requires pointer { HasBytes pointer bytes }
+    ensures ok { OnOk result (out.new.items ≡ out.old.items ++ moved_code core bytes minus pointer) }
+    ensures err { OnErr result (BeginWith out.old.items out.new.items) }
+{
+    if is_far(core, bytes) {
+        return advance_far(out, minus, pointer);
+    }
+    advance(out, minus, pointer)
+}
+
 /// A pointer, and a number of elements by which it is moved, further or back.
 #[derive(Clone, Copy)]
 pub struct Offset {
@@ -167,6 +314,7 @@ pub struct Offset {
 #[tactic(auto, using(crate::proofs::Emits::fewer_bytes))]
 pub fn move_pointer(
     out: &mut Seq<AsmItem>,
+    core: Core,
     of: Offset,
     to: Location,
     size: u32,
@@ -178,7 +326,7 @@ pub fn move_pointer(
     requires two { 2 ≤ of.bytes }
     requires some { 1 ≤ of.index_bytes }
     ensures ok { OnOk result (out.new.items ≡ out.old.items
-        ++ offset_code of.minus of.signed of.from of.index to of.bytes of.index_bytes size wanted) }
+        ++ offset_code core of.minus of.signed of.from of.index to of.bytes of.index_bytes size wanted) }
     ensures err { OnErr result (BeginWith out.old.items out.new.items) }
 {
     if wanted == 0 {
@@ -192,7 +340,7 @@ pub fn move_pointer(
         (size % 65536) as u16,
     )?;
     move_number(out, of.from, to, of.bytes)?;
-    advance(out, of.minus, to)
+    advance_by(out, core, of.bytes, of.minus, to)
 }
 
 /// Appends code that puts the elements of so many bytes between two pointers to `to`.
@@ -216,13 +364,24 @@ fn subtract_pointers(
     elements(out, a, b, to, size)
 }
 
-/// The bytes of pointers that tell a relation: all for equality, and those of the address for order.
+/// The bytes of pointers that tell a relation where the flash does not go past two: all for equality, and those of the
+/// address for order.
 fn compared_bytes(relation: Relation, bytes: u8) -> u8
     ensures { result ≡ compared_bytes relation bytes }
 {
     match relation {
         Relation::Less | Relation::NotLess => 2,
         Relation::Equal | Relation::NotEqual => bytes,
+    }
+}
+
+/// What is compared of pointers of so many bytes: all where a third byte may have a part of the address.
+fn related_bytes(core: Core, relation: Relation, bytes: u8) -> u8
+    ensures { result ≡ related_bytes core relation bytes }
+{
+    match core {
+        Core::Small => compared_bytes(relation, bytes),
+        Core::Large => bytes,
     }
 }
 
@@ -236,9 +395,9 @@ pub struct Pointers {
 }
 
 /// Two pointers, or where they are exchanged the other way round, as operands of a relation.
-fn operands_of(relation: Relation, exchanged: bool, of: Pointers) -> Operands
+fn operands_of(core: Core, relation: Relation, exchanged: bool, of: Pointers) -> Operands
     ensures signed { result.signed ≡ false }
-    ensures bytes { result.bytes ≡ compared_bytes relation of.bytes }
+    ensures bytes { result.bytes ≡ related_bytes core relation of.bytes }
     ensures straight { exchanged ≡ false → (result.left ≡ of.left) × (result.right ≡ of.right) }
     ensures turned { exchanged ≡ true → (result.left ≡ of.right) × (result.right ≡ of.left) }
 {
@@ -249,7 +408,7 @@ fn operands_of(relation: Relation, exchanged: bool, of: Pointers) -> Operands
     };
     Operands {
         signed: false,
-        bytes: compared_bytes(relation, of.bytes),
+        bytes: related_bytes(core, relation, of.bytes),
         left,
         right,
     }
@@ -257,9 +416,10 @@ fn operands_of(relation: Relation, exchanged: bool, of: Pointers) -> Operands
 
 /// Appends the code of an operator on two pointers: their difference in elements, or a comparison. Where memory runs
 /// out, a part of the code is appended.
-#[tactic(auto, using(crate::proofs::Emits::fewer_bytes, crate::proofs::Emits::fewer_compared))]
+#[tactic(auto, using(crate::proofs::Emits::fewer_bytes, crate::proofs::Emits::fewer_related))]
 pub fn combine_pointers(
     out: &mut Seq<AsmItem>,
+    core: Core,
     family: Family,
     of: Pointers,
     to: Location,
@@ -271,7 +431,7 @@ pub fn combine_pointers(
     requires to { HasBytes to 2 }
     requires most { wanted ≤ 2 }
     ensures ok { OnOk result (out.new.items ≡ out.old.items
-        ++ pointers_code family of.left of.right to of.bytes of.size wanted) }
+        ++ pointers_code core family of.left of.right to of.bytes of.size wanted) }
     ensures err { OnErr result (BeginWith out.old.items out.new.items) }
 {
     match family {
@@ -282,7 +442,7 @@ pub fn combine_pointers(
         } => tell(
             out,
             relation,
-            operands_of(relation, exchanged, of),
+            operands_of(core, relation, exchanged, of),
             to,
             wanted,
         ),
@@ -300,6 +460,7 @@ pub(crate) fn is_difference(op: BinOp) -> bool
 #[tactic(auto, using(crate::proofs::Emits::fewer_bytes))]
 fn two_pointers(
     out: &mut Seq<AsmItem>,
+    core: Core,
     homes: Homes,
     program: &IrProgram,
     op: BinOp,
@@ -316,7 +477,7 @@ fn two_pointers(
     requires result { to.bytes ≡ 2 }
     requires most { wanted ≤ to.bytes }
     ensures ok { OnOk result (out.new.items ≡ out.old.items
-        ++ pointers_code (family_of op) (home homes a) (home homes b) (home homes to) a.bytes
+        ++ pointers_code core (family_of op) (home homes a) (home homes b) (home homes to) a.bytes
         (element_size (declarations program.now) (plain_type aty.now)) wanted) }
     ensures err { OnErr result (BeginWith out.old.items out.new.items) }
 {
@@ -326,13 +487,14 @@ fn two_pointers(
         bytes: a.bytes,
         size: element_size(program, aty),
     };
-    combine_pointers(out, family_of(op), of, home(homes, to), wanted)
+    combine_pointers(out, core, family_of(op), of, home(homes, to), wanted)
 }
 
 /// Appends the code of a pointer in a temporary plus a number of elements in another one, or less it.
 #[tactic(auto, using(crate::proofs::Emits::fewer_bytes))]
 fn pointer_and_number(
     out: &mut Seq<AsmItem>,
+    core: Core,
     homes: Homes,
     program: &IrProgram,
     minus: bool,
@@ -349,7 +511,7 @@ fn pointer_and_number(
     requires some { 1 ≤ number.bytes }
     requires result { to.bytes ≡ pointer.bytes }
     ensures ok { OnOk result (out.new.items ≡ out.old.items
-        ++ offset_code minus (is_signed (plain_type nty.now)) (home homes pointer) (home homes number) (home homes to)
+        ++ offset_code core minus (is_signed (plain_type nty.now)) (home homes pointer) (home homes number) (home homes to)
         pointer.bytes number.bytes (element_size (declarations program.now) (plain_type pty.now)) wanted) }
     ensures err { OnErr result (BeginWith out.old.items out.new.items) }
 {
@@ -362,13 +524,14 @@ fn pointer_and_number(
         index_bytes: number.bytes,
     };
     let size = element_size(program, pty);
-    move_pointer(out, of, home(homes, to), size, wanted)
+    move_pointer(out, core, of, home(homes, to), size, wanted)
 }
 
 /// Appends the code of a binary operator on operands of which one is a pointer at least, of whose result so many bytes
 /// are wanted. Where memory runs out, a part of the code is appended.
 pub fn pointer_binary(
     out: &mut Seq<AsmItem>,
+    core: Core,
     homes: Homes,
     program: &IrProgram,
     op: BinOp,
@@ -383,19 +546,19 @@ pub fn pointer_binary(
     requires { PointersHaveBytes (declarations program.now) op wanted to a b (plain_type ty.now) (plain_type aty.now)
         (plain_type bty.now) }
     ensures ok { OnOk result (out.new.items ≡ out.old.items
-        ++ pointer_binary (is_pointer (plain_type aty.now)) (is_pointer (plain_type bty.now)) (declarations program.now)
-        op (plain_type aty.now) (plain_type bty.now) (home homes a) (home homes b) (home homes to) a.bytes b.bytes
+        ++ pointer_binary core (is_pointer (plain_type aty.now)) (is_pointer (plain_type bty.now))
+        (declarations program.now) op (plain_type aty.now) (plain_type bty.now) (home homes a) (home homes b) (home homes to) a.bytes b.bytes
         wanted) }
     ensures err { OnErr result (BeginWith out.old.items out.new.items) }
 {
     match (is_pointer(aty), is_pointer(bty)) {
-        (true, true) => two_pointers(out, homes, program, op, to, a, aty, b, wanted),
+        (true, true) => two_pointers(out, core, homes, program, op, to, a, aty, b, wanted),
         (true, false) => {
             let minus = is_difference(op);
-            pointer_and_number(out, homes, program, minus, to, a, aty, b, bty, wanted)
+            pointer_and_number(out, core, homes, program, minus, to, a, aty, b, bty, wanted)
         }
         (false, true) => {
-            pointer_and_number(out, homes, program, false, to, b, bty, a, aty, wanted)
+            pointer_and_number(out, core, homes, program, false, to, b, bty, a, aty, wanted)
         }
         (false, false) => Ok(()),
     }

@@ -14,7 +14,8 @@ use Rattle.ec_avr.specs.declared.machine.Access.{Access}
 use Rattle.ec_avr.specs.declared.machine.Access.TheVariants.{Silent, In, Out, Read, Write, Stack}
 use Rattle.ec_asm.specs.declared.items.AsmItem.{AsmItem}
 use Rattle.ec_asm.specs.declared.items.AsmItem.TheVariants.{Plain, Label, JumpTo, CallTo, BranchTo, LoadPart, LoadObj, StoreObj}
-use Rattle.ec_asm.specs.Change.{Env, Kind, Own, Object, Port, Stacked, Barred}
+use Rattle.ec_asm.specs.View.{is_apart}
+use Rattle.ec_asm.specs.Change.{Env, Kind, Own, Object, Port, Stacked, Page, Barred}
 use Rattle.ec_asm.specs.Items.{At, IsNear, JumpsAt, CallsAt, BranchesAt, Stands, HasAt}
 use Rattle.ec_asm.specs.Pieces.{is_held}
 use Rattle.ec_asm.specs.Shows.{Fits, may_be, in_flash, noted, noted_all}
@@ -23,9 +24,9 @@ use Rattle.ec_select_startup.specs.declared.spans.Span.{Span}
 use Rattle.ec_select_startup.specs.Laws.{source, target, CanBeSet, HasStack, accesses, all_accesses}
 use Rattle.ec_select_reset.specs.Laws.{all_but_silent}
 
--- a register that is looked at by its address: not SREG, and none of Y's
+-- a register that is looked at by its address: neither RAMPZ nor SREG, and none of Y's
 abbrev pub is_seen : Core → ℕ → Bool
-is_seen core a = is_core_register core a && not (a == 0x5F) && not (a == 28 || a == 29)
+is_seen core a = is_core_register core a && not (is_apart a) && not (a == 28 || a == 29)
 
 abbrev pub bare_kind : Core → (size a : ℕ) → Kind
 bare_kind core size a =
@@ -41,6 +42,7 @@ bare e size = record {
   flash = e.flash;
   word_of = e.word_of;
   address_of = e.address_of;
+  far_of = e.far_of;
   base = e.base;
   kind = bare_kind e.core size;
   table = bare_table (length e.flash);
@@ -54,12 +56,13 @@ core_is_low core a h = grind arith
 held_below : (core : Core) (k : Kind) (size a : ℕ) → 256 ≤ a → is_held k ≡ true → may_be core k size a ≡ true → nat_lt a size ≡ true
 held_below core Own size a high held may =
     ⊎_elim
-    (λ c. let low = core_is_low core a (and_parts (is_core_register core a) (not (a == 0x5F)) c).0 in absurd (omega (arith, low, high)))
+    (λ c. let low = core_is_low core a (and_parts (is_core_register core a) (not (is_apart a)) c).0 in absurd (omega (arith, low, high)))
     (λ c. (and_parts (nat_le 256 a) (nat_lt a size) c).1)
-    (or_cases (is_core_register core a && not (a == 0x5F)) (nat_le 256 a && nat_lt a size) may)
+    (or_cases (is_core_register core a && not (is_apart a)) (nat_le 256 a && nat_lt a size) may)
 held_below core Object size a high held may = (and_parts (nat_le 256 a) (nat_lt a size) may).1
 held_below core Port size a high held may = absurd (false≢true held)
 held_below core Stacked size a high held may = absurd (false≢true held)
+held_below core Page size a high held may = absurd (false≢true held)
 held_below core Barred size a high held may = absurd (false≢true held)
 
 table_below : (k : Kind) (size a : ℕ) → is_held k ≡ true → in_flash k size a ≡ true → nat_lt a size ≡ true
@@ -67,6 +70,7 @@ table_below Own size a held may = may
 table_below Object size a held may = may
 table_below Port size a held may = absurd (false≢true held)
 table_below Stacked size a held may = absurd (false≢true held)
+table_below Page size a held may = absurd (false≢true held)
 table_below Barred size a held may = absurd (false≢true held)
 
 never_stacked : (core : Core) (size a : ℕ) → bare_kind core size a ≡ Stacked → ⊥
@@ -98,7 +102,7 @@ module _ (e : Env) (size : ℕ) (fit : Fits e size) where
     by_tests : (b c d : Bool) → nat_lt a 256 ≡ b → is_seen e.core a ≡ c → nat_lt a size ≡ d
         → may_be e.core (if b then (if c then Own else Barred) else if d then Object else Barred) size a ≡ true
     by_tests true true d low core there =
-        rw ((and_parts (is_core_register e.core a && not (a == 0x5F)) (not (a == 28 || a == 29)) core).0) refl
+        rw ((and_parts (is_core_register e.core a && not (is_apart a)) (not (a == 28 || a == 29)) core).0) refl
     by_tests true false d low core there = refl
     by_tests false c true low core there = rw (le-leb 256 a (ltb-false a 256 low), there) refl
     by_tests false c false low core there = refl

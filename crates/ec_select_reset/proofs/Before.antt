@@ -120,6 +120,7 @@ module _ (laws : BeforeLaws) (e : Env) (spans : List Span) (size main end : ℕ)
     bytes = shows.bytes;
     at = shows.at;
     flags = shows.flags;
+    page = shows.page;
     feeds = shows.feeds;
     base = shows.base;
   }

@@ -10,8 +10,8 @@ use Rattle.ec_avr.specs.Laws.{StepsByInstruction}
 use Rattle.ec_avr.specs.Machine.{State, machine}
 use Rattle.ec_avr.specs.Runs.{preceded_by}
 use Rattle.ec_avr.specs.State.{lowered}
-use Rattle.ec_asm.specs.View.{View}
-use Rattle.ec_asm.specs.Change.{Env, Kind, Own, Object, Port, Stacked, Barred, sp}
+use Rattle.ec_asm.specs.View.{View, is_apart}
+use Rattle.ec_asm.specs.Change.{Env, Kind, Own, Object, Port, Stacked, Page, Barred, sp}
 use Rattle.ec_asm.specs.Pieces.{is_held}
 use Rattle.ec_asm.specs.PieceLaws.{HoldsNumbers}
 use Rattle.ec_asm.specs.Run.{fetch, word_in, pushed, back_at, is_safe}
@@ -61,11 +61,12 @@ held_is_not_stacked Own h q = cc
 held_is_not_stacked Object h q = cc
 held_is_not_stacked Port h q = cc
 held_is_not_stacked Stacked h q = cc
+held_is_not_stacked Page h q = cc
 held_is_not_stacked Barred h q = cc
 
 shown_numbers : (e : Env) (size : ℕ) (s : State) (v : View) → Shows e size s.core s.mem v → HoldsNumbers v
 shown_numbers e size s v h k u =
-    rw (ap (λ f. f k) h.at) (by_test (k == 0x5F))
+    rw (ap (λ f. f k) h.at) (by_test (is_apart k))
   where
     by_test : (b : Bool) → (if b then 0 else slice_index s.mem.data k) < 256
     by_test true = omega arith
@@ -77,7 +78,7 @@ module _ (laws : StartLaws) (p : PlainIrProgram) (place entry_of : ℕ → ℕ) 
     (c : CanStart p e place entry_of spans low s.pc) where
   -- nothing was noted before
   abbrev v0 : View
-  v0 = record { at = v.at; flags = v.flags; inputs = v.inputs; seen = []; safe = true }
+  v0 = record { at = v.at; flags = v.flags; page = v.page; inputs = v.inputs; seen = []; safe = true }
 
   shows0 : Shows e size s.core s.mem v0
   shows0 = record {
@@ -87,6 +88,7 @@ module _ (laws : StartLaws) (p : PlainIrProgram) (place entry_of : ℕ → ℕ) 
     bytes = shows.bytes;
     at = shows.at;
     flags = shows.flags;
+    page = shows.page;
     feeds = shows.feeds;
     base = shows.base;
   }
@@ -143,12 +145,12 @@ module _ (laws : StartLaws) (p : PlainIrProgram) (place entry_of : ℕ → ℕ) 
 
   -- from there on nothing was noted
   abbrev w0 : View
-  w0 = record { at = w.at; flags = w.flags; inputs = w.inputs; seen = []; safe = true }
+  w0 = record { at = w.at; flags = w.flags; page = w.page; inputs = w.inputs; seen = []; safe = true }
 
   shows_w : Shows e size goes_on.state.core goes_on.state.mem w0
   shows_w =
       let h = goes_on.shows in
-      record { same = h.same; flash = h.flash; sized = h.sized; bytes = h.bytes; at = h.at; flags = h.flags; feeds = h.feeds; base = h.base }
+      record { same = h.same; flash = h.flash; sized = h.sized; bytes = h.bytes; at = h.at; flags = h.flags; page = h.page; feeds = h.feeds; base = h.base }
 
   pointer_w : sp w ≡ top - 2
   pointer_w = pushed_pointer starts.back last top starts.pointer deep.0 deep.1

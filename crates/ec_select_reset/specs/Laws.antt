@@ -52,7 +52,7 @@ pub record CanStart (p : PlainIrProgram) (e : Env) (place entry_of : ℕ → ℕ
 
 -- a view before whose run nothing was noted and no access was barred
 abbrev pub anew : View → View
-anew v = record { at = v.at; flags = v.flags; inputs = v.inputs; seen = []; safe = true }
+anew v = record { at = v.at; flags = v.flags; page = v.page; inputs = v.inputs; seen = []; safe = true }
 
 -- all accesses but the silent ones, which are of registers, of the stack pointer or of nothing
 abbrev pub all_but_silent : List Access → List Access

@@ -8,7 +8,7 @@ use Rattle.ec_avr.specs.declared.machine.Access.{Access}
 use Rattle.ec_avr.specs.declared.machine.Access.TheVariants.{Read, Write}
 use Rattle.ec_avr.specs.State.{raised}
 use Rattle.ec_asm.specs.View.{View, put, pair, put_pair}
-use Rattle.ec_asm.specs.Change.{Env, Kind, Own, Object, Port, Stacked, Barred, flash_by, store_by, move_to}
+use Rattle.ec_asm.specs.Change.{Env, Kind, Own, Object, Port, Stacked, Page, Barred, flash_by, store_by, move_to}
 use Rattle.ec_asm.specs.Items.{block}
 use Rattle.ec_asm.specs.Pieces.{Outside, is_held}
 use Rattle.ec_asm.specs.Shows.{noted, noted_all, if_object}
@@ -67,6 +67,7 @@ loads Own a x v h = record { at = refl; inputs = refl; safe = refl; seen = sym (
 loads Object a x v h = record { at = refl; inputs = refl; safe = refl; seen = refl }
 loads Port a x v h = cc
 loads Stacked a x v h = cc
+loads Page a x v h = cc
 loads Barred a x v h = cc
 
 pub stores : (k : Kind) (b x : ℕ) (v : View) → is_held k ≡ true
@@ -75,6 +76,7 @@ stores Own b x v h = record { at = refl; inputs = refl; safe = refl; seen = sym 
 stores Object b x v h = record { at = refl; inputs = refl; safe = refl; seen = refl }
 stores Port b x v h = cc
 stores Stacked b x v h = cc
+stores Page b x v h = cc
 stores Barred b x v h = cc
 
 -- ---- what is noted

@@ -119,4 +119,4 @@ returns c =
     (wanted_bytes at g.code) (kept_rows g.slots at g.code) (right_numbers g.code) (map routines g.code) g.code =
     written ∙ rw (bytes, rows, known, called, code) refl in
     here ∙ ap (λ (x : List AsmItem). c.args.out.now.items ++ x)
-    (added p routines c.args.f c.args.first g k labels c.needed_functions_are_written.ensures c.requires.first c.linking-of.ensures)
+    (added c.args.core p routines c.args.f c.args.first g k labels c.needed_functions_are_written.ensures c.requires.first c.linking-of.ensures)

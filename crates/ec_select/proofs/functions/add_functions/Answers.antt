@@ -32,11 +32,11 @@ loop-f-preserved c =
     let within = table_read c.args.tables.now c.args.ir.now.funcs.items c.as_slice-g-items.result.now f c.index-tables-f.result
     c.requires.tables c.as_slice-g-items.ensures c.loop-f-test.true c.index-tables-f.is in
     let next : c.in_ok-next.next ≡ c.loop-f.first + label_count g.code = c.in_ok-next.ensures in
-    let more : c.add_function.new.out.items ≡ c.loop-f.out.items ++ code_of p routines (tables_in c.args.tables.now f) f (Some g) =
+    let more : c.add_function.new.out.items ≡ c.loop-f.out.items ++ code_of c.args.core p routines (tables_in c.args.tables.now f) f (Some g) =
     c.in_ok-add_function.ensures
-    ∙ ap (λ (t : List (List ℕ)). c.loop-f.out.items ++ code_of p routines (needs_of t) f (Some g)) within in
+    ∙ ap (λ (t : List (List ℕ)). c.loop-f.out.items ++ code_of c.args.core p routines (needs_of t) f (Some g)) within in
     record {
       first = next ∙ ap (λ (n : ℕ). n + label_count g.code) c.loop-f.invariant.first ∙ sym (next_first p.functions f g is);
-      written = one_more_function p routines (tables_in c.args.tables.now) f g c.args.out.now.items c.loop-f.out.items
+      written = one_more_function c.args.core p routines (tables_in c.args.tables.now) f g c.args.out.now.items c.loop-f.out.items
           c.add_function.new.out.items is c.loop-f.invariant.written more;
     }

@@ -9,6 +9,6 @@ use Rattle.ec_select.proofs.functions.add_functions.Given as goal
 abbrev pub invariant-loop-f : goal.invariant-loop-f
 invariant-loop-f l = record {
   first : l.first ≡ first_label (plain_ir_program l.ir).functions l.f;
-  written : l.out.items ≡ l.fn.out.items ++ functions_with (plain_ir_program l.ir)
+  written : l.out.items ≡ l.fn.out.items ++ functions_with l.core (plain_ir_program l.ir)
       (routine_among l.routines (map plain_row l.rows)) (tables_in l.tables) l.f;
 }

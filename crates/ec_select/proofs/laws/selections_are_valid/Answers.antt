@@ -21,6 +21,12 @@ returns c = selections_are_valid (record {
       step_labels = c.places_are_valid.ensures.labels;
       elements = c.elements_are_formed.ensures.valid;
       element_labels = c.elements_are_formed.ensures.labels;
+      far_addresses = c.far_pointers_are_valid.ensures.addresses;
+      far_tables = c.far_pointers_are_valid.ensures.tables;
+      far_accesses = c.far_pointers_are_valid.ensures.accesses;
+      far_labels = c.far_pointers_are_valid.ensures.labels;
+      far_steps = c.far_places_are_formed.ensures.valid_steps;
+      far_step_labels = c.far_places_are_formed.ensures.labels;
     };
   };
   items = c.startup_is_valid.ensures.items;

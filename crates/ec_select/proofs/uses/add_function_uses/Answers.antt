@@ -51,12 +51,12 @@ add_uses-requires-clause-each c =
     let g = plain_ir_function c.args.g.now in
     let at = facts_of (needs_of c.args.table.now) g.code in
     let each = all_used p c.requires.valid c.leaves_fill_their_types.ensures c.requires.code.results c.args.f g.slots g.code
-    c.homes_of.result at g.code (c.requires.code.functions c.args.f g c.requires.is)
+    c.args.core c.homes_of.result at g.code (c.requires.code.functions c.args.f g c.requires.is)
     (function_valid p c.requires.valid c.args.f g c.requires.is).code in
     let code : map plain_ir c.as_slice-code.result.now ≡ g.code = ap (λ (x : List Ir). map plain_ir x) c.as_slice-code.ensures in
     let bytes : c.deref.result.now ≡ wanted_bytes at g.code = c.deref.ensures.value ∙ c.in_ok-bytes.ensures in
-    let by_bytes = subst (λ (x : List ℕ). CanBeUses (data_of p) c.homes_of.result x g.code) (sym bytes) each in
-    subst (λ (x : List PlainIr). CanBeUses (data_of p) c.homes_of.result c.deref.result.now x) (sym code) by_bytes
+    let by_bytes = subst (λ (x : List ℕ). CanBeUses c.args.core (data_of p) c.homes_of.result x g.code) (sym bytes) each in
+    subst (λ (x : List PlainIr). CanBeUses c.args.core (data_of p) c.homes_of.result c.deref.result.now x) (sym code) by_bytes
 
 pub returns : goal.returns
 returns c =
@@ -67,5 +67,5 @@ returns c =
     let bytes : c.deref.result.now ≡ wanted_bytes at g.code = c.deref.ensures.value ∙ c.in_ok-bytes.ensures in
     let homes : c.homes_of.result ≡ homes_of c.args.f g.code = c.homes_of.ensures ∙ ap (homes_of c.args.f) code in
     let more : map plain_use c.add_uses.new.uses.items ≡ map plain_use c.args.uses.now.items
-    ++ uses_in (data_of p) c.homes_of.result c.deref.result.now (map plain_ir c.as_slice-code.result.now) = c.in_ok-add_uses.ensures in
-    more ∙ (λ j. map plain_use c.args.uses.now.items ++ uses_in (data_of p) (homes j) (bytes j) (code j))
+    ++ uses_in c.args.core (data_of p) c.homes_of.result c.deref.result.now (map plain_ir c.as_slice-code.result.now) = c.in_ok-add_uses.ensures in
+    more ∙ (λ j. map plain_use c.args.uses.now.items ++ uses_in c.args.core (data_of p) (homes j) (bytes j) (code j))

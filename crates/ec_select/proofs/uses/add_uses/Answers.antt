@@ -20,7 +20,7 @@ pub loop-k-preserved : goal.loop-k-preserved
 loop-k-preserved c =
     let within : c.loop-k.k < length c.args.wanted.now =
     subst (λ (n : ℕ). c.loop-k.k < n) c.requires.numbers c.loop-k-test.true in
-    one_use_more (declarations c.args.ir.now) c.args.homes _ (plain_ir c.index-code-k.result) _ _ _ _ _ _ _
+    one_use_more c.args.core (declarations c.args.ir.now) c.args.homes _ (plain_ir c.index-code-k.result) _ _ _ _ _ _ _
     (drop_more c.args.wanted.now c.loop-k.k 0 within)
     (drop_front plain_ir c.args.code.now c.loop-k.k c.index-code-k.result c.loop-k-test.true c.index-code-k.is)
     c.in_ok-add_use.ensures c.loop-k.invariant

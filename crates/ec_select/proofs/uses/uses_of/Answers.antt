@@ -19,9 +19,9 @@ loop-f-preserved c =
     let within = table_read c.args.tables.now c.args.ir.now.funcs.items c.as_slice-g-items.result.now f c.index-tables-f.result
     c.requires.tables c.as_slice-g-items.ensures c.loop-f-test.true c.index-tables-f.is in
     let more : map plain_use c.add_function_uses.new.uses.items ≡ map plain_use c.loop-f.uses.items
-    ++ function_uses p (tables_in c.args.tables.now f) f g =
+    ++ function_uses c.args.core p (tables_in c.args.tables.now f) f g =
     c.in_ok-add_function_uses.ensures
-    ∙ ap (λ (t : List (List ℕ)). map plain_use c.loop-f.uses.items ++ function_uses p (needs_of t) f g) within in
-    one_function_more p (tables_in c.args.tables.now) f g _ _ _ _ _
+    ∙ ap (λ (t : List (List ℕ)). map plain_use c.loop-f.uses.items ++ function_uses c.args.core p (needs_of t) f g) within in
+    one_function_more c.args.core p (tables_in c.args.tables.now) f g _ _ _ _ _
     (function_left c.args.ir.now.funcs.items c.as_slice-g-items.result.now f c.g-item.result c.as_slice-g-items.ensures
     c.loop-f-test.true c.g-item.is) more c.loop-f.invariant

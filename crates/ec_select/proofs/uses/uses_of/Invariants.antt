@@ -6,6 +6,6 @@ use Rattle.ec_select.proofs.uses.uses_of.Given as goal
 
 abbrev pub invariant-loop-f : goal.invariant-loop-f
 invariant-loop-f l =
-    map plain_use l.uses.items ++ uses_from (plain_ir_program l.ir) (tables_in l.tables) l.f
+    map plain_use l.uses.items ++ uses_from l.core (plain_ir_program l.ir) (tables_in l.tables) l.f
     (drop l.f (map plain_ir_function l.ir.funcs.items))
-    ≡ program_uses (plain_ir_program l.ir) (tables_in l.tables)
+    ≡ program_uses l.core (plain_ir_program l.ir) (tables_in l.tables)

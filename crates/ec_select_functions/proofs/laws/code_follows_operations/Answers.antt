@@ -39,6 +39,20 @@ returns c =
         compared = c.pointers_are_compared.ensures;
         embedded = c.pointers_are_converted.ensures.embedded;
         embeddings_short = c.places_are_short.ensures.conversions;
+        far = record {
+          addresses = c.far_addresses_are_right.ensures.addresses;
+          fields = c.far_addresses_are_right.ensures.fields;
+          from_flash = c.far_loads_are_right.ensures.by_pointer;
+          from_tables = c.far_loads_are_right.ensures.by_name;
+          from_data_by_top = c.far_loads_by_top_are_right.ensures.from_data;
+          from_flash_by_top = c.far_loads_by_top_are_right.ensures.from_flash;
+          straight = c.far_pointers_are_straight.ensures.straight;
+          take = c.far_pointers_are_straight.ensures.steps;
+          advanced = c.far_pointers_are_advanced.ensures;
+          steps_short = c.far_places_are_formed.ensures.steps;
+          elements = c.far_elements_are_right.ensures;
+          compared = c.far_pointers_are_compared.ensures;
+        };
       };
       numbers = record {
         subtracted = c.numbers_are_operands.ensures.subtracted;
