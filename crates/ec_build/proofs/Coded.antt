@@ -2,6 +2,7 @@
 use Rattle.std.proofs.Common.{◌≡◌, ℕ, ◌+◌, ◌<◌, ◌≤◌, ◌^◌, true, List, [], ◌∷◌, length, map, refl, sym, ap, ◌∙◌, subst, arith}
 use Rattle.std.specs.List.{list_all}
 use Rattle.std.proofs.lemmas.Bool.{eq-eqb}
+use Rattle.ec_space.specs.declared.Core.{Core}
 use Rattle.ec_iohw.specs.declared.table.IoTable.{IoTable}
 use Rattle.ec_asm.specs.Items.{code_words}
 use Rattle.ec_asm.specs.Valid.{sizes_of, is_valid_item, used_label, stands_once, is_placed, ValidAsm}
@@ -38,13 +39,13 @@ stands_alone : (l : ℕ) → stands_once (Label l ∷ []) l ≡ true
 stands_alone l = rw (eq-eqb l l refl) refl
 
 -- what a selection of the operations is for the program
-coded : (p : PlainProgram) (io : IoTable) (asm : AsmProgram) → LoweredProgramsHaveCode → Valid p io → GroupsHaveBytes io
-    → IsMadeOf p io (lowered p (plain_table io)) → IsSelection (lowered p (plain_table io)) asm
+coded : (core : Core) (p : PlainProgram) (io : IoTable) (asm : AsmProgram) → LoweredProgramsHaveCode → Valid p io → GroupsHaveBytes io
+    → IsMadeOf p io (lowered p (plain_table io)) → IsSelection core (lowered p (plain_table io)) asm
     → ValidAsm (object_sizes (lowered p (plain_table io))) 64 asm
     → (AreInPlace (lowered p (plain_table io)) → code_words asm.items.items
     ≤ program_words + objects_weight (lowered p (plain_table io)).objects + functions_words_by_shapes (lowered p (plain_table io)).functions)
-    → CountsByShapes p io (lowered p (plain_table io)) → IsCodeOf p io asm
-coded p io asm have valid groups made selection valid_asm words within =
+    → CountsByShapes p io (lowered p (plain_table io)) → IsCodeOf core p io asm
+coded core p io asm have valid groups made selection valid_asm words within =
     let has = have p io valid groups in
     let counted = words has.in_place in
     record {
@@ -56,22 +57,22 @@ coded p io asm have valid groups made selection valid_asm words within =
       valid = valid_asm;
     }
 
-pub code_made : (p : PlainProgram) (io : IoTable) (asm : AsmProgram) (ir : PlainIrProgram) → ir ≡ lowered p (plain_table io)
-    → LoweredProgramsHaveCode → Valid p io → GroupsHaveBytes io → IsMadeOf p io ir → IsSelection ir asm
+pub code_made : (core : Core) (p : PlainProgram) (io : IoTable) (asm : AsmProgram) (ir : PlainIrProgram) → ir ≡ lowered p (plain_table io)
+    → LoweredProgramsHaveCode → Valid p io → GroupsHaveBytes io → IsMadeOf p io ir → IsSelection core ir asm
     → ValidAsm (object_sizes ir) 64 asm
     → (AreInPlace ir → code_words asm.items.items ≤ program_words + objects_weight ir.objects + functions_words_by_shapes ir.functions)
-    → CountsByShapes p io ir → IsCodeOf p io asm
-code_made p io asm ir is have valid groups made selection valid_asm words within =
-    coded p io asm have valid groups (subst (λ x. IsMadeOf p io x) is made) (subst (λ x. IsSelection x asm) is selection)
+    → CountsByShapes p io ir → IsCodeOf core p io asm
+code_made core p io asm ir is have valid groups made selection valid_asm words within =
+    coded core p io asm have valid groups (subst (λ x. IsMadeOf p io x) is made) (subst (λ x. IsSelection core x asm) is selection)
     (subst (λ x. ValidAsm (object_sizes x) 64 asm) is valid_asm)
     (subst (λ x. AreInPlace x
     → code_words asm.items.items ≤ program_words + objects_weight x.objects + functions_words_by_shapes x.functions) is words)
     (subst (λ x. CountsByShapes p io x) is within)
 
 -- shortened it is code of the program still
-pub short_code : ShortenedIsValid → (p : PlainProgram) (io : IoTable) (reaches : List Reach) (long short : AsmProgram) → IsCodeOf p io long
-    → IsShortened reaches long short → IsShortCodeOf p io reaches short
-short_code laws p io reaches long short code h =
+pub short_code : ShortenedIsValid → (core : Core) (p : PlainProgram) (io : IoTable) (reaches : List Reach) (long short : AsmProgram)
+    → IsCodeOf core p io long → IsShortened reaches long short → IsShortCodeOf core p io reaches short
+short_code laws core p io reaches long short code h =
     let made = laws (placed_sizes p) 64 reaches long short h code.valid in
     let fewer = made.1 in
     let within = code.small in
@@ -85,9 +86,9 @@ short_code laws p io reaches long short code h =
     }
 
 -- so is no more than its label, to be placed
-pub outline_is_valid : (p : PlainProgram) (io : IoTable) (asm outline : AsmProgram) → IsCodeOf p io asm → IsOutlineOf asm outline
+pub outline_is_valid : (core : Core) (p : PlainProgram) (io : IoTable) (asm outline : AsmProgram) → IsCodeOf core p io asm → IsOutlineOf asm outline
     → ValidAsm (placed_sizes p) 64 outline × (outline.frames.items ≡ scratch_needs p) × (length outline.items.items < 2 ^ 32)
-outline_is_valid p io asm outline code h =
+outline_is_valid core p io asm outline code h =
     let frames : outline.frames.items ≡ scratch_needs p = h.frames ∙ code.frames in
     let few = code.valid.functions in
     let as_many = ap length h.frames in

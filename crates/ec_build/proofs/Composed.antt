@@ -46,7 +46,7 @@ checking_cause sources text m units (Place stop) is h = absurd h
 checking_cause sources text m units NoMemory is h = tt
 
 pub placing_cause : (sources : List (List ℕ)) (text : List ℕ) (m : Map) (p : PlainProgram) (asm : AsmProgram) (stop : BuildStop)
-    → (reaches : List Reach) → IsChecked sources text m p → IsShortCodeOf p m.io reaches asm → StopsPlacing p m asm stop
+    → (reaches : List Reach) → IsChecked sources text m p → IsShortCodeOf m.core p m.io reaches asm → StopsPlacing p m asm stop
     → HasCause sources text stop
 placing_cause sources text m p asm (MapFault stop) reaches is code h = absurd h
 placing_cause sources text m p asm (Lex unit stop) reaches is code h = absurd h

@@ -16,7 +16,7 @@ use Rattle.ec_build.specs.Builds.{IsImageOf}
 use Rattle.ec_build.specs.Code.{IsShortCodeOf, AreReaches}
 
 translated : (p : PlainProgram) (m : Map) (reaches : List Reach) (asm : AsmProgram) (l : Located) → Valid p m.io → ValidMap m
-    → IsShortCodeOf p m.io reaches asm → reaches ≡ reaches_of p l.places.items → IsLocated p m asm l → AreBytes l.image.bytes.items
+    → IsShortCodeOf m.core p m.io reaches asm → reaches ≡ reaches_of p l.places.items → IsLocated p m asm l → AreBytes l.image.bytes.items
     → IsTranslated p m asm l
 translated p m reaches asm l valid map code same located bytes = record {
   valid = valid;
@@ -31,7 +31,7 @@ translated p m reaches asm l valid map code same located bytes = record {
 }
 
 pub image_made : (p : PlainProgram) (m : Map) (reaches : List Reach) (asm : AsmProgram) (l : Located) → ProgramsShowTheirSources
-    → Valid p m.io → ValidMap m → IsShortCodeOf p m.io reaches asm → AreReaches p m reaches → IsLocated p m asm l
+    → Valid p m.io → ValidMap m → IsShortCodeOf m.core p m.io reaches asm → AreReaches p m reaches → IsLocated p m asm l
     → AreBytes l.image.bytes.items → IsImageOf p m asm l
 image_made p m reaches asm l shows valid map code are located bytes =
     let is = translated p m reaches asm l valid map code (are asm l located) located bytes in

@@ -5,6 +5,7 @@ use Rattle.std.specs.Prelude.{slice_get}
 use Rattle.std.specs.List.{AllByRecursion}
 use Rattle.std.proofs.lemmas.Bool.Decides.{nat_tests}
 use Rattle.std.proofs.lemmas.Option.{slice_get_within}
+use Rattle.ec_space.specs.declared.Core.{Core}
 use Rattle.ec_asm.specs.Items.{chain}
 use Rattle.ec_asm.specs.declared.items.AsmItem.{AsmItem}
 use Rattle.ec_asm.specs.declared.items.AsmItem.TheVariants.{Label}
@@ -71,7 +72,7 @@ pub record Laws : Type 0 where
   pub places : ValidOperationsHavePlaces
   pub written : NeededFunctionsAreWritten
 
-module _ (laws : Laws) (p : PlainIrProgram) (results : ℕ → ℕ) (f : ℕ) (g : PlainIrFunction) (v : ValidIrFunction p results f g)
+module _ (laws : Laws) (core : Core) (p : PlainIrProgram) (results : ℕ → ℕ) (f : ℕ) (g : PlainIrFunction) (v : ValidIrFunction p results f g)
     (here there : ℕ → Need) (here_live : IsLive here g.code) (there_live : IsLive there g.code)
     (here_least : IsLeast g.slots here g.code) (there_least : IsLeast g.slots there g.code) where
   tell : AllByRecursion (TellSame g.slots here there) g.code
@@ -83,12 +84,12 @@ module _ (laws : Laws) (p : PlainIrProgram) (results : ℕ → ℕ) (f : ℕ) (g
   bytes_same : wanted_bytes (facts_of here g.code) g.code ≡ wanted_bytes (facts_of there g.code) g.code
   bytes_same = wanted_same g.slots here there g.code g.code (laws.places p results f g v) tell
 
-  uses_same : function_uses p here f g ≡ function_uses p there f g
-  uses_same = λ j. uses_in (data_of p) (homes_of f g.code) (bytes_same j) g.code
+  uses_same : function_uses core p here f g ≡ function_uses core p there f g
+  uses_same = λ j. uses_in core (data_of p) (homes_of f g.code) (bytes_same j) g.code
 
-  code_same : (routines : PlainIr → Option ℕ) → code_of p routines here f (Some g) ≡ code_of p routines there f (Some g)
+  code_same : (routines : PlainIr → Option ℕ) → code_of core p routines here f (Some g) ≡ code_of core p routines there f (Some g)
   code_same routines =
-      let k = linkage_of p function_label f g.slots (made_with p routines here f g) in
+      let k = linkage_of core p function_label f g.slots (made_with p routines here f g) in
       sym (laws.written (data_of p) k routines f here g.code)
       ∙ (λ j. written_function (data_of p) k f (bytes_same j)
       (rows_same g.slots here there g.code g.code (laws.places p results f g v) tell j) (right_numbers g.code)
@@ -101,7 +102,7 @@ chain_same a b (suc n) h =
     let last : n < suc n = omega arith in
     λ j. chain_same a b n (λ k l. h k (omega (arith, l))) j ++ h n last j
 
-module _ (laws : Laws) (p : PlainIrProgram) (valid : ValidIr p) (here there : ℕ → ℕ → Need)
+module _ (laws : Laws) (core : Core) (p : PlainIrProgram) (valid : ValidIr p) (here there : ℕ → ℕ → Need)
     (here_are : AreTables p here (length p.functions)) (there_are : AreTables p there (length p.functions)) where
   valid_at : (f : ℕ) (g : PlainIrFunction) → slice_get p.functions f ≡ Some g → ValidIrFunction p valid.results f g
   valid_at f g e = each_at (ValidIrFunction p valid.results) 0 f f p.functions g (omega arith) valid.functions e
@@ -110,51 +111,52 @@ module _ (laws : Laws) (p : PlainIrProgram) (valid : ValidIr p) (here there : �
 
   from_same : (f : ℕ) (gs : List PlainIrFunction)
       → ((j : ℕ) (g : PlainIrFunction) → slice_get gs j ≡ Some g → slice_get p.functions (f + j) ≡ Some g)
-      → uses_from p here f gs ≡ uses_from p there f gs
+      → uses_from core p here f gs ≡ uses_from core p there f gs
   from_same f [] among = refl
   from_same f (g ∷ gs) among =
       let z : f + 0 ≡ f = omega arith in
       let e : slice_get p.functions f ≡ Some g = subst (λ k. slice_get p.functions k ≡ Some g) z (among 0 g refl) in
       let l = slice_get_within p.functions f g e in
-      let first = uses_same laws p valid.results f g (valid_at f g e) (here f) (there f) (here_are.live f g l e) (there_are.live f g l e)
+      let first = uses_same laws core p valid.results f g (valid_at f g e) (here f) (there f) (here_are.live f g l e) (there_are.live f g l e)
       (here_are.least f g l e) (there_are.least f g l e) in
       let rest = from_same (f + 1) gs
       (λ j x q. let n : f + suc j ≡ f + 1 + j = omega arith in subst (λ k. slice_get p.functions k ≡ Some x) n (among (suc j) x q)) in
       λ j. first j ++ rest j
 
-  all_uses_same : program_uses p here ≡ program_uses p there
+  all_uses_same : program_uses core p here ≡ program_uses core p there
   all_uses_same =
       from_same 0 p.functions (λ j g e. let q : j ≡ 0 + j = omega arith in subst (λ k. slice_get p.functions k ≡ Some g) q e)
 
-  routines_same : routine_of p here ≡ routine_of p there
+  routines_same : routine_of core p here ≡ routine_of core p there
   routines_same = λ j. routine_among (routines_begin p) (rows_of (all_uses_same j))
 
   -- ---- functions
 
   function_same : (f : ℕ) → f < length p.functions → (o : Option PlainIrFunction) → slice_get p.functions f ≡ o
-      → code_of p (routine_of p here) (here f) f o ≡ code_of p (routine_of p there) (there f) f o
+      → code_of core p (routine_of core p here) (here f) f o ≡ code_of core p (routine_of core p there) (there f) f o
   function_same f l None e = refl
   function_same f l (Some g) e =
-      code_same laws p valid.results f g (valid_at f g e) (here f) (there f) (here_are.live f g l e) (there_are.live f g l e)
-      (here_are.least f g l e) (there_are.least f g l e) (routine_of p here)
-      ∙ ap (λ (r : PlainIr → Option ℕ). code_of p r (there f) f (Some g)) routines_same
+      code_same laws core p valid.results f g (valid_at f g e) (here f) (there f) (here_are.live f g l e) (there_are.live f g l e)
+      (here_are.least f g l e) (there_are.least f g l e)
+      (routine_of core p here)
+      ∙ ap (λ (r : PlainIr → Option ℕ). code_of core p r (there f) f (Some g)) routines_same
 
-  functions_same : functions_code p here (length p.functions) ≡ functions_code p there (length p.functions)
+  functions_same : functions_code core p here (length p.functions) ≡ functions_code core p there (length p.functions)
   functions_same =
-      chain_same (λ f. code_of p (routine_of p here) (here f) f (slice_get p.functions f))
-      (λ f. code_of p (routine_of p there) (there f) f (slice_get p.functions f)) (length p.functions)
+      chain_same (λ f. code_of core p (routine_of core p here) (here f) f (slice_get p.functions f))
+      (λ f. code_of core p (routine_of core p there) (there f) f (slice_get p.functions f)) (length p.functions)
       (λ f l. function_same f l (slice_get p.functions f) refl)
 
-  rest_same : functions_code p here (length p.functions) ++ routines_code p here
-      ≡ functions_code p there (length p.functions) ++ routines_code p there
+  rest_same : functions_code core p here (length p.functions) ++ routines_code core p here
+      ≡ functions_code core p there (length p.functions) ++ routines_code core p there
   rest_same = λ j. functions_same j ++ routines_among (routines_begin p) (rows_of (all_uses_same j))
 
 -- ---- programs
 
-pub items_same : Laws → (p : PlainIrProgram) → ValidIr p → (a b : AsmProgram) → IsSelection p a → IsSelection p b
+pub items_same : Laws → (core : Core) → (p : PlainIrProgram) → ValidIr p → (a b : AsmProgram) → IsSelection core p a → IsSelection core p b
     → a.items.items ≡ b.items.items
-items_same laws p valid a b s t =
+items_same laws core p valid a b s t =
     s.items
     ∙ (λ j. Label entry_label ∷ (startup_code (spans_of p) (function_label p.main)
-    ++ rest_same laws p valid s.tables t.tables s.are_tables t.are_tables j))
+    ++ rest_same laws core p valid s.tables t.tables s.are_tables t.are_tables j))
     ∙ sym t.items

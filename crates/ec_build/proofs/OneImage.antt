@@ -1,5 +1,6 @@
 -- Builds of the same sources by the same map have one image.
 use Rattle.std.proofs.Common.{◌≡◌, ℕ, List, Option, Some, None, sym, ap, ◌∙◌, subst}
+use Rattle.ec_space.specs.declared.Core.{Core}
 use Rattle.ec_asm.specs.declared.items.AsmProgram.{AsmProgram}
 use Rattle.ec_core.specs.Plain.{PlainProgram, plain_program}
 use Rattle.ec_core.specs.PortTable.{PlainTable, plain_table}
@@ -54,9 +55,10 @@ module _ (laws : Laws) (m n : Map) (same : SameMaps m n) (p : PlainProgram) (asm
     (a : IsImageOf p m asm k) (b : IsImageOf p n bsm l) where
   selected_are : a.translated.selected.items.items ≡ b.translated.selected.items.items
   selected_are =
-      items_same (record { places = laws.places; written = laws.written }) (lowered p (plain_table m.io))
+      items_same (record { places = laws.places; written = laws.written }) m.core (lowered p (plain_table m.io))
       (laws.lowered p m.io a.translated.valid a.translated.groups).valid a.translated.selected b.translated.selected a.translated.selection
-      (subst (λ (t : PlainTable). IsSelection (lowered p t) b.translated.selected) (sym (tables_same m n same)) b.translated.selection)
+      (subst (λ (c : Core). IsSelection c (lowered p (plain_table m.io)) b.translated.selected) (sym same.core_same)
+      (subst (λ (t : PlainTable). IsSelection n.core (lowered p t) b.translated.selected) (sym (tables_same m n same)) b.translated.selection))
 
   places_are : k.places.items ≡ l.places.items
   places_are = a.translated.located.places ∙ places_same m n same p (scratch_needs p) ∙ sym b.translated.located.places
@@ -70,9 +72,9 @@ module _ (laws : Laws) (m n : Map) (same : SameMaps m n) (p : PlainProgram) (asm
   flash_is : flash_of k.image ≡ flash_of l.image
   flash_is =
       a.translated.located.flash
-      ∙ (λ j. image p (layout m (rows_of_program p) (entries_by m p) (a.frames j)) (last_of m) (items_are j))
+      ∙ (λ j. image m.core p (layout m (rows_of_program p) (entries_by m p) (a.frames j)) (last_of m) (items_are j))
       ∙ image_same m n same p (scratch_needs p) bsm.items.items
-      ∙ (λ j. image p (layout n (rows_of_program p) (entries_by n p) (sym b.frames j)) (last_of n) bsm.items.items)
+      ∙ (λ j. image n.core p (layout n (rows_of_program p) (entries_by n p) (sym b.frames j)) (last_of n) bsm.items.items)
       ∙ sym b.translated.located.flash
 
 -- ---- builds
@@ -84,7 +86,7 @@ builds_have_one_image laws sources text a b x y =
     programs_same laws sources text a.map b.map (plain_program a.program) (plain_program b.program) same x.checked y.checked in
     record {
       program = one;
-      core = x.image.translated.located.core ∙ sym y.image.translated.located.core;
+      core = x.image.translated.located.core ∙ same.core_same ∙ sym y.image.translated.located.core;
       flash =
           flash_is laws a.map b.map same (plain_program a.program) x.asm y.asm a.located b.located x.image
           (subst (λ (p : PlainProgram). IsImageOf p b.map y.asm b.located) (sym one) y.image);

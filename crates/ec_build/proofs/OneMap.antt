@@ -12,6 +12,7 @@ use Rattle.ec_build.specs.MapTexts.{IsMapText}
 use Rattle.ec_build.proofs.Viewed.{by_view}
 
 pub record SameMaps (m n : Map) : Type 0 where
+  pub core_same : m.core ≡ n.core
   pub regions_same : regions m ≡ regions n
   pub ports : map port_view m.io.ports.items ≡ map port_view n.io.ports.items
   pub groups : map group_view m.io.groups.items ≡ map group_view n.io.groups.items
@@ -28,6 +29,7 @@ same_at m n (Some d) h k =
     let a = h.told in
     let b = k.told in
     record {
+      core_same = a.core_told ∙ sym b.core_told;
       regions_same = ap (region_in (regions m)) (sym a.regions_told ∙ b.regions_told);
       ports = a.ports_told ∙ sym b.ports_told;
       groups = a.groups_told ∙ sym b.groups_told;

@@ -89,8 +89,8 @@ module _ (m n : Map) (same : SameMaps m n) where
   places_same p frames = λ j. (layout_same p frames j).places
 
   pub image_same : (p : PlainProgram) (frames : List ℕ) (items : List AsmItem)
-      → image p (layout m (rows_of_program p) (entries m.places.items p) frames) (last_of m) items
-      ≡ image p (layout n (rows_of_program p) (entries n.places.items p) frames) (last_of n) items
+      → image m.core p (layout m (rows_of_program p) (entries m.places.items p) frames) (last_of m) items
+      ≡ image n.core p (layout n (rows_of_program p) (entries n.places.items p) frames) (last_of n) items
   image_same p frames items =
-      λ j. image p (layout_same p frames j)
+      λ j. image (same.core_same j) p (layout_same p frames j)
       ((same.regions_same j).stack.first + (same.regions_same j).stack.size - 1) items

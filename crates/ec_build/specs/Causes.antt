@@ -51,7 +51,7 @@ pub record IsUnplaced (sources : List (List ℕ)) (text : List ℕ) (stop : Plac
   pub checked : IsChecked sources text map program
   pub asm : AsmProgram
   pub selected : AsmProgram
-  pub code : IsSelection (lowered program (plain_table map.io)) selected
+  pub code : IsSelection map.core (lowered program (plain_table map.io)) selected
   pub reaches : List Reach
   pub shortened : IsShortened reaches selected asm
   pub frames : asm.frames.items ≡ scratch_needs program

@@ -1,5 +1,6 @@
--- The code of a program, in its long form and shortened.
+-- The code of a program for a core, in its long form and shortened.
 use Rattle.std.specs.Prelude.{◌≡◌, ◌≤◌, List, [], ◌∷◌}
+use Rattle.ec_space.specs.declared.Core.{Core}
 use Rattle.ec_iohw.specs.declared.table.IoTable.{IoTable}
 use Rattle.ec_asm.specs.Items.{code_words}
 use Rattle.ec_asm.specs.Valid.{ValidAsm}
@@ -17,20 +18,20 @@ use Rattle.ec_locate.specs.Placing.{object_sizes, scratch_needs, IsLocated}
 use Rattle.ec_locate.specs.declared.placing.Located.{Located}
 use Rattle.ec_select.specs.Selected.{HasCode, IsSelection}
 
--- The code of the operations of a program, which can be placed, and has at most as many words as the program weighs by shapes. The
--- groups of the ports hold bytes
-pub record IsCodeOf (p : PlainProgram) (io : IoTable) (asm : AsmProgram) : Type 0 where
+-- The code of the operations of a program for a core, which can be placed, and has at most as many words as the program weighs by
+-- shapes. The groups of the ports hold bytes
+pub record IsCodeOf (core : Core) (p : PlainProgram) (io : IoTable) (asm : AsmProgram) : Type 0 where
   pub groups : GroupsHaveBytes io
   pub code : HasCode (lowered p (plain_table io))
-  pub selection : IsSelection (lowered p (plain_table io)) asm
+  pub selection : IsSelection core (lowered p (plain_table io)) asm
   pub frames : asm.frames.items ≡ scratch_needs p
   pub small : code_words asm.items.items ≤ shared_weight p (plain_table io)
   pub valid : ValidAsm (object_sizes p) 64 asm
 
 -- The same with what is near in one word, for bytes that Y reaches. It has no more words
-pub record IsShortCodeOf (p : PlainProgram) (io : IoTable) (reaches : List Reach) (asm : AsmProgram) : Type 0 where
+pub record IsShortCodeOf (core : Core) (p : PlainProgram) (io : IoTable) (reaches : List Reach) (asm : AsmProgram) : Type 0 where
   pub long : AsmProgram
-  pub code : IsCodeOf p io long
+  pub code : IsCodeOf core p io long
   pub shortened : IsShortened reaches long asm
   pub frames : asm.frames.items ≡ scratch_needs p
   pub small : code_words asm.items.items ≤ shared_weight p (plain_table io)

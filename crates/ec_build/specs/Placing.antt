@@ -13,4 +13,4 @@ use Rattle.ec_build.specs.declared.stop.BuildStop.TheVariants.{NoMemory}
 abbrev pub HasCauseOfPlacing : PlainProgram → Map → BuildStop → Type 0
 HasCauseOfPlacing p m stop =
     (stop ≡ NoMemory)
-    ⊎ ((reaches : List Reach) × (asm : AsmProgram) × (IsShortCodeOf p m.io reaches asm × StopsPlacing p m asm stop))
+    ⊎ ((reaches : List Reach) × (asm : AsmProgram) × (IsShortCodeOf m.core p m.io reaches asm × StopsPlacing p m asm stop))

@@ -2,6 +2,7 @@
 ghost use Rattle.std.specs.Prelude.{◌≡◌, ◌<◌, ◌^◌, IfOk, IfErr, length};
 ghost use Rattle.ec_core.specs.Plain.{plain_program};
 ghost use Rattle.ec_core.specs.Valid.{Valid};
+ghost use Rattle.ec_space.specs.declared.Core.{Core};
 ghost use Rattle.ec_iohw.specs.declared.table.IoTable.{IoTable};
 ghost use Rattle.ec_core.specs.Plain.{PlainProgram};
 ghost use Rattle.ec_build.specs.Code.{IsCodeOf, IsShortCodeOf, IsOutlineOf};
@@ -21,16 +22,16 @@ use std::alloc::Global;
 /// The greatest number of items of code that can be placed.
 const MOST_ITEMS: usize = 4_294_967_295;
 
-/// The code of a program, in its long form.
+/// The code of a program for the core of a map, in its long form.
 pub(crate) fn code_of(alloc: Global, program: &Program, map: &Map) -> Result<AsmProgram, BuildStop>
     requires valid { Valid (plain_program program.now) map.now.io }
-    ensures code { IfOk result (IsCodeOf (plain_program program.now) map.now.io) }
+    ensures code { IfOk result (IsCodeOf map.now.core (plain_program program.now) map.now.io) }
     ensures stopped { IfErr result (λ stop. stop ≡ BuildStop.NoMemory) }
 {
     lowered_programs_have_code();
     read_groups(&map.io);
     let ir = lower(alloc, program, &map.io)?;
-    let asm = select(alloc, &ir)?;
+    let asm = select(alloc, &ir, map.core)?;
     Ok(asm)
 }
 
@@ -56,8 +57,8 @@ pub(crate) fn shortened(
     reaches: &[Reach],
     long: AsmProgram,
 ) -> Result<AsmProgram, BuildStop>
-    ensures code { (p : PlainProgram) (io : IoTable) → IsCodeOf p io long
-        → IfOk result (IsShortCodeOf p io reaches.now) }
+    ensures code { (core : Core) (p : PlainProgram) (io : IoTable) → IsCodeOf core p io long
+        → IfOk result (IsShortCodeOf core p io reaches.now) }
     ensures few { IfOk result (λ asm. length asm.items.items < 2 ^ 32) }
     ensures stopped { IfErr result (λ stop. stop ≡ BuildStop.NoMemory) }
 {

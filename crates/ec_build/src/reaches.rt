@@ -109,7 +109,7 @@ pub(crate) fn reaches_by(
 ) -> Result<Seq<Reach>, BuildStop>
     requires valid { Valid (plain_program program.now) map.now.io }
     requires map { ValidMap map.now }
-    requires code { IsCodeOf (plain_program program.now) map.now.io long.now }
+    requires code { IsCodeOf map.now.core (plain_program program.now) map.now.io long.now }
     ensures reaches { IfOk result (λ reaches. AreReaches (plain_program program.now) map.now reaches.items) }
     ensures stopped { IfErr result (λ stop. stop ≡ BuildStop.NoMemory) }
 {

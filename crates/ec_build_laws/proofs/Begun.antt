@@ -1,5 +1,5 @@
 -- Up to where Y is as the code has it.
-use Rattle.std.proofs.Common.{◌≡◌, ⊎_elim, ℕ, ◌+◌, ◌*◌, ◌/◌, ◌%◌, ◌<◌, ◌≤◌, Bool, true, false, ℤ, List, [], ◌∷◌, ◌++◌, Option, Some, None}
+use Rattle.std.proofs.Common.{◌≡◌, ⊎_elim, ℕ, ◌+◌, ◌*◌, ◌/◌, ◌%◌, ◌≤◌, Bool, true, false, ℤ, List, [], ◌∷◌, ◌++◌, Option, Some, None}
 use Rattle.std.proofs.Common.{refl, sym, ap, ◌∙◌, subst, arith, zero-add}
 use Rattle.std.specs.Prelude.{if◌then◌else◌, IsTrue}
 use Rattle.std.specs.List.{AllByRecursion}
@@ -16,7 +16,7 @@ use Rattle.ec_avr.specs.Runs.{preceded_by}
 use Rattle.ec_asm.specs.Change.{Env, unbased, change}
 use Rattle.ec_asm.specs.Items.{At}
 use Rattle.ec_asm.specs.Laws.{MachineRunsAsView, StackStaysInside}
-use Rattle.ec_asm.specs.Run.{fetch, is_safe, run, Running as AtWord}
+use Rattle.ec_asm.specs.Run.{is_safe, run}
 use Rattle.ec_asm.specs.Shows.{Shows, Fits, RunsAs, GoesOn}
 use Rattle.ec_asm.specs.Takes.{Goes}
 use Rattle.ec_asm.specs.View.{View, pair}
@@ -79,14 +79,14 @@ taken_if true o i p = (refl, p)
 taken_if false o i p = cc
 
 -- the machine loads a constant, silently, and goes on at a word
-record Loads (e : Env) (end : ℕ) (s : State) (v w : View) : Type 0 where
+record Loads (e : Env) (size end : ℕ) (s : State) (v w : View) : Type 0 where
   state : State
   ran : (k : ℕ) → machine (1 + k) v.inputs s ≡ preceded_by (Silent ∷ []) (machine k v.inputs state)
   at : state.pc ≡ end
-  shows : Shows e 2304 state.core state.mem w
+  shows : Shows e size state.core state.mem w
 
-module _ (laws : BeginLaws) (e : Env) (fit : Fits e 2304) (d n end : ℕ) (s : State) (v : View) (at : At e (Ldi d n) s.pc end)
-    (shows : Shows e 2304 s.core s.mem v) where
+module _ (laws : BeginLaws) (e : Env) (size : ℕ) (fit : Fits e size) (d n end : ℕ) (s : State) (v : View)
+    (at : At e (Ldi d n) s.pc end) (shows : Shows e size s.core s.mem v) where
   step_is : (answer : ℕ) → step answer s ≡ effect (Some (Ldi d n)) answer s
   step_is answer =
       let g : (if is_whole s then instruction_at s s.pc else None) ≡ Some (Ldi d n) = rw shows.flash (fetched e s.pc (Ldi d n) at.is).0 in
@@ -106,10 +106,10 @@ module _ (laws : BeginLaws) (e : Env) (fit : Fits e 2304) (d n end : ℕ) (s : S
   pub goes : Goes e 1 s.pc v end (change e (Ldi d n) v)
   goes = one_goes e (Ldi d n) s.pc end v refl at
 
-  loads : v.safe ≡ true → Loads e end s v (change e (Ldi d n) v)
+  loads : v.safe ≡ true → Loads e size end s v (change e (Ldi d n) v)
   loads safe =
-      let on : GoesOn e 2304 1 v s end (change e (Ldi d n) v) =
-      subst (RunsAs e 2304 1 v s) goes.by (laws.views e 2304 1 s v fit shows) safe in
+      let on : GoesOn e size 1 v s end (change e (Ldi d n) v) =
+      subst (RunsAs e size 1 v s) goes.by (laws.views e size 1 s v fit shows) safe in
       let trace = is_silent on.trace on.state on.ran in
       record {
         state = on.state;
@@ -120,15 +120,15 @@ module _ (laws : BeginLaws) (e : Env) (fit : Fits e 2304) (d n end : ℕ) (s : S
 
 -- ---- the whole
 
-module _ (laws : BeginLaws) (e : Env) (word : ℕ) (fit : Fits e 2304) (s : State) (inputs : Inputs) (give : GiveBytes inputs)
-    (shows : Shows (unbased e) 2304 s.core s.mem (view_of s inputs)) (pc : s.pc ≡ 0) where
+module _ (laws : BeginLaws) (e : Env) (size word : ℕ) (fit : Fits e size) (s : State) (inputs : Inputs) (give : GiveBytes inputs)
+    (shows : Shows (unbased e) size s.core s.mem (view_of s inputs)) (pc : s.pc ≡ 0) where
   abbrev u : Env
   u = unbased e
 
   abbrev v : View
   v = view_of s inputs
 
-  free_fit : Fits u 2304
+  free_fit : Fits u size
   free_fit = record {
     ports = fit.ports;
     kinds = fit.kinds;
@@ -138,7 +138,7 @@ module _ (laws : BeginLaws) (e : Env) (word : ℕ) (fit : Fits e 2304) (s : Stat
   }
 
   -- where Y is free
-  at_once : 65536 ≤ e.base → word ≡ 0 → Begins e word s inputs
+  at_once : 65536 ≤ e.base → word ≡ 0 → Begins e size word s inputs
   at_once free is = record {
     steps = 0;
     few = omega arith;
@@ -154,6 +154,7 @@ module _ (laws : BeginLaws) (e : Env) (word : ℕ) (fit : Fits e 2304) (s : Stat
       bytes = shows.bytes;
       at = shows.at;
       flags = shows.flags;
+      page = shows.page;
       feeds = shows.feeds;
       base = λ l. absurd (omega (arith, free, l));
     };
@@ -168,8 +169,8 @@ module _ (laws : BeginLaws) (e : Env) (word : ℕ) (fit : Fits e 2304) (s : Stat
     abbrev v1 : View
     v1 = change u (Ldi 28 (e.base % 256)) v
 
-    one : Loads u 1 s v v1
-    one = loads laws u free_fit 28 (e.base % 256) 1 s v low_at shows refl
+    one : Loads u size 1 s v v1
+    one = loads laws u size free_fit 28 (e.base % 256) 1 s v low_at shows refl
 
     high_at : At u (Ldi 29 (e.base / 256)) one.state.pc 2
     high_at = subst (λ n. At u (Ldi 29 (e.base / 256)) n 2) (sym one.at) high
@@ -177,18 +178,18 @@ module _ (laws : BeginLaws) (e : Env) (word : ℕ) (fit : Fits e 2304) (s : Stat
     abbrev v2 : View
     v2 = change u (Ldi 29 (e.base / 256)) v1
 
-    two : Loads u 2 one.state v1 v2
-    two = loads laws u free_fit 29 (e.base / 256) 2 one.state v1 high_at one.shows refl
+    two : Loads u size 2 one.state v1 v2
+    two = loads laws u size free_fit 29 (e.base / 256) 2 one.state v1 high_at one.shows refl
 
     both_go : Goes u (1 + 1) s.pc v 2 v2
     both_go =
-        goes_on_to u 1 1 s.pc 1 2 v v1 v2 (goes laws u free_fit 28 (e.base % 256) 1 s v low_at shows)
-        (subst (λ n. Goes u 1 n v1 2 v2) one.at (goes laws u free_fit 29 (e.base / 256) 2 one.state v1 high_at one.shows))
+        goes_on_to u 1 1 s.pc 1 2 v v1 v2 (goes laws u size free_fit 28 (e.base % 256) 1 s v low_at shows)
+        (subst (λ n. Goes u 1 n v1 2 v2) one.at (goes laws u size free_fit 29 (e.base / 256) 2 one.state v1 high_at one.shows))
 
     held : pair v2.at 28 ≡ e.base
     held = let b = e.base in let same : b % 256 + 256 * (b / 256) ≡ b = omega arith in same
 
-    after_both : word ≡ 2 → Begins e word s inputs
+    after_both : word ≡ 2 → Begins e size word s inputs
     after_both is = record {
       steps = 2;
       few = omega arith;
@@ -206,12 +207,13 @@ module _ (laws : BeginLaws) (e : Env) (word : ℕ) (fit : Fits e 2304) (s : Stat
         bytes = two.shows.bytes;
         at = refl;
         flags = refl;
+        page = refl;
         feeds = give;
         base = λ l. ap (λ f. pair f 28) (sym two.shows.at) ∙ held;
       };
       stacked = λ k before t less ran.
-          laws.stack u 2304 2 k s t v before free_fit shows (ap is_safe both_go.by) less ran;
+          laws.stack u size 2 k s t v before free_fit shows (ap is_safe both_go.by) less ran;
     }
 
-  pub begins : SetsBase e word → Begins e word s inputs
+  pub begins : SetsBase e word → Begins e size word s inputs
   begins sets = ⊎_elim (λ a. at_once a.0 a.1) (λ a. after_both a.2 a.3 a.1) sets

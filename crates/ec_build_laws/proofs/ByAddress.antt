@@ -4,16 +4,17 @@ use Rattle.std.proofs.Common.{Some, refl, sym, ap, ◌∙◌, subst, arith, not,
 use Rattle.std.specs.Prelude.{nat_le, nat_lt, ◌==◌, if◌then◌else◌, slice_get}
 use Rattle.std.proofs.lemmas.Bool.{lt-ltb, le-ltb, le-leb, ltb-true, leb-true, ltb-false, and_parts, and_from}
 use Rattle.std.proofs.lemmas.Bool.{or_cases, or_left, or_right, false_from_ne_true, true≢false, false≢true, not-true}
-use Rattle.std.proofs.lemmas.Bool.{ne_eqb, eqb-false}
+use Rattle.std.proofs.lemmas.Bool.{ne_eqb, eqb-true}
 use Rattle.std.proofs.lemmas.Option.{slice_get_within}
-use Rattle.ec_space.specs.Memory.{flash_size}
+use Rattle.ec_space.specs.Memory.{flash_size, data_size}
+use Rattle.ec_space.specs.declared.Core.{Core}
 use Rattle.ec_space.specs.declared.space.Bank.{Bank}
 use Rattle.ec_space.specs.declared.space.Bank.TheVariants.{Flash, Data}
 use Rattle.ec_space.specs.declared.space.Place.{Place}
 use Rattle.ec_space.specs.Spaces.{bank_of}
-use Rattle.ec_avr.specs.State.{is_core_register, is_port}
-use Rattle.ec_space.specs.declared.Core.TheVariants.{Small}
-use Rattle.ec_asm.specs.Change.{Kind, Own, Object, Port, Stacked, Barred}
+use Rattle.ec_avr.specs.State.{has_rampz, is_core_register, is_port}
+use Rattle.ec_asm.specs.View.{is_apart}
+use Rattle.ec_asm.specs.Change.{Kind, Own, Object, Port, Stacked, Page, Barred}
 use Rattle.ec_asm.specs.Shows.{may_be, in_flash}
 use Rattle.ec_asm.specs.declared.items.AsmProgram.{AsmProgram}
 use Rattle.ec_core.specs.Layout.{size_of_type}
@@ -27,8 +28,9 @@ use Rattle.ec_locate.specs.Entries.{frame_size}
 use Rattle.ec_locate.specs.Fixed.{same_bank}
 use Rattle.ec_locate.specs.Placing.{IsLocated, layout_by}
 use Rattle.ec_locate.specs.declared.placing.Located.{Located}
+use Rattle.ec_build_laws.proofs.Ends.{data_high}
 use Rattle.ec_build_laws.proofs.Live.{object_last}
-use Rattle.ec_build_laws.specs.Kinds.{is_byte_of, is_of_objects, is_of_initials, is_of_scratch, is_hidden, register_kind}
+use Rattle.ec_build_laws.specs.Kinds.{is_byte_of, is_of_objects, is_of_initials, is_of_scratch, is_hidden, is_rampz, register_kind}
 use Rattle.ec_build_laws.specs.Kinds.{memory_kind, kinds, tables}
 use Rattle.ec_build_laws.specs.Laws.{IsByteOf, IsObjectByte, IsOwnByte, of_register, of_scratch, of_work, AreKinds}
 use Rattle.ec_build_laws.specs.Laws.{KindsAreTold, KindsFit}
@@ -139,18 +141,28 @@ scratch_told (x ∷ frames) (y ∷ ats) a h =
 
 -- ---- which kind an address has
 
-low_kind : (p : PlainProgram) (m : Map) (asm : AsmProgram) (l : Located) (a : ℕ) → a < 256 → kinds p m asm l a ≡ register_kind a
+low_kind : (p : PlainProgram) (m : Map) (asm : AsmProgram) (l : Located) (a : ℕ) → a < 256 → kinds p m asm l a
+    ≡ register_kind m.core a
 low_kind p m asm l a h = rw (lt-ltb a 256 h) refl
 
-high_kind : (p : PlainProgram) (m : Map) (asm : AsmProgram) (l : Located) (a : ℕ) → 256 ≤ a → a < 2304 → kinds p m asm l a
-    ≡ memory_kind p m asm l a
-high_kind p m asm l a h k = rw (le-ltb a 256 h, lt-ltb a 2304 k) refl
+high_kind : (p : PlainProgram) (m : Map) (asm : AsmProgram) (l : Located) (a : ℕ) → 256 ≤ a → a < data_size m.core
+    → kinds p m asm l a ≡ memory_kind p m asm l a
+high_kind p m asm l a h k = rw (le-ltb a 256 h, lt-ltb a (data_size m.core) k) refl
 
-pub core_is_low : (a : ℕ) → is_core_register Small a ≡ true → a < 256
-core_is_low a h = grind arith
+pub core_is_low : (core : Core) (a : ℕ) → is_core_register core a ≡ true → a < 256
+core_is_low core a h = grind arith
 
-pub port_is_none : (a : ℕ) → is_port Small a ≡ true → (a < 256) × (is_core_register Small a ≡ false)
-port_is_none a h = let (l, n) = and_parts (nat_lt a 256) (not (is_core_register Small a)) h in (ltb-true a 256 l, not-true (is_core_register Small a) n)
+pub port_is_none : (core : Core) (a : ℕ) → is_port core a ≡ true → (a < 256) × (is_core_register core a ≡ false)
+port_is_none core a h = let (l, n) = and_parts (nat_lt a 256) (not (is_core_register core a)) h in (ltb-true a 256 l, not-true (is_core_register core a) n)
+
+-- RAMPZ is a register of a core that has it
+rampz_is_core : (core : Core) (a : ℕ) → is_rampz core a ≡ true → is_core_register core a ≡ true
+rampz_is_core core a h =
+    let p = and_parts (a == 0x5B) (has_rampz core) h in
+    subst (λ n. is_core_register core n ≡ true) (sym (eqb-true a 0x5B p.0)) p.1
+
+no_rampz : (core : Core) (a : ℕ) → is_core_register core a ≡ false → is_rampz core a ≡ false
+no_rampz core a h = false_from_ne_true (is_rampz core a) (λ r. true≢false (sym (rampz_is_core core a r) ∙ h))
 
 -- SREG is hidden
 not_sreg : (a : ℕ) → is_hidden a ≡ false → (a == 0x5F) ≡ false
@@ -159,11 +171,22 @@ not_sreg a h = by_parts (a == 0x5F) (a == 28 || a == 29) h where
   by_parts true c q = absurd (true≢false q)
   by_parts false c q = refl
 
-own_if : (b c : Bool) → b ≡ false → c ≡ true → (if b then Barred else if c then Own else Port) ≡ Own
-own_if b c q r = rw (q, r) refl
+-- what is code's own is neither SREG nor RAMPZ
+not_apart : (core : Core) (a : ℕ) → is_hidden a ≡ false → is_rampz core a ≡ false → is_core_register core a ≡ true → is_apart a ≡ false
+not_apart core a seen other own = by_test (a == 0x5B) refl where
+  by_test : (b : Bool) → (a == 0x5B) ≡ b → is_apart a ≡ false
+  by_test true q =
+      let at = eqb-true a 0x5B q in
+      let none : has_rampz core ≡ false = subst (λ n. is_rampz core n ≡ false) at other in
+      let has : has_rampz core ≡ true = subst (λ n. is_core_register core n ≡ true) at own in
+      absurd (true≢false (sym has ∙ none))
+  by_test false q = rw (q, not_sreg a seen) refl
 
-port_if : (b c : Bool) → b ≡ false → c ≡ false → (if b then Barred else if c then Own else Port) ≡ Port
-port_if b c q r = rw (q, r) refl
+own_if : (b c d : Bool) → b ≡ false → c ≡ false → d ≡ true → (if b then Barred else if c then Page else if d then Own else Port) ≡ Own
+own_if b c d q r s = rw (q, r, s) refl
+
+port_if : (b c d : Bool) → b ≡ false → c ≡ false → d ≡ false → (if b then Barred else if c then Page else if d then Own else Port) ≡ Port
+port_if b c d q r s = rw (q, r, s) refl
 
 -- ---- the whole
 
@@ -171,9 +194,10 @@ module _ (p : PlainProgram) (m : Map) (asm : AsmProgram) (l : Located) (map_vali
   abbrev size : PlainObject → ℕ
   size o = size_of_type p.structs o.ty
 
-  stands : (o : PlainObject) (q : Place) → IsAddressable o.storage → StandsIn o.storage q.offset (size o) → IsInMemory q.offset (size o)
+  stands : (o : PlainObject) (q : Place) → IsAddressable o.storage → StandsIn m.core o.storage q.offset (size o)
+      → IsInMemory m.core q.offset (size o)
   stands o q named at = by_storage o.storage named at where
-    by_storage : (s : PlainStorage) → IsAddressable s → StandsIn s q.offset (size o) → IsInMemory q.offset (size o)
+    by_storage : (s : PlainStorage) → IsAddressable s → StandsIn m.core s q.offset (size o) → IsInMemory m.core q.offset (size o)
     by_storage (static inits) n h = h
     by_storage (local f) n h = h
     by_storage (param f) n h = h
@@ -200,7 +224,7 @@ module _ (p : PlainProgram) (m : Map) (asm : AsmProgram) (l : Located) (map_vali
       ⊎_elim (λ u. omega (arith, u, below, start)) (λ u. omega (arith, u, from, end))
       (apart.apart n f.i at f.q.offset s (size f.o) (other f.i f.o f.object).0 (other f.i f.o f.object).1 names (an_object f.i f.o f.q f.object f.home f.place)))
 
-  own_kind : (a : ℕ) → 256 ≤ a → a < 2304 → is_of_objects Data p.structs p.objects l.places.items a ≡ false
+  own_kind : (a : ℕ) → 256 ≤ a → a < data_size m.core → is_of_objects Data p.structs p.objects l.places.items a ≡ false
       → (is_of_scratch asm.frames.items l.frames.items a || is_byte_of l.work 64 a) ≡ true → kinds p m asm l a ≡ Own
   own_kind a low high none own = high_kind p m asm l a low high ∙ rw (none, own) refl
 
@@ -248,45 +272,53 @@ module _ (p : PlainProgram) (m : Map) (asm : AsmProgram) (l : Located) (map_vali
         high_kind p m asm l a (omega (arith, low, first)) (omega (arith, high, ends))
         ∙ rw (none, no_scratch, no_work, byte_there m.stack.first m.stack.size a low high) refl
 
-    registers : (a : ℕ) → is_core_register Small a ≡ true → is_hidden a ≡ false → kinds p m asm l a ≡ Own
-    registers a h seen = low_kind p m asm l a (core_is_low a h) ∙ own_if (is_hidden a) (is_core_register Small a) seen h
+    page : has_rampz m.core ≡ true → kinds p m asm l 0x5B ≡ Page
+    page h = low_kind p m asm l 0x5B (omega arith) ∙ rw h refl
 
-    ports : (a : ℕ) → is_port Small a ≡ true → kinds p m asm l a ≡ Port
+    registers : (a : ℕ) → is_core_register m.core a ≡ true → is_hidden a ≡ false → is_rampz m.core a ≡ false → kinds p m asm l a ≡ Own
+    registers a h seen other =
+        low_kind p m asm l a (core_is_low m.core a h)
+        ∙ own_if (is_hidden a) (is_rampz m.core a) (is_core_register m.core a) seen other h
+
+    ports : (a : ℕ) → is_port m.core a ≡ true → kinds p m asm l a ≡ Port
     ports a h =
-        let k = port_is_none a h in
-        let sreg : (a == 0x5F) ≡ false = ne_eqb a 0x5F (λ e. true≢false (subst (λ n. is_core_register Small n ≡ false) e k.1)) in
-        let low : (a == 28) ≡ false = ne_eqb a 28 (λ e. true≢false (subst (λ n. is_core_register Small n ≡ false) e k.1)) in
-        let high : (a == 29) ≡ false = ne_eqb a 29 (λ e. true≢false (subst (λ n. is_core_register Small n ≡ false) e k.1)) in
-        low_kind p m asm l a k.0 ∙ port_if (is_hidden a) (is_core_register Small a) (rw (sreg, low, high) refl) k.1
+        let k = port_is_none m.core a h in
+        let sreg : (a == 0x5F) ≡ false = ne_eqb a 0x5F (λ e. true≢false (subst (λ n. is_core_register m.core n ≡ false) e k.1)) in
+        let low : (a == 28) ≡ false = ne_eqb a 28 (λ e. true≢false (subst (λ n. is_core_register m.core n ≡ false) e k.1)) in
+        let high : (a == 29) ≡ false = ne_eqb a 29 (λ e. true≢false (subst (λ n. is_core_register m.core n ≡ false) e k.1)) in
+        low_kind p m asm l a k.0
+        ∙ port_if (is_hidden a) (is_rampz m.core a) (is_core_register m.core a) (rw (sreg, low, high) refl) (no_rampz m.core a k.1) k.1
 
     -- ---- which addresses are told to be of a kind
 
     -- what stands at an address tells where it is
     record Tells (a : ℕ) (k : Kind) : Type 0 where
       object : k ≡ Object → is_of_objects Data p.structs p.objects l.places.items a ≡ true
-      own : k ≡ Own → IsOwnByte asm l a
-      port : k ≡ Port → is_port Small a ≡ true
+      own : k ≡ Own → IsOwnByte m.core asm l a
+      port : k ≡ Port → is_port m.core a ≡ true
       stacked : k ≡ Stacked → (m.stack.first ≤ a) × (a < end_of m.stack)
 
-    own_memory : (a : ℕ) → (is_of_scratch asm.frames.items l.frames.items a || is_byte_of l.work 64 a) ≡ true → IsOwnByte asm l a
+    own_memory : (a : ℕ) → (is_of_scratch asm.frames.items l.frames.items a || is_byte_of l.work 64 a) ≡ true → IsOwnByte m.core asm l a
     own_memory a h =
         ⊎_elim
         (λ u. let f = scratch_told asm.frames.items l.frames.items a u in of_scratch a f.f f.frame f.at f.is f.there f.from_there f.below)
         (λ u. let w = byte_told l.work 64 a u in of_work a w.0 w.1)
         (or_cases (is_of_scratch asm.frames.items l.frames.items a) (is_byte_of l.work 64 a) h)
 
-    register_tells : (a : ℕ) → a < 256 → (b c : Bool) → is_hidden a ≡ b → is_core_register Small a ≡ c
-        → Tells a (if b then Barred else if c then Own else Port)
-    register_tells a low true c q r =
+    register_tells : (a : ℕ) → a < 256 → (b c d : Bool) → is_hidden a ≡ b → is_rampz m.core a ≡ c → is_core_register m.core a ≡ d
+        → Tells a (if b then Barred else if c then Page else if d then Own else Port)
+    register_tells a low true c d q r s =
         record { object = λ h. absurd cc; own = λ h. absurd cc; port = λ h. absurd cc; stacked = λ h. absurd cc }
-    register_tells a low false true q r =
-        record { object = λ h. absurd cc; own = λ h. of_register a r (eqb-false a 0x5F (not_sreg a q)); port = λ h. absurd cc; stacked = λ h. absurd cc }
-    register_tells a low false false q r =
+    register_tells a low false true d q r s =
+        record { object = λ h. absurd cc; own = λ h. absurd cc; port = λ h. absurd cc; stacked = λ h. absurd cc }
+    register_tells a low false false true q r s =
+        record { object = λ h. absurd cc; own = λ h. of_register a s (not_apart m.core a q r s); port = λ h. absurd cc; stacked = λ h. absurd cc }
+    register_tells a low false false false q r s =
         record {
           object = λ h. absurd cc;
           own = λ h. absurd cc;
-          port = λ h. and_from (nat_lt a 256) (not (is_core_register Small a))
-              (lt-ltb a 256 low) (ap not r);
+          port = λ h. and_from (nat_lt a 256) (not (is_core_register m.core a))
+              (lt-ltb a 256 low) (ap not s);
           stacked = λ h. absurd cc;
         }
 
@@ -307,9 +339,11 @@ module _ (p : PlainProgram) (m : Map) (asm : AsmProgram) (l : Located) (map_vali
         record { object = λ h. absurd cc; own = λ h. absurd cc; port = λ h. absurd cc; stacked = λ h. absurd cc }
 
     tells : (a : ℕ) → Tells a (kinds p m asm l a)
-    tells a = by_tests (nat_lt a 256) (nat_lt a 2304) refl where
-      by_tests : (b c : Bool) → nat_lt a 256 ≡ b → Tells a (if b then register_kind a else if c then memory_kind p m asm l a else Barred)
-      by_tests true c q = register_tells a (ltb-true a 256 q) (is_hidden a) (is_core_register Small a) refl refl
+    tells a = by_tests (nat_lt a 256) (nat_lt a (data_size m.core)) refl where
+      by_tests : (b c : Bool) → nat_lt a 256 ≡ b
+          → Tells a (if b then register_kind m.core a else if c then memory_kind p m asm l a else Barred)
+      by_tests true c q =
+          register_tells a (ltb-true a 256 q) (is_hidden a) (is_rampz m.core a) (is_core_register m.core a) refl refl refl
       by_tests false true q =
           memory_tells a (is_of_objects Data p.structs p.objects l.places.items a)
           (is_of_scratch asm.frames.items l.frames.items a || is_byte_of l.work 64 a)
@@ -318,6 +352,7 @@ module _ (p : PlainProgram) (m : Map) (asm : AsmProgram) (l : Located) (map_vali
 
     pub are_kinds : AreKinds p m asm l
     are_kinds = record {
+      page = page;
       registers = registers;
       ports = ports;
       objects = objects;
@@ -343,50 +378,63 @@ kinds_are_told apart p m asm l valid map_valid asm_valid located =
 
 -- ---- that they suit
 
-pub register_may_be : (a : ℕ) → a < 256 → may_be Small (register_kind a) 2304 a ≡ true
-register_may_be a low = by_tests (is_hidden a) (is_core_register Small a) refl refl where
-  by_tests : (b c : Bool) → is_hidden a ≡ b → is_core_register Small a ≡ c → may_be Small (if b then Barred else if c then Own else Port) 2304 a ≡ true
-  by_tests true c q r = refl
-  by_tests false true q r = rw (r, not_sreg a q) refl
-  by_tests false false q r = rw (r, lt-ltb a 256 low) refl
+pub register_may_be : (core : Core) (n a : ℕ) → a < 256 → may_be core (register_kind core a) n a ≡ true
+register_may_be core n a low = by_tests (is_hidden a) (is_rampz core a) (is_core_register core a) refl refl refl where
+  by_tests : (b c d : Bool) → is_hidden a ≡ b → is_rampz core a ≡ c → is_core_register core a ≡ d
+      → may_be core (if b then Barred else if c then Page else if d then Own else Port) n a ≡ true
+  by_tests true c d q r s = refl
+  by_tests false true d q r s = r
+  by_tests false false true q r s =
+      or_left (is_core_register core a && not (is_apart a)) (nat_le 256 a && nat_lt a n)
+      (and_from (is_core_register core a) (not (is_apart a)) s (ap not (not_apart core a q r s)))
+  by_tests false false false q r s = and_from (nat_lt a 256) (not (is_core_register core a)) (lt-ltb a 256 low) (ap not s)
 
-pub memory_may_be : (k : Kind) (a : ℕ) → (k ≢ Port) → 256 ≤ a → a < 2304 → may_be Small k 2304 a ≡ true
-memory_may_be Own a n low high =
-    or_right (is_core_register Small a && not (a == 0x5F)) (nat_le 256 a && nat_lt a 2304) (rw (le-leb 256 a low, lt-ltb a 2304 high) refl)
-memory_may_be Object a n low high = rw (le-leb 256 a low, lt-ltb a 2304 high) refl
-memory_may_be Port a n low high = absurd (n refl)
-memory_may_be Stacked a n low high = rw (le-leb 256 a low, lt-ltb a 2304 high) refl
-memory_may_be Barred a n low high = refl
+-- what can stand in memory above the ports
+abbrev pub is_of_memory : Kind → Bool
+is_of_memory Port = false
+is_of_memory Page = false
+is_of_memory kind = true
 
-pub memory_is_no_port : (b c d : Bool) → (let k : Kind = if b then Object else if c then Own else if d then Stacked else Barred in k) ≢ Port
-memory_is_no_port true c d h = cc
-memory_is_no_port false true d h = cc
-memory_is_no_port false false true h = cc
-memory_is_no_port false false false h = cc
+pub memory_may_be : (core : Core) (k : Kind) (n a : ℕ) → is_of_memory k ≡ true → 256 ≤ a → a < n → may_be core k n a ≡ true
+memory_may_be core Own n a fits low high =
+    or_right (is_core_register core a && not (is_apart a)) (nat_le 256 a && nat_lt a n) (rw (le-leb 256 a low, lt-ltb a n high) refl)
+memory_may_be core Object n a fits low high = rw (le-leb 256 a low, lt-ltb a n high) refl
+memory_may_be core Port n a fits low high = absurd (false≢true fits)
+memory_may_be core Stacked n a fits low high = rw (le-leb 256 a low, lt-ltb a n high) refl
+memory_may_be core Page n a fits low high = absurd (false≢true fits)
+memory_may_be core Barred n a fits low high = refl
 
-kinds_may_be : (p : PlainProgram) (m : Map) (asm : AsmProgram) (l : Located) (a : ℕ) → may_be Small (kinds p m asm l a) 2304 a ≡ true
-kinds_may_be p m asm l a = by_tests (nat_lt a 256) (nat_lt a 2304) refl refl where
-  by_tests : (b c : Bool) → nat_lt a 256 ≡ b → nat_lt a 2304 ≡ c
-      → may_be Small (if b then register_kind a else if c then memory_kind p m asm l a else Barred) 2304 a ≡ true
-  by_tests true c q r = register_may_be a (ltb-true a 256 q)
+pub memory_is_so : (b c d : Bool) → is_of_memory (if b then Object else if c then Own else if d then Stacked else Barred) ≡ true
+memory_is_so true c d = refl
+memory_is_so false true d = refl
+memory_is_so false false true = refl
+memory_is_so false false false = refl
+
+kinds_may_be : (p : PlainProgram) (m : Map) (asm : AsmProgram) (l : Located) (a : ℕ)
+    → may_be m.core (kinds p m asm l a) (data_size m.core) a ≡ true
+kinds_may_be p m asm l a = by_tests (nat_lt a 256) (nat_lt a (data_size m.core)) refl refl where
+  by_tests : (b c : Bool) → nat_lt a 256 ≡ b → nat_lt a (data_size m.core) ≡ c
+      → may_be m.core (if b then register_kind m.core a else if c then memory_kind p m asm l a else Barred) (data_size m.core) a ≡ true
+  by_tests true c q r = register_may_be m.core (data_size m.core) a (ltb-true a 256 q)
   by_tests false true q r =
-      memory_may_be (memory_kind p m asm l a) a
-      (memory_is_no_port (is_of_objects Data p.structs p.objects l.places.items a)
+      memory_may_be m.core (memory_kind p m asm l a) (data_size m.core) a
+      (memory_is_so (is_of_objects Data p.structs p.objects l.places.items a)
       (is_of_scratch asm.frames.items l.frames.items a || is_byte_of l.work 64 a) (is_byte_of m.stack.first m.stack.size a))
-      (ltb-false a 256 q) (ltb-true a 2304 r)
+      (ltb-false a 256 q) (ltb-true a (data_size m.core) r)
   by_tests false false q r = refl
 
-tables_in_flash : (p : PlainProgram) (m : Map) (asm : AsmProgram) (l : Located) (n a : ℕ) → n ≡ 32768 → in_flash (tables p m asm l a) n a
-    ≡ true
-tables_in_flash p m asm l n a size = by_test (nat_lt a 32768) refl where
+tables_in_flash : (p : PlainProgram) (m : Map) (asm : AsmProgram) (l : Located) (n a : ℕ) → n ≡ flash_size m.core
+    → in_flash (tables p m asm l a) n a ≡ true
+tables_in_flash p m asm l n a size = by_test (nat_lt a (flash_size m.core)) refl where
   within : (k : Kind) → nat_lt a n ≡ true → in_flash k n a ≡ true
   within Own h = h
   within Object h = h
   within Port h = refl
   within Stacked h = refl
+  within Page h = refl
   within Barred h = refl
 
-  by_test : (b : Bool) → nat_lt a 32768 ≡ b → in_flash (tables p m asm l a) n a ≡ true
+  by_test : (b : Bool) → nat_lt a (flash_size m.core) ≡ b → in_flash (tables p m asm l a) n a ≡ true
   by_test true q = within (tables p m asm l a) (subst (λ k. nat_lt a k ≡ true) (sym size) q)
   by_test false q = rw q refl
 
@@ -396,7 +444,7 @@ pub flash_object : (p : PlainProgram) (m : Map) (asm : AsmProgram) (l : Located)
 flash_object p m asm l a h =
     let f =
     object_told Flash p.structs p.objects l.places.items a
-    (by_tests (nat_lt a 32768) (is_of_objects Flash p.structs p.objects l.places.items a)
+    (by_tests (nat_lt a (flash_size m.core)) (is_of_objects Flash p.structs p.objects l.places.items a)
     (is_of_initials p.structs p.objects (layout_by p m asm).initials a) h) in
     record {
       number = f.i;
@@ -410,12 +458,13 @@ flash_object p m asm l a h =
       by_tests true false false h = absurd cc
       by_tests false c d h = absurd cc
 
-pub flash_length : (p : PlainProgram) (m : Map) (asm : AsmProgram) (l : Located) → IsLocated p m asm l → length l.image.bytes.items ≡ 32768
+pub flash_length : (p : PlainProgram) (m : Map) (asm : AsmProgram) (l : Located) → IsLocated p m asm l → length l.image.bytes.items
+    ≡ flash_size m.core
 flash_length p m asm l located = l.image.sized ∙ ap flash_size located.core
 
 pub kinds_fit : KindsFit
 kinds_fit p m asm l located bytes = record {
-  ports = omega arith;
+  ports = data_high m.core;
   kinds = kinds_may_be p m asm l;
   table = λ a. tables_in_flash p m asm l (length l.image.bytes.items) a (flash_length p m asm l located);
   code = bytes;

@@ -111,7 +111,7 @@ module _ (laws : PlacedLaws) (p : PlainProgram) (m : Map) (asm : AsmProgram) (l 
       let at_is = get_or_from_slice_get (layout_by p m asm).initials j first.0 0 first.1 in
       let place_is : place_of l j ≡ there.0.offset = rw placed_there refl in
       let of = λ (has : has_initial_bytes d.storage d.home ≡ true).
-      is_copied laws p m asm l h (watched_kinds p m asm l) watched_tables (watched_has_kinds p m asm l are) j d is has in
+      is_copied laws p m asm l h (watched_kinds p m asm l) (watched_tables m) (watched_has_kinds p m asm l are) j d is has in
       record {
         at = first.0;
         is_at = first.1;

@@ -6,6 +6,7 @@ use Rattle.std.proofs.lemmas.Bool.{leb-true, cases_lt}
 use Rattle.ec_runs.specs.Behaviours.{Behaviour, Running as GoesOn, Ended as Ends, Failed, BeginWith, Continues}
 use Rattle.ec_runs.specs.Behaviours.{Reached, IsWithin, seen_as}
 use Rattle.ec_runs.proofs.Runs.{begin_onward}
+use Rattle.ec_space.specs.Memory.{data_size}
 use Rattle.ec_space.specs.declared.space.Bank.TheVariants.{Flash as FlashBank}
 use Rattle.ec_avr.specs.declared.machine.Access.{Access}
 use Rattle.ec_avr.specs.declared.machine.Access.TheVariants.{Silent, In, Out, Read, Write, Stack}
@@ -266,7 +267,7 @@ module _ (p : PlainProgram) (m : Map) (l : Located) (e : Env) (s : State) (input
 -- ---- the stack
 
 module _ (p : PlainProgram) (m : Map) (l : Located) (e : Env) (s : State) (inputs : Inputs) (r : RunsAsSource p m l e s inputs)
-    (inside : StackStaysInside) (fit : Fits e 2304)
+    (inside : StackStaysInside) (fit : Fits e (data_size m.core))
     (told : (a : ℕ) → e.kind a ≡ Stacked → (m.stack.first ≤ a) × (a < end_of m.stack)) where
   told_stays : (t : State) → All (λ at. e.kind at ≡ Stacked) (stack_bytes t) → StaysInStack m t
   told_stays t h = All-weaker (λ at. e.kind at ≡ Stacked) (λ at. (m.stack.first ≤ at) × (at < end_of m.stack)) told (stack_bytes t) h
@@ -283,7 +284,7 @@ module _ (p : PlainProgram) (m : Map) (l : Located) (e : Env) (s : State) (input
     in_region : is_safe (run e (k + 1) (AtWord r.main.pc r.view)) ≡ true → StaysInStack m t
     in_region safe =
         told_stays t
-        (inside e 2304 (k + 1) k r.main t r.view trace fit r.shown safe (omega arith)
+        (inside e (data_size m.core) (k + 1) k r.main t r.view trace fit r.shown safe (omega arith)
         (subst (λ f. machine k f r.main ≡ Running trace t) (sym r.given) ran))
 
     by_shown : (b : Behaviour Event ℤ Undefined) → HoldsUnlessFailed b (is_safe (run e (k + 1) (AtWord r.main.pc r.view)))

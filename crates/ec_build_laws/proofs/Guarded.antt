@@ -7,7 +7,7 @@ use Rattle.ec_space.specs.declared.space.Bank.TheVariants.{Flash as FlashBank, D
 use Rattle.ec_avr.specs.declared.machine.Access.{Access}
 use Rattle.ec_avr.specs.declared.machine.Access.TheVariants.{Silent, In as PortIn, Out as PortOut, Read as ByteRead}
 use Rattle.ec_avr.specs.declared.machine.Access.TheVariants.{Write as ByteWrite, Stack}
-use Rattle.ec_asm.specs.Change.{Kind, Own, Object, Port, Stacked, Barred}
+use Rattle.ec_asm.specs.Change.{Kind, Own, Object, Port, Stacked, Page, Barred}
 use Rattle.ec_asm.specs.Shows.{if_object, noted, noted_all}
 use Rattle.ec_asm.specs.declared.items.AsmProgram.{AsmProgram}
 use Rattle.ec_core.specs.Laws.{EventsAreAtHome}
@@ -54,6 +54,7 @@ if_noted P Own a h = tt
 if_noted P Object a h = (h refl, tt)
 if_noted P Port a h = tt
 if_noted P Stacked a h = tt
+if_noted P Page a h = tt
 if_noted P Barred a h = tt
 
 pub noted_are_of_objects : GuardLaws → NotedAreOfObjects

@@ -4,10 +4,11 @@ use Rattle.std.proofs.Common.{subst, arith}
 use Rattle.std.specs.Prelude.{nat_lt, if◌then◌else◌}
 use Rattle.std.specs.List.{AllByRecursion}
 use Rattle.std.proofs.lemmas.Bool.{or_cases, or_left, or_right, false_from_ne_true, false≢true}
+use Rattle.ec_space.specs.Memory.{flash_size}
 use Rattle.ec_space.specs.declared.space.Bank.TheVariants.{Flash as FlashBank, Data as DataBank}
 use Rattle.ec_avr.specs.declared.machine.Access.{Access}
 use Rattle.ec_avr.specs.declared.machine.Access.TheVariants.{Silent, In, Out, Read, Write, Stack}
-use Rattle.ec_asm.specs.Change.{Kind, Own, Object, Port, Stacked, Barred}
+use Rattle.ec_asm.specs.Change.{Kind, Own, Object, Port, Stacked, Page, Barred}
 use Rattle.ec_asm.specs.Pieces.{is_held}
 use Rattle.ec_asm.specs.Shows.{if_object, noted, noted_all}
 use Rattle.ec_asm.specs.declared.items.AsmProgram.{AsmProgram}
@@ -48,8 +49,8 @@ module _ (p : PlainProgram) (m : Map) (asm : AsmProgram) (l : Located) (are : Ar
 
   -- ---- bytes that are code's own
 
-  is_own : (a : ℕ) → 256 ≤ a → IsOwnByte asm l a → is_own_byte p l a ≡ true
-  is_own a high (of_register b core other) = let low = core_is_low a core in absurd (omega (arith, low, high))
+  is_own : (a : ℕ) → 256 ≤ a → IsOwnByte m.core asm l a → is_own_byte p l a ≡ true
+  is_own a high (of_register b core other) = let low = core_is_low m.core a core in absurd (omega (arith, low, high))
   is_own a high (of_scratch b f frame at is there from below) =
       or_left (scratch a) (work a)
       (subst (λ ns. is_of_scratch ns l.frames.items a ≡ true) frames
@@ -85,10 +86,11 @@ module _ (p : PlainProgram) (m : Map) (asm : AsmProgram) (l : Located) (are : Ar
     by_kind Object q h = rw (stays a q) refl
     by_kind Port q h = absurd (false≢true h)
     by_kind Stacked q h = absurd (false≢true h)
+    by_kind Page q h = absurd (false≢true h)
     by_kind Barred q h = absurd (false≢true h)
 
-  in_flash : (x : Access) (a : ℕ) → is_held (watched_tables a) ≡ true → if_object (watched_tables a) x ≡ x ∷ []
-  in_flash x a held = by_test (nat_lt a 32768) held where
+  in_flash : (x : Access) (a : ℕ) → is_held (watched_tables m a) ≡ true → if_object (watched_tables m a) x ≡ x ∷ []
+  in_flash x a held = by_test (nat_lt a (flash_size m.core)) held where
     by_test : (b : Bool) → (let k : Kind = if b then Object else Barred in is_held k) ≡ true → if_object (if b then Object else Barred) x
         ≡ x ∷ []
     by_test true h = refl

@@ -12,15 +12,15 @@ use Rattle.std.proofs.lemmas.List.{length-map}
 use Rattle.std.proofs.lemmas.List.Elements.{Contains-append_cases, Contains-push_cases}
 use Rattle.std.proofs.lemmas.Option.{slice_get-map, slice_get_within, get_or_from_slice_get}
 use Rattle.ec_space.specs.ByteLaws.{length-little_endian}
+use Rattle.ec_space.specs.Memory.{flash_size as size_of_flash, data_size}
 use Rattle.ec_space.specs.Spaces.{bank_of, holds, width}
 use Rattle.ec_space.specs.declared.space.Bank.{Bank}
 use Rattle.ec_space.specs.declared.space.Bank.TheVariants.{Flash, Data}
 use Rattle.ec_space.specs.declared.space.Home.{Home}
 use Rattle.ec_space.specs.declared.space.Home.TheVariants.{Flash as FlashHome, Far as FarHome, Data as DataHome}
 use Rattle.ec_space.specs.declared.space.Place.{Place}
-use Rattle.ec_avr.specs.State.{is_core_register}
-use Rattle.ec_space.specs.declared.Core.TheVariants.{Small}
-use Rattle.ec_asm.specs.Change.{Env, Kind, Own, Object, Stacked, unbased}
+use Rattle.ec_avr.specs.State.{has_rampz, is_core_register}
+use Rattle.ec_asm.specs.Change.{Env, Kind, Own, Object, Stacked, Page, unbased}
 use Rattle.ec_asm.specs.Items.{HasAt, code_words}
 use Rattle.ec_asm.specs.Laws.{PlacedItemsStand}
 use Rattle.ec_asm.specs.Pieces.{is_held}
@@ -56,6 +56,7 @@ use Rattle.ec_overlay.specs.Chains.{IsChain}
 use Rattle.ec_overlay.specs.Frames.{begin_of}
 use Rattle.ec_overlay.specs.Objects.{AreOnChain}
 use Rattle.ec_overlay.proofs.Programs.{row_is}
+use Rattle.ec_map.specs.Cores.{home_end}
 use Rattle.ec_map.specs.Regions.{end_of}
 use Rattle.ec_map.specs.declared.map.Map.{Map}
 use Rattle.ec_locate.specs.Apart.{PlacedStandApart}
@@ -80,10 +81,12 @@ use Rattle.ec_select.specs.LaidOut.{StackStands, WorkIsLaidOut}
 use Rattle.ec_select.specs.Labels.{homes_of, widest_temps}
 use Rattle.ec_select.specs.Laws.{SelectionsAreValid}
 use Rattle.ec_select.specs.Program.{has_initial_bytes}
-use Rattle.ec_build_laws.specs.Kinds.{is_of_objects, is_of_initials, is_hidden, kinds, tables, environment_of, place_of, scratch_of}
+use Rattle.ec_build_laws.specs.Kinds.{is_of_objects, is_of_initials, is_hidden, is_rampz, kinds, tables, environment_of, place_of}
+use Rattle.ec_build_laws.specs.Kinds.{scratch_of}
 use Rattle.ec_build_laws.specs.Laws.{IsByteOf, AreKinds, AreLaidOut, PlacedAreLaidOut}
 use Rattle.ec_build_laws.specs.Shortened.{is_in_memory, nowhere, reach_of, reaches_of, ShortenedIsValid}
 use Rattle.ec_build_laws.specs.Translation.{IsTranslated}
+use Rattle.ec_build_laws.proofs.Ends.{data_high, data_low, tables_low, home_below, home_in_flash, flash_low}
 use Rattle.ec_build_laws.proofs.Live.{object_first, scratch_and_work, scratch_on_chain}
 use Rattle.ec_build_laws.proofs.ByAddress.{object_there, kinds_are_told, flash_length}
 use Rattle.ec_build_laws.proofs.Numbers.{AreBytesOf, bytes_are_low, of_pointer}
@@ -136,8 +139,8 @@ apart_from a m b n some (inl h) = record { left = λ u. h; right = λ u. absurd 
 apart_from a m b n some (inr h) = record { left = λ u. absurd (omega (arith, h, u)); right = λ u. h }
 
 -- nothing, at the end of the data addresses, is apart from all that stands below it
-nothing_apart : (a m b n : ℕ) → a ≡ 2304 → m ≡ 0 → b + n ≤ 2304 → Apart a m b n
-nothing_apart a m b n q z h = record { left = λ u. omega (arith, q, z, h, u); right = λ u. omega (arith, q, h) }
+nothing_apart : (top a m b n : ℕ) → a ≡ top → m ≡ 0 → b + n ≤ top → Apart a m b n
+nothing_apart top a m b n q z h = record { left = λ u. omega (arith, q, z, h, u); right = λ u. omega (arith, q, h) }
 
 -- ---- the address of the first initial byte
 
@@ -211,15 +214,16 @@ called_known p results f slots all (i ∷ code) h b c = called_known p results f
 -- what stands at an address is told so that code can stand: registers, scratch memory and the work bytes are code's own,
 -- and objects in either bank, the stack and initial bytes are told to be such
 pub record HasKinds (p : PlainProgram) (m : Map) (asm : AsmProgram) (l : Located) (kind table : ℕ → Kind) : Type 0 where
-  pub registers : (a : ℕ) → is_core_register Small a ≡ true → is_hidden a ≡ false → kind a ≡ Own
+  pub page : has_rampz m.core ≡ true → kind 0x5B ≡ Page
+  pub registers : (a : ℕ) → is_core_register m.core a ≡ true → is_hidden a ≡ false → is_rampz m.core a ≡ false → kind a ≡ Own
   pub objects : (a i : ℕ) (o : PlainObject) (q : Place) → IsByteOf p l Data a i o q → IsAddressable o.storage → kind a ≡ Object
   pub scratch : (f frame at a : ℕ) → slice_get asm.frames.items f ≡ Some frame → slice_get l.frames.items f ≡ Some at
       → at ≤ a → a < at + frame_size frame → kind a ≡ Own
   pub work : (a : ℕ) → l.work ≤ a → a < l.work + 64 → kind a ≡ Own
   pub stack : (a : ℕ) → m.stack.first ≤ a → a < end_of m.stack → kind a ≡ Stacked
-  pub initials : (a : ℕ) → a < 32768 → is_of_initials p.structs p.objects (layout_by p m asm).initials a ≡ true
+  pub initials : (a : ℕ) → a < size_of_flash m.core → is_of_initials p.structs p.objects (layout_by p m asm).initials a ≡ true
       → is_held (table a) ≡ true
-  pub tables : (a i : ℕ) (o : PlainObject) (q : Place) → a < 32768 → IsByteOf p l Flash a i o q → table a ≡ Object
+  pub tables : (a i : ℕ) (o : PlainObject) (q : Place) → a < size_of_flash m.core → IsByteOf p l Flash a i o q → table a ≡ Object
 
 module _ (laws : PlacedLaws) (p : PlainProgram) (m : Map) (asm : AsmProgram) (l : Located) (h : IsTranslated p m asm l)
     (kind table : ℕ → Kind) (are : HasKinds p m asm l kind table) where
@@ -285,23 +289,25 @@ module _ (laws : PlacedLaws) (p : PlainProgram) (m : Map) (asm : AsmProgram) (l 
       let z = place_is o d is in
       subst (λ n. Names p asm l o n (size d)) (sym (offset_is o z.0 z.1)) (an_object o d z.0 is home z.1)
 
-  stands_in : (o : ℕ) (d : PlainObject) → slice_get p.objects o ≡ Some d → bank_of d.home ≡ Data → StandsIn d.storage (place_of l o) (size d)
+  stands_in : (o : ℕ) (d : PlainObject) → slice_get p.objects o ≡ Some d → bank_of d.home ≡ Data
+      → StandsIn m.core d.storage (place_of l o) (size d)
   stands_in o d is home =
       let z = place_is o d is in
-      subst (λ n. StandsIn d.storage n (size d)) (sym (offset_is o z.0 z.1)) (stand.objects o d z.0 is home z.1)
+      subst (λ n. StandsIn m.core d.storage n (size d)) (sym (offset_is o z.0 z.1)) (stand.objects o d z.0 is home z.1)
 
-  ends : (s : PlainStorage) (at n : ℕ) → StandsIn s at n → at + n ≤ 2304
+  ends : (s : PlainStorage) (at n : ℕ) → StandsIn m.core s at n → at + n ≤ data_size m.core
   ends (static inits) at n i = i.1
   ends (local f) at n i = i.1
   ends (param f) at n i = i.1
-  ends (register first) at n i = let u = i.2 in let v = i.0 in omega (arith, u, v)
+  ends (register first) at n i = let u = i.2 in let v = i.0 in let high = data_high m.core in omega (arith, u, v, high)
 
   -- an object in memory
-  in_memory : (o : ℕ) (d : PlainObject) → slice_get p.objects o ≡ Some d → bank_of d.home ≡ Data → IsInMemory (place_of l o) (size d)
+  in_memory : (o : ℕ) (d : PlainObject) → slice_get p.objects o ≡ Some d → bank_of d.home ≡ Data
+      → IsInMemory m.core (place_of l o) (size d)
       → ((a : ℕ) → place_of l o ≤ a → a < place_of l o + size d → kind a ≡ Object) → StandsInMemory e o (size d) (place_of l o)
   in_memory o d is home i kind = record {
     high = i.0;
-    end = let low = i.1 in omega (arith, low);
+    end = let low = i.1 in let most = data_low m.core in omega (arith, low, most);
     at = λ k less. stand.address o (place_of l o) (size d) k (names o d is home) less;
     kind = λ k less. kind (place_of l o + k) (omega arith) (omega (arith, less));
   }
@@ -323,7 +329,7 @@ module _ (laws : PlacedLaws) (p : PlainProgram) (m : Map) (asm : AsmProgram) (l 
         let z = object_kind o d is home a from below in
         are.objects a o d z.0 (record { object = is; home = home; place = z.1.0; from_there = z.1.1; within = z.1.2 }) named
 
-    by_storage : (s : PlainStorage) → d.storage ≡ s → StandsIn s (place_of l o) (size d) → ObjectStands e o (size d) (place_of l o) s
+    by_storage : (s : PlainStorage) → d.storage ≡ s → StandsIn m.core s (place_of l o) (size d) → ObjectStands e o (size d) (place_of l o) s
     by_storage (static inits) s i = in_memory o d is home i (kind_there (rw s tt))
     by_storage (local f) s i = in_memory o d is home i (kind_there (rw s tt))
     by_storage (param f) s i = in_memory o d is home i (kind_there (rw s tt))
@@ -338,23 +344,27 @@ module _ (laws : PlacedLaws) (p : PlainProgram) (m : Map) (asm : AsmProgram) (l 
       (z.0, (sym (offset_is o z.0 z.1), record { is_object = is; home = home; is_place = z.1 }))
 
   flash_ends : (o : ℕ) (d : PlainObject) → slice_get p.objects o ≡ Some d → bank_of d.home ≡ Flash
-      → (0 < place_of l o) × (place_of l o + size d ≤ 32768)
+      → (0 < place_of l o) × (place_of l o + size d ≤ home_end d.home m.core)
   flash_ends o d is home =
       let z = in_flash o d is home in
-      subst (λ n. (0 < n) × (n + size d ≤ 32768)) z.1.0 (flash_stand.objects o d z.0 z.1.1)
+      subst (λ n. (0 < n) × (n + size d ≤ home_end d.home m.core)) z.1.0 (flash_stand.objects o d z.0 z.1.1)
 
-  table_stands : (o : ℕ) (d : PlainObject) → slice_get p.objects o ≡ Some d → bank_of d.home ≡ Flash → StandsInFlash e o (size d) (place_of l o)
+  table_stands : (o : ℕ) (d : PlainObject) → slice_get p.objects o ≡ Some d → bank_of d.home ≡ Flash
+      → StandsInFlash e d.home o (size d) (place_of l o)
   table_stands o d is home =
       let z = in_flash o d is home in
       let at = z.1.0 in
       let some = (flash_ends o d is home).0 in
       let within = (flash_ends o d is home).1 in
+      let below = home_below d.home m.core home in
+      let least = home_in_flash d.home m.core home in
       record {
         some = some;
-        end = omega (arith, within);
-        at = λ k less. flash_stand.address o d z.0 k z.1.1 less ∙ ap (λ n. n + k) at;
+        end = omega (arith, within, below);
+        at = λ k less. flash_stand.address o d z.0 k z.1.1 less ∙ ap (λ n. (n + k) % 65536) at;
+        far = λ large k less. flash_stand.far o d z.0 k z.1.1 less ∙ ap (λ n. n + k) at;
         kind = λ k less.
-            are.tables (place_of l o + k) o d z.0 (omega (arith, within, less))
+            are.tables (place_of l o + k) o d z.0 (omega (arith, within, least, less))
             (record { object = is; home = home; place = z.1.1.is_place; from_there = omega (arith, at); within = omega (arith, at, less) });
       }
 
@@ -369,11 +379,18 @@ module _ (laws : PlacedLaws) (p : PlainProgram) (m : Map) (asm : AsmProgram) (l 
       (flash_stand.apart o k d x y.0 z.0 other y.1.1 z.1.1)))
 
   -- an object of either bank ends below this address
-  ends_low : (o : ℕ) (d : PlainObject) → slice_get p.objects o ≡ Some d → place_of l o + size d ≤ 32768
+  pub ends_low : (o : ℕ) (d : PlainObject) → slice_get p.objects o ≡ Some d → place_of l o + size d ≤ 131072
   ends_low o d is = by_home (bank_of d.home) refl where
-    by_home : (bank : Bank) → bank_of d.home ≡ bank → place_of l o + size d ≤ 32768
-    by_home Data home = let low = ends d.storage (place_of l o) (size d) (stands_in o d is home) in omega (arith, low)
-    by_home Flash home = (flash_ends o d is home).1
+    by_home : (bank : Bank) → bank_of d.home ≡ bank → place_of l o + size d ≤ 131072
+    by_home Data home =
+        let low = ends d.storage (place_of l o) (size d) (stands_in o d is home) in
+        let most = data_low m.core in
+        omega (arith, low, most)
+    by_home Flash home =
+        let low = (flash_ends o d is home).1 in
+        let least = home_in_flash d.home m.core home in
+        let most = flash_low m.core in
+        omega (arith, low, least, most)
 
   -- ---- scratch memory
 
@@ -385,7 +402,7 @@ module _ (laws : PlacedLaws) (p : PlainProgram) (m : Map) (asm : AsmProgram) (l 
   -- a function without temporaries has none, and that of any other stands where it was placed
   record NoScratch (f : ℕ) (g : PlainIrFunction) : Type 0 where
     none : g.slots ≡ 0
-    at : scratch_of asm l f ≡ 2304
+    at : scratch_of asm l f ≡ data_size m.core
 
   record HasScratch (f : ℕ) (g : PlainIrFunction) : Type 0 where
     some : 1 ≤ g.slots
@@ -397,7 +414,7 @@ module _ (laws : PlacedLaws) (p : PlainProgram) (m : Map) (asm : AsmProgram) (l 
     by_slots : (n : ℕ) → slice_get asm.frames.items f ≡ Some n → n ≡ g.slots → NoScratch f g ⊎ HasScratch f g
     by_slots zero frame same =
         let read = get_or_from_slice_get asm.frames.items f 0 0 frame in
-        inl (record { none = sym same; at = rw (eq-eqb (slice_index asm.frames.items f) 0 read) refl })
+        inl (record { none = sym same; at = rw (eq-eqb (slice_index asm.frames.items f) 0 read) (ap data_size h.located.core) })
     by_slots (suc n) frame same =
         let read = get_or_from_slice_get asm.frames.items f (suc n) 0 frame in
         let there =
@@ -418,9 +435,9 @@ module _ (laws : PlacedLaws) (p : PlainProgram) (m : Map) (asm : AsmProgram) (l 
   scratch_names f g s = scratch f g.slots (scratch_of asm l f) s.frame s.there
 
   scratch_memory : (f : ℕ) (g : PlainIrFunction) → slice_get q.functions f ≡ Some g
-      → (256 ≤ scratch_of asm l f) × (scratch_of asm l f + 16 * g.slots ≤ 2304)
+      → (256 ≤ scratch_of asm l f) × (scratch_of asm l f + 16 * g.slots ≤ data_size m.core)
   scratch_memory f g is =
-      ⊎_elim (λ s. let n = s.none in let a = s.at in (omega (arith, n, a), omega (arith, n, a)))
+      ⊎_elim (λ s. let n = s.none in let a = s.at in let high = data_high m.core in (omega (arith, n, a, high), omega (arith, n, a)))
       (λ s. let i = stand.frames f g.slots (scratch_of asm l f) s.frame s.there in (i.0, i.1)) (scratch_is f g is)
 
   scratch_stands : (f : ℕ) (g : PlainIrFunction) → slice_get q.functions f ≡ Some g
@@ -502,7 +519,7 @@ module _ (laws : PlacedLaws) (p : PlainProgram) (m : Map) (asm : AsmProgram) (l 
       let low = scratch_memory k b kb in
       let mine = scratch_memory f a fa in
       ⊎_elim
-      (λ s. let n = s.none in nothing_apart (scratch_of asm l f) (16 * a.slots) (scratch_of asm l k) (16 * b.slots) s.at
+      (λ s. let n = s.none in nothing_apart (data_size m.core) (scratch_of asm l f) (16 * a.slots) (scratch_of asm l k) (16 * b.slots) s.at
       (omega (arith, n)) low.1)
       (λ s. apart_from (scratch_of asm l f) (16 * a.slots) (scratch_of asm l k) (16 * b.slots) (let n = s.some in omega (arith, n))
       (⊎_elim (λ t. let z = t.at in inl (omega (arith, z, mine.1)))
@@ -539,7 +556,7 @@ module _ (laws : PlacedLaws) (p : PlainProgram) (m : Map) (asm : AsmProgram) (l 
       → Apart (scratch_of asm l f) (16 * g.slots) l.work 64
   work_apart f g is =
       ⊎_elim
-      (λ s. let n = s.none in let w = stand.work.1 in nothing_apart (scratch_of asm l f) (16 * g.slots) l.work 64 s.at (omega (arith, n)) w)
+      (λ s. let n = s.none in let w = stand.work.1 in nothing_apart (data_size m.core) (scratch_of asm l f) (16 * g.slots) l.work 64 s.at (omega (arith, n)) w)
       (λ s. apart_from (scratch_of asm l f) (16 * g.slots) l.work 64 (let n = s.some in omega (arith, n))
       (stand.apart (1024 + f) 1280 (scratch_of asm l f) l.work (16 * g.slots) 64 (λ z. let b = few_functions f g is in omega (arith, z, b))
       (scratch_and_work p h.valid.object_count f h.valid.function_count) (scratch_names f g s) work))
@@ -566,24 +583,26 @@ module _ (laws : PlacedLaws) (p : PlainProgram) (m : Map) (asm : AsmProgram) (l 
       values_in_flash y o d.home home ∙ ap (λ ps. unwrap_or (option_map (λ z. z.offset) (slice_get ps o)) 0) (sym h.located.places)
 
   initial_room : (o : ℕ) (d : PlainObject) → slice_get p.objects o ≡ Some d → has_initial_bytes d.storage d.home ≡ true
-      → slice_index y.initials o + size d ≤ 32768
+      → slice_index y.initials o + size d ≤ home_end FlashHome m.core
   initial_room o d is has =
       let k = is_kept d.storage d.home has in
       let s = kept_stand o d is k in
-      let n = s.size in
       let at = kept_at o d k.in_data in
-      let w = s.stand.within in
-      let f = flash_length p m asm l h.located in
-      omega (arith, n, w, f, at)
+      let ends_there = s.ends (home_in_data d.home k.in_data) in
+      omega (arith, at, ends_there)
 
   initial_is : (o : ℕ) (d : PlainObject) → slice_get p.objects o ≡ Some d → has_initial_bytes d.storage d.home ≡ true
       → initial_at e o ≡ slice_index y.initials o
-  initial_is o d is has = let r = initial_room o d is has in index_of_initials y (last_of m) o (omega (arith, r))
+  initial_is o d is has =
+      let r = initial_room o d is has in
+      let low = tables_low m.core in
+      index_of_initials y (last_of m) o (omega (arith, r, low))
 
   initial_table : (o : ℕ) (d : PlainObject) → slice_get p.objects o ≡ Some d → has_initial_bytes d.storage d.home ≡ true
       → (k : ℕ) → k < size d → is_held (table (initial_at e o + k)) ≡ true
   initial_table o d is has k less =
       let room = initial_room o d is has in
+      let least = home_in_flash FlashHome m.core refl in
       let there =
       initial_there p.structs m.places.items p.objects m.tables.first
       (m.tables.first + flash_sizes (entries m.places.items p)) o d is in
@@ -592,7 +611,7 @@ module _ (laws : PlacedLaws) (p : PlainProgram) (m : Map) (asm : AsmProgram) (l 
       initial_byte p.structs p.objects y.initials (slice_index y.initials o + k) o d there.0 is there.1 has (omega (arith, at))
       (omega (arith, at, less)) in
       subst (λ n. is_held (table (n + k)) ≡ true) (sym (initial_is o d is has))
-      (are.initials (slice_index y.initials o + k) (omega (arith, room, less)) told)
+      (are.initials (slice_index y.initials o + k) (omega (arith, room, least, less)) told)
 
   -- ---- the value of a leaf
 
@@ -631,7 +650,7 @@ module _ (laws : PlacedLaws) (p : PlainProgram) (m : Map) (asm : AsmProgram) (l 
             (local_at m rows (entries_by m p)) 0 o d z.0 is
             (subst (λ ps. slice_get ps o ≡ Some z.0) h.located.places z.1) static_there;
         at = offset_is o z.0 z.1;
-        room = omega (arith, low);
+        room = low;
       }
 
   -- the bytes of an initial value are those that code has for it
@@ -684,7 +703,11 @@ module _ (laws : PlacedLaws) (p : PlainProgram) (m : Map) (asm : AsmProgram) (l 
 
   initials : InitialsStand q e (place_of l)
   initials = record {
-    room = λ o d is has. let r = initial_room o d is has in let a = initial_is o d is has in omega (arith, r, a);
+    room = λ o d is has.
+        let r = initial_room o d is has in
+        let a = initial_is o d is has in
+        let low = tables_low m.core in
+        omega (arith, r, a, low);
     table = initial_table;
     values = λ leaf x u there has.
         let s = starts_with Data leaf x u there has in
@@ -710,7 +733,8 @@ module _ (laws : PlacedLaws) (p : PlainProgram) (m : Map) (asm : AsmProgram) (l 
   last_is : last_of m % 65536 ≡ m.stack.first + m.stack.size - 1
   last_is =
       let ends = h.map.regions_valid.stack.ends in
-      omega (arith, ends)
+      let most = data_low m.core in
+      omega (arith, ends, most)
 
   known : (f : ℕ) → f < length p.functions → (x : PlainFunction) × (slice_get p.functions f ≡ Some x)
   known f less = there_is p.functions f less
@@ -749,8 +773,8 @@ module _ (laws : PlacedLaws) (p : PlainProgram) (m : Map) (asm : AsmProgram) (l 
   stack : StackStands q e m.stack.first
   stack = record {
     pointer = record {
-      low = are.registers 0x5D refl refl;
-      high = are.registers 0x5E refl refl;
+      low = are.registers 0x5D refl refl refl;
+      high = are.registers 0x5E refl refl refl;
       room = omega arith;
     };
     high = h.map.regions_valid.stack.from_there;
@@ -771,7 +795,7 @@ module _ (laws : PlacedLaws) (p : PlainProgram) (m : Map) (asm : AsmProgram) (l 
   pub record IsCopied (o : ℕ) (d : PlainObject) : Type 0 where
     pub from : e.address_of (2048 + o) 0 ≡ slice_index y.initials o
     pub to : e.address_of o 0 ≡ place_of l o
-    pub room : slice_index y.initials o + size d ≤ 32768
+    pub room : slice_index y.initials o + size d ≤ home_end FlashHome m.core
     pub high : 256 ≤ place_of l o
     pub kinds : (k : ℕ) → k < size d → kind (place_of l o + k) ≡ Object
 
@@ -837,13 +861,13 @@ module _ (laws : PlacedLaws) (p : PlainProgram) (m : Map) (asm : AsmProgram) (l 
     begin = long.begin;
     end = long.end;
     stands = long.stands;
-    flash = let n = flash_length p m asm l h.located in omega (arith, n);
+    flash = let n = flash_length p m asm l h.located in let low = flash_low m.core in omega (arith, n, low);
   }
 
   pub laid_out : AreLaidOut p m h.selected asm l e
   unfolding code long
   laid_out = record {
-    laid = record { code = code; memory = memory; work = work_laid_out; initials = initials; tables = tables_stand; stack = stack };
+    laid = record { code = code; memory = memory; work = work_laid_out; initials = initials; tables = tables_stand; stack = stack; page = λ large. are.page (ap has_rampz large) };
     sets = long.sets;
   }
 
@@ -863,13 +887,14 @@ placed_has_kinds : (p : PlainProgram) (m : Map) (asm : AsmProgram) (l : Located)
 placed_has_kinds p m asm l are = record {
   tables = λ a i o q low b.
       let there = object_there Flash p.structs p.objects l.places.items a i o q b.object b.place b.home b.from_there b.within in
-      rw (lt-ltb a 32768 low, there) refl;
+      rw (lt-ltb a (size_of_flash m.core) low, there) refl;
+  page = are.page;
   registers = are.registers;
   objects = are.objects;
   scratch = are.scratch;
   work = are.work;
   stack = are.stack;
-  initials = λ a low told. rw (lt-ltb a 32768 low, told) (held (is_of_objects Flash p.structs p.objects l.places.items a));
+  initials = λ a low told. rw (lt-ltb a (size_of_flash m.core) low, told) (held (is_of_objects Flash p.structs p.objects l.places.items a));
 } where
   held : (b : Bool) → is_held (if b then Object else Own) ≡ true
   held true = refl

@@ -1,3 +1,4 @@
+mod Ends
 mod Live
 mod ByAddress
 mod Numbers

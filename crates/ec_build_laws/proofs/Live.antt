@@ -1,6 +1,6 @@
 -- What two numbers of a placed program name can be live at one moment.
-use Rattle.std.proofs.Common.{◌≡◌, inl, inr, ◌+◌, ◌<◌, ◌≤◌, ℕ, length, subst, sym, arith}
-use Rattle.std.specs.Prelude.{IsSomeAnd, slice_get}
+use Rattle.std.proofs.Common.{◌≡◌, inl, inr, ◌+◌, ◌<◌, ◌≤◌, ℕ, length, subst, arith}
+use Rattle.std.specs.Prelude.{IsSomeAnd}
 use Rattle.std.proofs.lemmas.Option.{slice_get_past}
 use Rattle.ec_check_recursion.specs.Rows.{rows_of_program, LeadsTo}
 use Rattle.ec_core.specs.Plain.{PlainObject, PlainProgram}

@@ -1,5 +1,5 @@
 -- Pointers as initial values.
-use Rattle.std.proofs.Common.{◌≡◌, inl, inr, ℕ, ◌+◌, ◌%◌, ◌^◌, ◌<◌, ◌≤◌, pos, Option, Some, refl, sym, ap, ◌∙◌, subst}
+use Rattle.std.proofs.Common.{◌≡◌, inl, inr, ℕ, ◌+◌, ◌%◌, ◌^◌, ◌≤◌, pos, Option, Some, refl, sym, ap, ◌∙◌, subst}
 use Rattle.std.proofs.Common.{arith}
 use Rattle.std.specs.Prelude.{IsTrue, slice_get}
 use native.Mathlib.Nat.{zero-mod}
@@ -34,7 +34,7 @@ width_is Generic = inr refl
 -- the number in the bytes of an initial value is the one of code
 number_by_bank : (space : SpaceId) (bank : Bank) (p : PlainProgram) (place : ℕ → ℕ) (o offset at : ℕ) → IsTrue (reaches space bank)
     → home_of p o ≡ bank
-    → place o ≡ at → at + offset < 65536
+    → place o ≡ at → at + offset ≤ 131072
     → pointer_to space (Some (record { bank = bank; offset = at })) offset % 256 ^ width space
     ≡ address_number p place (width space) o offset
 number_by_bank Flash FlashBank p place o offset at in_space home there low = rw there (let n = at + offset in omega arith)
@@ -63,7 +63,7 @@ pub record StandsAt (p : PlainProgram) (place : ℕ → ℕ) (o : ℕ) (declared
   pub is_there : q ≡ Some there
   pub bank : there.bank ≡ bank_of declared.home
   pub at : place o ≡ there.offset
-  pub room : place o + size_of_type p.structs declared.ty < 65536
+  pub room : place o + size_of_type p.structs declared.ty ≤ 131072
 
 pub address_held : (p : PlainProgram) (place : ℕ → ℕ) (space : SpaceId) (o offset : ℕ) (d : PlainObject) (q : Option Place)
     (f : ℕ → ℕ) (a : ℕ) (s : StandsAt p place o d q) → IsTrue (holds space d.home) → offset ≤ size_of_type p.structs d.ty
@@ -87,27 +87,33 @@ address_held p place space o offset d q f a s in_space within bytes =
           within = within;
         };
         size = width_is space;
+        of = record { space = space; home = in_space; bytes = refl };
       },
     )
 
 -- ---- what is told of initial values
 
-address_is_low : (p : PlainProgram) (place : ℕ → ℕ) (n o offset : ℕ) → IsPointerSize n
+address_is_low : (p : PlainProgram) (place : ℕ → ℕ) (n o offset : ℕ) → place o + offset ≤ 131072 → IsPointerSize n
     → low_bytes n (pos (address_number p place n o offset)) ≡ address_number p place n o offset
-address_is_low p place n o offset (inl q) =
+address_is_low p place n o offset low (inl q) =
     subst (λ k. low_bytes k (pos (address_number p place k o offset)) ≡ address_number p place k o offset) (sym q)
     (let x = place o + offset in omega arith)
-address_is_low p place n o offset (inr q) =
+address_is_low p place n o offset low (inr q) =
     subst (λ k. low_bytes k (pos (address_number p place k o offset)) ≡ address_number p place k o offset) (sym q)
     (by_bank (home_of p o) refl) where
       by_bank : (bank : Bank) → home_of p o ≡ bank
           → low_bytes 3 (pos (address_number p place 3 o offset)) ≡ address_number p place 3 o offset
-      by_bank FlashBank home = rw home (let x = place o + offset in omega arith)
-      by_bank DataBank home = rw home (let x = place o + offset in omega arith)
+      by_bank FlashBank home = rw home (let x = place o + offset in omega (arith, low))
+      by_bank DataBank home = rw home (let x = place o + offset in omega (arith, low))
 
 pub initial_is_told : (p : PlainProgram) (place : ℕ → ℕ) (f : ℕ → ℕ) (a n : ℕ) (init : LeafInit)
+    → ((o : ℕ) (d : PlainObject) → slice_get p.objects o ≡ Some d → place o + size_of_type p.structs d.ty ≤ 131072)
     → HoldsLeaf p place f a n (initial_value init)
     → value f a n ≡ low_bytes n (number_told p place n init)
-initial_is_told p place f a n (Number i) h = h
-initial_is_told p place f a n Null h = h ∙ sym (zero-mod (256 ^ n))
-initial_is_told p place f a n (Address o offset) h = h.0 ∙ sym (address_is_low p place n o offset h.1.size)
+initial_is_told p place f a n (Number i) ends h = h
+initial_is_told p place f a n Null ends h = h ∙ sym (zero-mod (256 ^ n))
+initial_is_told p place f a n (Address o offset) ends h =
+    let at = h.1.pointed in
+    let end = ends o at.declared at.is_object in
+    let within = at.within in
+    h.0 ∙ sym (address_is_low p place n o offset (omega (arith, end, within)) h.1.size)

@@ -4,7 +4,6 @@ use Rattle.std.specs.Prelude.{Bool, ◌&&◌, IsTrue}
 use Rattle.std.specs.List.{AllByRecursion}
 use Rattle.ec_runs.specs.Behaviours.{Behaviour, Running as GoesOn, Ended as Ends, Failed, Reached, Reaches, IsWithin}
 use Rattle.ec_avr.specs.State.{is_port}
-use Rattle.ec_space.specs.declared.Core.TheVariants.{Small}
 use Rattle.ec_asm.specs.Change.{Env, Port}
 use Rattle.ec_core.specs.PortTable.{PlainTable, plain_table}
 use Rattle.ec_core.specs.State.{Event, In, Out, Read, Write}
@@ -26,8 +25,8 @@ abbrev pub StandAsPorts : Env → PlainTable → Type 0
 StandAsPorts e table = (a : ℕ) → IsPortByte table a → e.kind a ≡ Port
 
 -- those of a map are ports of the core
-pub ports_of_map : PortBytesPass → (m : Map) → ValidMap m → (a : ℕ) → IsPortByte (plain_table m.io) a → IsTrue (is_port Small a)
-ports_of_map pass m valid a is = pass m.io (is_port Small) valid.ports valid.writes a is
+pub ports_of_map : PortBytesPass → (m : Map) → ValidMap m → (a : ℕ) → IsPortByte (plain_table m.io) a → IsTrue (is_port m.core a)
+ports_of_map pass m valid a is = pass m.io (is_port m.core) valid.ports valid.writes a is
 
 module _ (e : Env) (table : PlainTable) (stand : StandAsPorts e table) where
   one : (event : Event) → AccessesPorts table event → is_on_port e event ≡ true

@@ -12,7 +12,6 @@ use Rattle.ec_avr.specs.Laws.{MachineIsRun}
 use Rattle.ec_avr.specs.Machine.{State, Inputs, Running, machine, IsReset}
 use Rattle.ec_avr.specs.Placed.{stack_bytes}
 use Rattle.ec_avr.specs.Runs.{MachineFault, preceded_by}
-use Rattle.ec_space.specs.declared.Core.TheVariants.{Small}
 use Rattle.ec_asm.specs.Behaves.{noted_run}
 use Rattle.ec_asm.specs.Change.{Env, Stacked, unbased}
 use Rattle.ec_asm.specs.Laws.{StackStaysInside}
@@ -36,11 +35,13 @@ use Rattle.ec_select_functions.specs.Kept.{meaning_on}
 use Rattle.ec_select_functions.specs.Laws.{within_steps, HoldsUnlessFailed}
 use Rattle.ec_select_functions.specs.Relation.{accesses}
 use Rattle.ec_select.specs.Laws.{SelectionsRun}
+use Rattle.ec_select.specs.Selected.{IsSelection}
 use Rattle.ec_build_laws.specs.Kinds.{placed, place_of, scratch_of}
 use Rattle.ec_build_laws.specs.Laws.{KindsFit, AreLaidOut, PlacedAreLaidOut}
 use Rattle.ec_build_laws.specs.Runs.{view_of, Begins, RunsFromReset, ImagesRun, seen_source, is_within_work, RunsAsSource}
 use Rattle.ec_build_laws.specs.Runs.{ImagesRunAsSources}
 use Rattle.ec_build_laws.specs.Translation.{IsTranslated}
+use Rattle.ec_build_laws.proofs.Ends.{data_low}
 use Rattle.ec_build_laws.proofs.Begun.{before_running, preceded_twice, behind, silent_first, BeginLaws, begins}
 use Rattle.ec_build_laws.proofs.Guarded.{GuardLaws, are_kinds}
 use Rattle.ec_build_laws.proofs.Ports.{StandAsPorts, reaches_on, within_on, ports_of_map}
@@ -53,8 +54,8 @@ pub record ImageLaws : Type 0 where
   pub run : SelectionsRun
 
 reset_shows : (p : PlainProgram) (m : Map) (asm : AsmProgram) (l : Located) (e : Env) (s : State) (inputs : Inputs)
-    → IsTranslated p m asm l → l.image.bytes.items ≡ e.flash → Small ≡ e.core → IsReset l.image.core l.image.bytes.items s → GiveBytes inputs
-    → Shows (unbased e) 2304 s.core s.mem (view_of s inputs)
+    → IsTranslated p m asm l → l.image.bytes.items ≡ e.flash → m.core ≡ e.core → IsReset l.image.core l.image.bytes.items s → GiveBytes inputs
+    → Shows (unbased e) (data_size m.core) s.core s.mem (view_of s inputs)
 reset_shows p m asm l e s inputs h flash core reset give = record {
   same = reset.same ∙ h.located.core ∙ core;
   flash = reset.flash ∙ flash;
@@ -62,6 +63,7 @@ reset_shows p m asm l e s inputs h flash core reset give = record {
   bytes = reset.bytes;
   at = refl;
   flags = refl;
+  page = refl;
   feeds = give;
   base = λ l. absurd (omega (arith, l));
 }
@@ -70,15 +72,18 @@ reset_shows p m asm l e s inputs h flash core reset give = record {
 pub runs_as_operations : LoweredIsMadeOf → SelectionsRun → BeginLaws
     → (p : PlainProgram) (m : Map) (asm : AsmProgram) (l : Located) (e : Env) (s : State) (inputs : Inputs)
     → (h : IsTranslated p m asm l) → IsReset l.image.core l.image.bytes.items s → GiveBytes inputs → l.image.bytes.items ≡ e.flash
-    → Small ≡ e.core → Fits e 2304 → AreLaidOut p m h.selected asm l e → RunsFromReset p m l e s inputs
+    → m.core ≡ e.core → Fits e (data_size m.core) → AreLaidOut p m h.selected asm l e → RunsFromReset p m l e s inputs
 runs_as_operations made selections laws p m asm l e s inputs h reset give flash core fit are =
     let word = are.laid.code.begin in
-    let b = begins laws e word fit s inputs give (reset_shows p m asm l e s inputs h flash core reset give) reset.begin are.sets in
+    let low = data_low m.core in
+    let small : data_size m.core < 65536 = omega (arith, low) in
+    let b = begins laws e (data_size m.core) word fit s inputs give (reset_shows p m asm l e s inputs h flash core reset give) reset.begin are.sets in
     record {
       word = word;
       begins = b;
-      runs = selections (lowered p (plain_table m.io)) h.selected e (place_of l) (scratch_of asm l) 2304 m.stack.first b.first
-          (view_of b.first inputs) inputs (made p m.io h.valid h.groups).valid h.code h.selection fit (omega arith) b.shows (λ port. refl)
+      runs = selections (lowered p (plain_table m.io)) h.selected e (place_of l) (scratch_of asm l) (data_size m.core) m.stack.first b.first
+          (view_of b.first inputs) inputs (made p m.io h.valid h.groups).valid h.code
+          (subst (λ c. IsSelection c (lowered p (plain_table m.io)) h.selected) core h.selection) fit small b.shows (λ port. refl)
           are.laid b.at;
     }
 
@@ -108,11 +113,12 @@ holds_within (Ends es result) (Ends fs other) t w h = h
 holds_within (Ends es result) (Failed point) t w h = absurd w
 
 -- what the steps before main push and pop, behind those that set Y
-stacked_behind : StackStaysInside → (e : Env) (word steps : ℕ) (s : State) (inputs : Inputs) → Fits e 2304 → (b : Begins e word s inputs)
+stacked_behind : StackStaysInside → (e : Env) (size word steps : ℕ) (s : State) (inputs : Inputs) → Fits e size
+    → (b : Begins e size word s inputs)
     → is_safe (run e steps (AtWord b.first.pc (view_of b.first inputs))) ≡ true
     → (k : ℕ) (before : List Access) (t : State) → k < b.steps + steps → machine k inputs s ≡ Running before t
     → All (λ at. e.kind at ≡ Stacked) (stack_bytes t)
-stacked_behind inside e word steps s inputs fit b safe k before t less ran =
+stacked_behind inside e size word steps s inputs fit b safe k before t less ran =
     ⊎_elim (λ early. b.stacked k before t early ran) in_code (cases_lt k b.steps)
   where
     in_code : b.steps ≤ k → All (λ at. e.kind at ≡ Stacked) (stack_bytes t)
@@ -122,12 +128,12 @@ stacked_behind inside e word steps s inputs fit b safe k before t less ran =
         let there : preceded_by b.trace (machine j inputs b.first) ≡ Running before t =
         sym (b.ran j) ∙ ap (λ n. machine n inputs s) (sym sum) ∙ ran in
         let rest = behind b.trace (machine j inputs b.first) before t there in
-        inside e 2304 steps j b.first t (view_of b.first inputs) rest.0 fit b.shows safe (omega (arith, less, late)) rest.1
+        inside e size steps j b.first t (view_of b.first inputs) rest.0 fit b.shows safe (omega (arith, less, late)) rest.1
 
 -- from what a machine shows of the operations, whatever is noted of it
 pub runs_as_source : LoweredFollows → MachineIsRun → SourcesAccessPorts → StackStaysInside
     → (p : PlainProgram) (m : Map) (asm : AsmProgram) (l : Located) (e : Env)
-    (s : State) (inputs : Inputs) → IsTranslated p m asm l → GiveBytes inputs → Fits e 2304 → StandAsPorts e (plain_table m.io)
+    (s : State) (inputs : Inputs) → IsTranslated p m asm l → GiveBytes inputs → Fits e (data_size m.core) → StandAsPorts e (plain_table m.io)
     → RunsFromReset p m l e s inputs → RunsAsSource p m l e s inputs
 runs_as_source follows is_run on_ports inside p m asm l e s inputs h give fit stand from_reset =
     let b = from_reset.begins in
@@ -158,7 +164,7 @@ runs_as_source follows is_run on_ports inside p m asm l e s inputs h give fit st
           let sum : b.steps + r.shows.steps + k ≡ b.steps + (r.shows.steps + k) = omega arith in
           ap (λ n. machine n inputs s) sum ∙ b.ran (r.shows.steps + k) ∙ ap (preceded_by b.trace) (r.shows.on k)
           ∙ preceded_twice b.trace r.shows.trace (machine k inputs r.shows.main);
-      stacked = stacked_behind inside e from_reset.word r.shows.steps s inputs fit b r.shows.started;
+      stacked = stacked_behind inside e (data_size m.core) from_reset.word r.shows.steps s inputs fit b r.shows.started;
       calls = ap (λ z. b.trace ++ z) r.shows.calls ∙ sym (append_assoc b.trace r.shows.before (Stack ∷ []));
       copies = silent_first b.trace r.shows.before b.silent ∙ r.shows.copies;
       reaches = reached;

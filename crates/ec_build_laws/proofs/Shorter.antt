@@ -1,6 +1,6 @@
 -- Shortened code can be placed, and where it stands the code of the operations stands.
-use Rattle.std.proofs.Common.{◌≡◌, ℕ, zero, suc, ◌+◌, ◌*◌, ◌/◌, ◌%◌, ◌<◌, ◌≤◌, inl, inr, Bool, true, false, ◌&&◌, List, [], ◌∷◌}
-use Rattle.std.proofs.Common.{Option, Some, None, map, refl, sym, ap, ◌∙◌, subst, arith, zero-add}
+use Rattle.std.proofs.Common.{◌≡◌, ℕ, zero, suc, ◌+◌, ◌*◌, ◌/◌, ◌%◌, ◌<◌, inl, inr, Bool, true, false, ◌&&◌, List, [], ◌∷◌}
+use Rattle.std.proofs.Common.{Some, map, refl, sym, ap, ◌∙◌, subst, arith, zero-add}
 use Rattle.std.specs.Prelude.{nat_lt, if◌then◌else◌, slice_get}
 use Rattle.std.specs.List.{list_all}
 use Rattle.std.proofs.lemmas.Bool.{and_parts, ltb-true, false≢true}
@@ -21,7 +21,6 @@ use Rattle.ec_asm_based.specs.Laws.{AreReached, BasedCodeStands, NoMoreWords as 
 use Rattle.ec_asm_based.specs.declared.reach.Reach.{Reach}
 use Rattle.ec_asm_near.specs.Laws.{NearCodeStands, UsedLabelsHaveWords, NoMoreWords as NoMoreNear, ProgramsStayValid as NearStayValid}
 use Rattle.ec_asm_near.specs.Near.{near_items}
-use Rattle.ec_core.specs.Layout.{size_of_type}
 use Rattle.ec_core.specs.Plain.{PlainStruct, PlainStorage, static, local, param, register, PlainObject, PlainProgram}
 use Rattle.ec_core.specs.PortTable.{plain_table}
 use Rattle.ec_core.specs.Valid.{IsAddressable}
@@ -60,7 +59,7 @@ shortened_is_valid based near few_based few_near objects work reaches long short
 pub selected_is_valid : SelectionsAreValid → (p : PlainProgram) (m : Map) (asm : AsmProgram) (l : Located) → (h : IsTranslated p m asm l)
     → IsMadeOf p m.io (lowered p (plain_table m.io)) → ValidAsm (object_sizes p) 64 h.selected
 selected_is_valid selections p m asm l h made =
-    selections (lowered p (plain_table m.io)) h.selected made.valid h.code h.selection
+    selections m.core (lowered p (plain_table m.io)) h.selected made.valid h.code h.selection
 
 pub short_is_valid : ShortenedIsValid → SelectionsAreValid → (p : PlainProgram) (m : Map) (asm : AsmProgram) (l : Located)
     → IsTranslated p m asm l → IsMadeOf p m.io (lowered p (plain_table m.io)) → ValidAsm (object_sizes p) 64 asm

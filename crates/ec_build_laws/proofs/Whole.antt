@@ -6,6 +6,7 @@ use Rattle.std.specs.List.{AllByRecursion}
 use Rattle.std.proofs.lemmas.Bool.{ne_eqb}
 use Rattle.std.proofs.lemmas.Option.{slice_get-map}
 use Rattle.ec_runs.specs.Behaviours.{Behaviour, Running as GoesOn, Ended as Ends, Failed, Reached}
+use Rattle.ec_space.specs.Memory.{data_size}
 use Rattle.ec_space.specs.Spaces.{bank_of, holds}
 use Rattle.ec_space.specs.declared.space.Bank.{Bank}
 use Rattle.ec_space.specs.declared.space.Bank.TheVariants.{Data as DataBank}
@@ -60,7 +61,7 @@ use Rattle.ec_build_laws.specs.Whole.{ShowsWhole, ProgramsShowTheirSources}
 use Rattle.ec_build_laws.proofs.FromReset.{HasMeaning, meaning_before, quiet, reached, within, start_pushes, pushes}
 use Rattle.ec_build_laws.proofs.Guarded.{all_of}
 use Rattle.ec_build_laws.proofs.Kept.{frames_are_needs, kept_is_noted}
-use Rattle.ec_build_laws.proofs.Laid.{PlacedLaws, are_kinds_of, is_copied}
+use Rattle.ec_build_laws.proofs.Laid.{PlacedLaws, are_kinds_of, ends_low, is_copied}
 use Rattle.ec_build_laws.proofs.Copied.{are_copies}
 use Rattle.ec_build_laws.proofs.Pointers.{initial_is_told}
 use Rattle.ec_build_laws.proofs.Ports.{ports_of_map}
@@ -157,8 +158,9 @@ value_seen : (t : State) (a n : ℕ) → 256 ≤ a → value (bytes_of t.mem.dat
 value_seen t a zero high = refl
 value_seen t a (suc n) high =
     let before = value_seen t a n high in
-    let other = ne_eqb (a + n) 0x5F (λ q. omega (arith, q, high)) in
-    rw (before, other) refl
+    let page = ne_eqb (a + n) 0x5B (λ q. omega (arith, q, high)) in
+    let flags = ne_eqb (a + n) 0x5F (λ q. omega (arith, q, high)) in
+    rw (before, page, flags) refl
 
 -- ---- the whole
 
@@ -170,7 +172,7 @@ module _ (laws : WholeLaws) (p : PlainProgram) (m : Map) (asm : AsmProgram) (l :
   are : AreKinds p m asm l
   are = are_kinds_of laws.laid p m asm l h
 
-  fit : Fits e 2304
+  fit : Fits e (data_size m.core)
   fit = watched_fits p m asm l h.located h.bytes
 
   r : RunsAsSource p m l e s inputs
@@ -195,7 +197,7 @@ module _ (laws : WholeLaws) (p : PlainProgram) (m : Map) (asm : AsmProgram) (l :
   alike k has =
       kept_is_noted p m asm l are (frames_are_needs p m asm l h) (trace_of (machine k inputs r.main))
       (subst (λ f. AllByRecursion (IsAllowed e) (trace_of (machine k f r.main))) r.given
-      (laws.allowed e 2304 k k r.main r.view fit r.shown (safe_at k has) (omega arith)))
+      (laws.allowed e (data_size m.core) k k r.main r.view fit r.shown (safe_at k has) (omega arith)))
 
   in_region : (a : ℕ) → e.kind a ≡ Stacked → (m.stack.first ≤ a) × (a < end_of m.stack)
   in_region a q = are.stack_told a (watched_was p m asm l a Stacked q (λ z. cc))
@@ -249,11 +251,12 @@ module _ (laws : WholeLaws) (p : PlainProgram) (m : Map) (asm : AsmProgram) (l :
       let is : has_initial_bytes leaf.declared.storage leaf.declared.home ≡ true =
       rw (is_static, home_in_data leaf.declared.home leaf.home) refl in
       let high =
-      (is_copied laws.laid p m asm l h (watched_kinds p m asm l) watched_tables
+      (is_copied laws.laid p m asm l h (watched_kinds p m asm l) (watched_tables m)
       (watched_has_kinds p m asm l are) leaf.object leaf.declared leaf.is_object is).high in
       sym (value_seen r.main (place_of l leaf.object + leaf.at) leaf.bytes (omega (arith, high)))
       ∙ ap (λ f. value f (place_of l leaf.object + leaf.at) leaf.bytes) (sym r.shown.at)
       ∙ initial_is_told (data_of (lowered p (plain_table m.io))) (place_of l) r.view.at (place_of l leaf.object + leaf.at) leaf.bytes init
+      (ends_low laws.laid p m asm l h (watched_kinds p m asm l) (watched_tables m) (watched_has_kinds p m asm l are))
       (r.initials own (of leaf.declared) (initial_value init) there set)
 
   pub whole : ShowsWhole p m l s inputs

@@ -1,13 +1,14 @@
 -- What stands at each address of a placed program.
 use Rattle.std.specs.Prelude.{ℕ, ◌+◌, ◌==◌, nat_le, nat_lt, Bool, false, ◌&&◌, ◌||◌, if◌then◌else◌, List, [], ◌∷◌}
 use Rattle.std.specs.Prelude.{option_map, unwrap_or, slice_get, slice_index}
+use Rattle.ec_space.specs.Memory.{flash_size, data_size}
+use Rattle.ec_space.specs.declared.Core.{Core}
 use Rattle.ec_space.specs.declared.space.Bank.{Bank}
 use Rattle.ec_space.specs.declared.space.Bank.TheVariants.{Flash, Data}
 use Rattle.ec_space.specs.Spaces.{bank_of}
 use Rattle.ec_space.specs.declared.space.Place.{Place}
-use Rattle.ec_avr.specs.State.{is_core_register}
-use Rattle.ec_space.specs.declared.Core.TheVariants.{Small}
-use Rattle.ec_asm.specs.Change.{Env, Kind, Own, Object, Port, Stacked, Barred}
+use Rattle.ec_avr.specs.State.{has_rampz, is_core_register}
+use Rattle.ec_asm.specs.Change.{Env, Kind, Own, Object, Port, Stacked, Page, Barred}
 use Rattle.ec_asm.specs.declared.items.AsmProgram.{AsmProgram}
 use Rattle.ec_asm_based.specs.Based.{base_set}
 use Rattle.ec_core.specs.Layout.{size_of_type}
@@ -52,10 +53,15 @@ is_of_scratch (frame ∷ frames) (at ∷ ats) a = is_byte_of at (frame_size fram
 abbrev pub is_hidden : ℕ → Bool
 is_hidden a = a == 0x5F || (a == 28 || a == 29)
 
--- the other registers are code's own, also those that a program names, since their accesses are no events, and so is the
--- stack pointer
-abbrev pub register_kind : ℕ → Kind
-register_kind a = if is_hidden a then Barred else if is_core_register Small a then Own else Port
+-- the address of RAMPZ, on a core that has it
+abbrev pub is_rampz : Core → ℕ → Bool
+is_rampz core a = (a == 0x5B) && has_rampz core
+
+-- RAMPZ stands apart. The other registers are code's own, also those that a program names, since their accesses are no
+-- events, and so is the stack pointer
+abbrev pub register_kind : Core → ℕ → Kind
+register_kind core a =
+    if is_hidden a then Barred else if is_rampz core a then Page else if is_core_register core a then Own else Port
 
 abbrev pub memory_kind : PlainProgram → Map → AsmProgram → Located → ℕ → Kind
 memory_kind p m asm l a =
@@ -63,15 +69,16 @@ memory_kind p m asm l a =
     else if is_of_scratch asm.frames.items l.frames.items a || is_byte_of l.work 64 a then Own
     else if is_byte_of m.stack.first m.stack.size a then Stacked else Barred
 
--- what stands at each data address of the core `small`
+-- what stands at each data address of the core of a map
 abbrev pub kinds : PlainProgram → Map → AsmProgram → Located → ℕ → Kind
 kinds p m asm l a =
-    if nat_lt a 256 then register_kind a else if nat_lt a 2304 then memory_kind p m asm l a else Barred
+    if nat_lt a 256 then register_kind m.core a
+    else if nat_lt a (data_size m.core) then memory_kind p m asm l a else Barred
 
 -- and at each address of its flash, for loads
 abbrev pub tables : PlainProgram → Map → AsmProgram → Located → ℕ → Kind
 tables p m asm l a =
-    if nat_lt a 32768
+    if nat_lt a (flash_size m.core)
     then (if is_of_objects Flash p.structs p.objects l.places.items a then Object
     else if is_of_initials p.structs p.objects (layout_by p m asm).initials a then Own else Barred)
     else Barred
@@ -92,4 +99,5 @@ place_of l o = unwrap_or (option_map (λ q. q.offset) (slice_get l.places.items 
 -- The address of the scratch memory of each function. One that has no temporaries has none, which may stand behind all
 -- else
 abbrev pub scratch_of : AsmProgram → Located → ℕ → ℕ
-scratch_of asm l f = if slice_index asm.frames.items f == 0 then 2304 else slice_index l.frames.items f
+scratch_of asm l f =
+    if slice_index asm.frames.items f == 0 then data_size l.image.core else slice_index l.frames.items f

@@ -1,14 +1,16 @@
 -- The operations of a program have code.
-use Rattle.std.specs.Prelude.{ℕ, ◌≡◌, ◌≢◌, ◌⊎◌, ◌+◌, ◌/◌, ◌%◌, ◌<◌, ◌≤◌, false, IsTrue, Some, slice_get}
+use Rattle.std.specs.Prelude.{ℕ, ◌≡◌, ◌⊎◌, ◌+◌, ◌/◌, ◌%◌, ◌<◌, ◌≤◌, false, IsTrue, Some, slice_get}
 use Rattle.ec_space.specs.Bytes.{AreBytes}
+use Rattle.ec_space.specs.Memory.{data_size}
+use Rattle.ec_space.specs.declared.Core.{Core}
 use Rattle.ec_space.specs.declared.space.Bank.{Bank}
 use Rattle.ec_space.specs.declared.space.Bank.TheVariants.{Data}
 use Rattle.ec_space.specs.Spaces.{bank_of}
 use Rattle.ec_space.specs.declared.space.Place.{Place}
-use Rattle.ec_avr.specs.State.{is_core_register, is_port}
+use Rattle.ec_avr.specs.State.{has_rampz, is_core_register, is_port}
 use Rattle.ec_isa.specs.declared.instructions.Instr.TheVariants.{Ldi}
-use Rattle.ec_space.specs.declared.Core.TheVariants.{Small}
-use Rattle.ec_asm.specs.Change.{Env, unbased, Own, Object, Port, Stacked}
+use Rattle.ec_asm.specs.View.{is_apart}
+use Rattle.ec_asm.specs.Change.{Env, unbased, Own, Object, Port, Stacked, Page}
 use Rattle.ec_asm.specs.Items.{At}
 use Rattle.ec_asm.specs.Shows.{Fits}
 use Rattle.ec_asm.specs.Valid.{ValidAsm}
@@ -25,7 +27,7 @@ use Rattle.ec_locate.specs.Placing.{IsLocated, object_sizes}
 use Rattle.ec_locate.specs.declared.placing.Located.{Located}
 use Rattle.ec_lower_code.specs.Code.{lowered}
 use Rattle.ec_select.specs.LaidOut.{IsLaidOut}
-use Rattle.ec_build_laws.specs.Kinds.{is_hidden, kinds, placed, place_of, scratch_of}
+use Rattle.ec_build_laws.specs.Kinds.{is_hidden, is_rampz, kinds, placed, place_of, scratch_of}
 use Rattle.ec_build_laws.specs.Translation.{IsTranslated}
 use Rattle.ec_iohw.specs.declared.table.IoTable.{IoTable}
 use Rattle.ec_ir.specs.Operations.{PlainIrProgram}
@@ -52,20 +54,22 @@ pub record IsObjectByte (p : PlainProgram) (l : Located) (bank : Bank) (a : ℕ)
   pub place : Place
   pub is : IsByteOf p l bank a number object place
 
--- an address that is code's own: that of a register or of the stack pointer, or of a byte of scratch memory or of the
--- work bytes
-pub data IsOwnByte (asm : AsmProgram) (l : Located) : ℕ → Type 0 where
-  of_register : (a : ℕ) → IsTrue (is_core_register Small a) → a ≢ 0x5F → IsOwnByte asm l a
+-- an address that is code's own: that of a register of a core or of the stack pointer, or of a byte of scratch memory
+-- or of the work bytes
+pub data IsOwnByte (core : Core) (asm : AsmProgram) (l : Located) : ℕ → Type 0 where
+  of_register : (a : ℕ) → IsTrue (is_core_register core a) → is_apart a ≡ false → IsOwnByte core asm l a
   of_scratch : (a f frame at : ℕ) → slice_get asm.frames.items f ≡ Some frame → slice_get l.frames.items f ≡ Some at
-      → at ≤ a → a < at + frame_size frame → IsOwnByte asm l a
-  of_work : (a : ℕ) → l.work ≤ a → a < l.work + 64 → IsOwnByte asm l a
+      → at ≤ a → a < at + frame_size frame → IsOwnByte core asm l a
+  of_work : (a : ℕ) → l.work ≤ a → a < l.work + 64 → IsOwnByte core asm l a
 
--- Registers but Y's, scratch memory and work bytes are code's own, ports are ports, and the bytes of region `stack` are
--- the stack's. All bytes of objects are told to be such, but those of named registers. No other bytes are told to be any of
--- these
+-- RAMPZ is told to be it on a core that has it. Registers but that and Y's, scratch memory and work bytes are code's
+-- own, ports are ports, and the bytes of region `stack` are the stack's. All bytes of objects are told to be such, but
+-- those of named registers. No other bytes are told to be any of these
 pub record AreKinds (p : PlainProgram) (m : Map) (asm : AsmProgram) (l : Located) : Type 0 where
-  pub registers : (a : ℕ) → IsTrue (is_core_register Small a) → is_hidden a ≡ false → kinds p m asm l a ≡ Own
-  pub ports : (a : ℕ) → IsTrue (is_port Small a) → kinds p m asm l a ≡ Port
+  pub page : IsTrue (has_rampz m.core) → kinds p m asm l 0x5B ≡ Page
+  pub registers : (a : ℕ) → IsTrue (is_core_register m.core a) → is_hidden a ≡ false → is_rampz m.core a ≡ false
+      → kinds p m asm l a ≡ Own
+  pub ports : (a : ℕ) → IsTrue (is_port m.core a) → kinds p m asm l a ≡ Port
   pub objects : (a i : ℕ) (o : PlainObject) (q : Place) → IsByteOf p l Data a i o q → IsAddressable o.storage
       → kinds p m asm l a ≡ Object
   pub scratch : (f frame at a : ℕ) → slice_get asm.frames.items f ≡ Some frame → slice_get l.frames.items f ≡ Some at
@@ -73,8 +77,8 @@ pub record AreKinds (p : PlainProgram) (m : Map) (asm : AsmProgram) (l : Located
   pub work : (a : ℕ) → l.work ≤ a → a < l.work + 64 → kinds p m asm l a ≡ Own
   pub stack : (a : ℕ) → m.stack.first ≤ a → a < end_of m.stack → kinds p m asm l a ≡ Stacked
   pub object_told : (a : ℕ) → kinds p m asm l a ≡ Object → IsObjectByte p l Data a
-  pub own_told : (a : ℕ) → kinds p m asm l a ≡ Own → IsOwnByte asm l a
-  pub port_told : (a : ℕ) → kinds p m asm l a ≡ Port → IsTrue (is_port Small a)
+  pub own_told : (a : ℕ) → kinds p m asm l a ≡ Own → IsOwnByte m.core asm l a
+  pub port_told : (a : ℕ) → kinds p m asm l a ≡ Port → IsTrue (is_port m.core a)
   pub stack_told : (a : ℕ) → kinds p m asm l a ≡ Stacked → (m.stack.first ≤ a) × (a < end_of m.stack)
 
 abbrev pub KindsAreTold : Type 0
@@ -82,11 +86,11 @@ KindsAreTold =
     (p : PlainProgram) (m : Map) (asm : AsmProgram) (l : Located) → Valid p m.io → ValidMap m
     → ValidAsm (object_sizes p) 64 asm → IsLocated p m asm l → AreKinds p m asm l
 
--- they suit the data addresses and the flash of the core `small`
+-- they suit the data addresses and the flash of the map's core
 abbrev pub KindsFit : Type 0
 KindsFit =
     (p : PlainProgram) (m : Map) (asm : AsmProgram) (l : Located) → IsLocated p m asm l → AreBytes l.image.bytes.items
-    → Fits (placed p m asm l) 2304
+    → Fits (placed p m asm l) (data_size m.core)
 
 -- ---- the whole
 

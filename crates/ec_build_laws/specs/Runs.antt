@@ -1,6 +1,7 @@
 -- What a placed program does, from every reset state on.
 use Rattle.std.specs.Prelude.{ℕ, ◌≡◌, ◌+◌, ◌<◌, ◌≤◌, nat_le, Bool, true, ℤ, List, [], ◌∷◌, ◌++◌, sum_by, slice_index, All}
 use Rattle.std.specs.List.{AllByRecursion}
+use Rattle.ec_space.specs.Memory.{data_size}
 use Rattle.ec_runs.specs.Behaviours.{Behaviour, Reaches, IsWithin, seen_as}
 use Rattle.ec_avr.specs.declared.machine.Access.{Access}
 use Rattle.ec_avr.specs.declared.machine.Access.TheVariants.{Silent, Stack}
@@ -40,14 +41,15 @@ abbrev pub view_of : State → Inputs → View
 view_of s inputs = record {
   at = bytes_of s.mem.data;
   flags = flags_of (slice_index s.mem.data 0x5F);
+  page = slice_index s.mem.data 0x5B;
   inputs = inputs;
   seen = [];
   safe = true;
 }
 
--- In at most two steps, which are silent, the machine comes to a word where Y is as an environment tells. Up to there
--- the bytes that a step pushes or pops are the stack's
-pub record Begins (e : Env) (word : ℕ) (s : State) (inputs : Inputs) : Type 0 where
+-- In at most two steps, which are silent, a machine with so many data bytes comes to a word where Y is as an environment
+-- tells. Up to there the bytes that a step pushes or pops are the stack's
+pub record Begins (e : Env) (size word : ℕ) (s : State) (inputs : Inputs) : Type 0 where
   pub steps : ℕ
   pub few : steps ≤ 2
   pub trace : List Access
@@ -55,14 +57,14 @@ pub record Begins (e : Env) (word : ℕ) (s : State) (inputs : Inputs) : Type 0 
   pub first : State
   pub ran : (k : ℕ) → machine (steps + k) inputs s ≡ preceded_by trace (machine k inputs first)
   pub at : first.pc ≡ word
-  pub shows : Shows e 2304 first.core first.mem (view_of first inputs)
+  pub shows : Shows e size first.core first.mem (view_of first inputs)
   pub stacked : (k : ℕ) (before : List Access) (t : State) → k < steps → machine k inputs s ≡ Running before t
       → All (λ at. e.kind at ≡ Stacked) (stack_bytes t)
 
 -- from there on it does what the operations do, as long as they access none but ports of the machine
 pub record RunsFromReset (p : PlainProgram) (m : Map) (l : Located) (e : Env) (s : State) (inputs : Inputs) : Type 0 where
   pub word : ℕ
-  pub begins : Begins e word s inputs
+  pub begins : Begins e (data_size m.core) word s inputs
   pub runs : RunsAsOperations (lowered p (plain_table m.io)) (place_of l) e (view_of begins.first inputs) begins.first
       inputs
 
@@ -108,7 +110,7 @@ pub record RunsAsSource (p : PlainProgram) (m : Map) (l : Located) (e : Env) (s 
   pub reaches : Reaches (is_within_work p m.io inputs) (seen_source p m.io l inputs) (noted_run e inputs main)
   pub within : (k : ℕ) → IsWithin (seen_source p m.io l inputs k) (noted_run e inputs main k)
   pub view : View
-  pub shown : Shows e 2304 main.core main.mem view
+  pub shown : Shows e (data_size m.core) main.core main.mem view
   pub given : view.inputs ≡ inputs
   pub initials : HasInitials (data_of (lowered p (plain_table m.io))) (place_of l) view
   pub safe : (k : ℕ)

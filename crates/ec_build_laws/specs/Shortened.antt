@@ -11,7 +11,7 @@ use Rattle.ec_asm_based.specs.Based.{based_items}
 use Rattle.ec_asm_based.specs.declared.reach.Reach.{Reach}
 use Rattle.ec_asm_near.specs.Near.{near_items}
 use Rattle.ec_core.specs.Layout.{size_of_type}
-use Rattle.ec_core.specs.Plain.{PlainStruct, PlainStorage, static, local, param, register, PlainObject, PlainProgram}
+use Rattle.ec_core.specs.Plain.{PlainStruct, PlainStorage, register, PlainObject, PlainProgram}
 
 -- ---- what Y reaches
 

@@ -1,5 +1,6 @@
 -- What a machine shows from its reset on, beside the source.
 use Rattle.std.specs.Prelude.{ℕ, ◌≡◌, ◌⊎◌, ◌+◌, ◌<◌, ◌≤◌, ⊤, All, ℤ, List, [], ◌∷◌, ◌++◌}
+use Rattle.ec_space.specs.Memory.{data_size}
 use Rattle.ec_runs.specs.Behaviours.{Behaviour, Running as GoesOn, Ended as Ends, Failed, BeginWith}
 use Rattle.ec_avr.specs.declared.machine.Access.{Access}
 use Rattle.ec_avr.specs.declared.machine.Access.TheVariants.{In, Out, Stack}
@@ -97,7 +98,7 @@ pub record ShowsSource (p : PlainProgram) (m : Map) (asm : AsmProgram) (l : Loca
   pub copies : all_but_silent before ≡ all_accesses (placed p m asm l) (spans_of (lowered p (plain_table m.io)))
   pub quiet : ports_of start ≡ []
   pub view : View
-  pub shown : Shows (placed p m asm l) 2304 main.core main.mem view
+  pub shown : Shows (placed p m asm l) (data_size m.core) main.core main.mem view
   pub initials : HasInitials (data_of (lowered p (plain_table m.io))) (place_of l) view
   pub reached : (n : ℕ)
       → Comes p l (noted_all (placed p m asm l)) s inputs start n (start_steps p + work p (plain_table m.io) inputs n)

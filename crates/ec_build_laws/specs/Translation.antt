@@ -13,15 +13,15 @@ use Rattle.ec_locate.specs.declared.placing.Located.{Located}
 use Rattle.ec_select.specs.Selected.{HasCode, IsSelection}
 use Rattle.ec_build_laws.specs.Shortened.{reaches_of, IsShortened}
 
--- A valid program was lowered, its operations all have code, and this was shortened by the places of the program's
--- objects and placed by a map. The flash holds bytes, and so do the groups of the map
+-- A valid program was lowered, its operations all have code for the core of a map, and this was shortened by the places
+-- of the program's objects and placed by the map. The flash holds bytes, and so do the groups of the map
 pub record IsTranslated (p : PlainProgram) (m : Map) (asm : AsmProgram) (l : Located) : Type 0 where
   pub valid : Valid p m.io
   pub map : ValidMap m
   pub groups : GroupsHaveBytes m.io
   pub code : HasCode (lowered p (plain_table m.io))
   pub selected : AsmProgram
-  pub selection : IsSelection (lowered p (plain_table m.io)) selected
+  pub selection : IsSelection m.core (lowered p (plain_table m.io)) selected
   pub shortened : IsShortened (reaches_of p l.places.items) selected asm
   pub located : IsLocated p m asm l
   pub bytes : AreBytes l.image.bytes.items

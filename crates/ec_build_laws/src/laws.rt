@@ -32,7 +32,8 @@ pub fn shortened_code_is_valid()
 
 /// What stands at each data address of a placed program: registers but Y's, scratch memory and work bytes are code's own, the
 /// bytes of region `stack` are the stack's, and the bytes of objects are told to be such. No other bytes are told to be
-/// any of these. All of it suits the data addresses and the flash of the core `small`.
+/// any of these, and RAMPZ is told where the core has it. All of it suits the data addresses and the flash of the map's
+/// core.
 pub fn kinds_are_told()
     ensures told { KindsAreTold }
     ensures fit { KindsFit }

@@ -2,13 +2,15 @@
 use Rattle.std.proofs.Common.{◌≡◌, ◌+◌, ◌≤◌, ℕ, List, Some, None, refl, sym, ap, subst, inl, inr, ◌⊎◌, length}
 use Rattle.std.specs.Prelude.{Option, All}
 use Rattle.std.specs.FinMap.{get}
-use Rattle.ec_space.specs.declared.Core.TheVariants.{Small}
 use Rattle.ec_io.specs.Causes.{Rose, Counted}
 use Rattle.ec_io.specs.Disk.{Files, Disk}
 use Rattle.ec_io.specs.Views.{StoreView, store_view}
 use Rattle.ec_io.proofs.Counting.{counted_more}
 use Rattle.ec_emu.specs.Script.{AreKept, forms_of}
+use Rattle.ec_map.specs.declared.map.Map.{Map}
 use Rattle.ec_build.specs.Accepted.{IsAccepted}
+use Rattle.ec_build.specs.Builds.{IsBuilt}
+use Rattle.ec_build.specs.MapTexts.{IsMapText}
 use Rattle.ec_commands.specs.Runs.{HasScriptFault}
 use Rattle.ec_commands.specs.Shown.{KeepsAll, Told, IsPast, StopsReading}
 use Rattle.ec_commands.specs.Sources.{HoldTexts}
@@ -103,11 +105,11 @@ build_stops words first old new map lines sources (Build stop) inputs h =
 
 pub script_stops : (words : Words) (first : ℕ) (old new : StoreView) (lines : List ℕ) (b : Built) (stop : CommandError)
     → IsExecBuilt words first old.disk lines b
-    → (stop ≡ NoMemory) ⊎ HasScriptFault Small lines stop → StopsLoadingExec words first old new (Command stop)
+    → (stop ≡ NoMemory) ⊎ HasScriptFault b.map.core lines stop → StopsLoadingExec words first old new (Command stop)
 script_stops words first old new lines b stop from (inl e) = subst (λ s. StopsLoadingExec words first old new (Command s)) (sym e) tt
 script_stops words first old new lines b stop from (inr h) =
     subst (λ s. StopsLoadingExec words first old new (Command s)) (sym h.told)
-    (record { lines = lines; built = b; from = from; fault = subst (λ s. HasScriptFault Small lines s) h.told h })
+    (record { lines = lines; built = b; from = from; fault = subst (λ s. HasScriptFault b.map.core lines s) h.told h })
 
 pub before_run : (words : Words) (first : ℕ) (old new : StoreView) (stop : CompileStop) → words_from words first ≤ 16
     → StopsLoadingExec words first old new stop → StopsBeforeRun words first old new stop
@@ -156,16 +158,23 @@ read_accepted words first (Some disk) map lines sources accepted inputs =
 same_text : (found : Option (List ℕ)) (x y : List ℕ) → found ≡ Some x → found ≡ Some y → x ≡ y
 same_text found x y p q = cc
 
-script_kept : (words : Words) (first : ℕ) (disk : Option Disk) (map lines : List ℕ) (sources : List (List ℕ)) → AcceptsExec words first disk
-    → Told (AreExecInputs words first map lines sources) disk → AreKept Small (forms_of lines)
-script_kept words first None map lines sources accepted inputs = absurd accepted
-script_kept words first (Some disk) map lines sources accepted inputs =
-    subst (λ (t : List ℕ). AreKept Small (forms_of t))
-    (same_text (get disk.files (script_name words)) accepted.lines lines accepted.inputs.script_there inputs.script_there) accepted.kept
+script_kept : (words : Words) (first : ℕ) (disk : Option Disk) (map lines : List ℕ) (sources : List (List ℕ)) (m : Map)
+    → IsMapText map m → AcceptsExec words first disk → Told (AreExecInputs words first map lines sources) disk
+    → AreKept m.core (forms_of lines)
+script_kept words first None map lines sources m is accepted inputs = absurd accepted
+script_kept words first (Some disk) map lines sources m is accepted inputs =
+    let same = inputs_same words first accepted.build.map map accepted.build.sources sources disk.files accepted.build.inputs
+    inputs.inputs in
+    subst (λ (t : List ℕ). AreKept m.core (forms_of t))
+    (same_text (get disk.files (script_name words)) accepted.lines lines accepted.inputs.script_there inputs.script_there)
+    (accepted.kept m (subst (λ (t : List ℕ). IsMapText t m) (sym same.0) is))
 
-pub no_script_fault : (words : Words) (first : ℕ) (disk : Option Disk) (map lines : List ℕ) (sources : List (List ℕ)) (stop : CommandError)
-    → AcceptsExec words first disk
-    → Told (AreExecInputs words first map lines sources) disk → (stop ≡ NoMemory) ⊎ HasScriptFault Small lines stop → commands.status_of stop ≡ 11
-no_script_fault words first disk map lines sources stop accepted inputs (inl e) = ap commands.status_of e
-no_script_fault words first disk map lines sources stop accepted inputs (inr h) =
-    absurd (not_broken Small (forms_of lines) h.line h.rule (script_kept words first disk map lines sources accepted inputs) h.fault)
+pub no_script_fault : (words : Words) (first : ℕ) (disk : Option Disk) (map lines : List ℕ) (sources : List (List ℕ)) (b : Built)
+    (stop : CommandError) → IsBuilt sources map b → AcceptsExec words first disk
+    → Told (AreExecInputs words first map lines sources) disk → (stop ≡ NoMemory) ⊎ HasScriptFault b.map.core lines stop
+    → commands.status_of stop ≡ 11
+no_script_fault words first disk map lines sources b stop built accepted inputs (inl e) = ap commands.status_of e
+no_script_fault words first disk map lines sources b stop built accepted inputs (inr h) =
+    absurd
+    (not_broken b.map.core (forms_of lines) h.line h.rule
+    (script_kept words first disk map lines sources b.map built.checked.read.map accepted inputs) h.fault)

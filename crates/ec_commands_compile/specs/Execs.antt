@@ -1,7 +1,6 @@
 -- What `exec` does: the run of what was built, what `out` receives of it, and when each stop comes. What is read, built and
 -- refused is said of sources that are named from one word on: of those of `watch` too.
 use Rattle.std.specs.Prelude.{ℕ, ◌≤◌, ◌<◌, ◌≡◌, ◌⊎◌, List, map, length, Option, Some, None}
-use Rattle.ec_space.specs.declared.Core.TheVariants.{Small}
 use Rattle.ec_io.specs.Causes.{Rose}
 use Rattle.ec_io.specs.Disk.{Files, Disk}
 use Rattle.ec_io.specs.Views.{StoreView, SinkCall}
@@ -12,8 +11,10 @@ use Rattle.ec_emu.specs.declared.script.ScriptLine.{ScriptLine}
 use Rattle.ec_emu.specs.Emulation.{IsRun as IsRunOf}
 use Rattle.ec_emu.specs.Script.{AreKept, entries, entry_of, forms_of}
 use Rattle.ec_emu.specs.Scripted.{IsScripted}
+use Rattle.ec_map.specs.declared.map.Map.{Map}
 use Rattle.ec_build.specs.Builds.{IsBuilt}
 use Rattle.ec_build.specs.Causes.{HasCause}
+use Rattle.ec_build.specs.MapTexts.{IsMapText}
 use Rattle.ec_build.specs.declared.building.Built.{Built}
 use Rattle.ec_build.specs.declared.stop.BuildStop.{BuildStop}
 use Rattle.ec_commands.specs.Runs.{Gives, Shows, printed, HasScriptFault}
@@ -38,12 +39,12 @@ pub record IsExecBuilt (words : Words) (first : ℕ) (disk : Option Disk) (lines
   pub inputs : Told (AreExecInputs words first map lines sources) disk
   pub built : IsBuilt sources map b
 
--- so is the script, which keeps the rules and says these answers
+-- so is the script, which keeps the rules for the core of the map and says these answers
 pub record IsExecRead (words : Words) (first : ℕ) (disk : Option Disk) (b : Built) (answers : List ScriptLine) : Type 0
   where
     pub lines : List ℕ
     pub from : IsExecBuilt words first disk lines b
-    pub kept : AreKept Small (forms_of lines)
+    pub kept : AreKept b.map.core (forms_of lines)
     pub scripted : map entry_of answers ≡ entries (forms_of lines)
 
 -- its machine is in the reset state with 165 everywhere, and the script says these answers
@@ -54,7 +55,7 @@ pub record IsExecLoaded (words : Words) (disk : Option Disk) (machine : State) (
     pub from : IsExecBuilt words 4 disk lines built
     pub reset : machine ≡ reset_with built.located.image.core built.located.image.bytes.items 165
     pub is_reset : IsReset built.located.image.core built.located.image.bytes.items machine
-    pub kept : AreKept Small (forms_of lines)
+    pub kept : AreKept built.map.core (forms_of lines)
     pub scripted : map entry_of answers ≡ entries (forms_of lines)
 
 -- The run of it, with hooks that give such answers, and what was shown of it. Where the source is defined on inputs
@@ -88,12 +89,12 @@ pub record IsExecRefused (words : Words) (first : ℕ) (disk : Option Disk) (sto
   pub inputs : Told (AreExecInputs words first map lines sources) disk
   pub cause : HasCause sources map stop
 
--- there is an image, and a line of the script is the first to break a rule
+-- there is an image, and a line of the script is the first to break a rule for the core of the map
 pub record HasBadScript (words : Words) (first : ℕ) (disk : Option Disk) (stop : CommandError) : Type 0 where
   pub lines : List ℕ
   pub built : Built
   pub from : IsExecBuilt words first disk lines built
-  pub fault : HasScriptFault Small lines stop
+  pub fault : HasScriptFault built.map.core lines stop
 
 -- why nothing runs, where there are at most 16 sources
 abbrev pub StopsLoadingExec : Words → ℕ → StoreView → StoreView → CompileStop → Type 0
@@ -122,12 +123,13 @@ ExecStops words steps hooks old new out stop =
 
 -- ---- what is accepted
 
--- nothing stands against the named map and sources, and the script is within its limit and keeps the rules
+-- nothing stands against the named map and sources, and the script is within its limit and keeps the rules for the core of
+-- the map
 pub record AreExecAccepted (words : Words) (first : ℕ) (files : Files) : Type 0 where
   pub build : AreAccepted words first files
   pub lines : List ℕ
   pub inputs : AreExecInputs words first build.map lines build.sources files
-  pub kept : AreKept Small (forms_of lines)
+  pub kept : (m : Map) → IsMapText build.map m → AreKept m.core (forms_of lines)
 
 -- the store told its files, and they are accepted
 abbrev pub AcceptsExec : Words → ℕ → Option Disk → Type 0

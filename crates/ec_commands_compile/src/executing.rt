@@ -22,7 +22,7 @@ use ec_build::{Built, discard};
 use ec_commands::{CommandError, Limit, Loaded, load_script, print_run, read, read_sources};
 use ec_emu::{Ports, Script};
 use ec_io::{Sink, Store};
-use ec_space::{Core, Seq};
+use ec_space::Seq;
 use std::alloc::Global;
 
 /// The byte that the registers and the memory of the machine hold at first.
@@ -114,7 +114,7 @@ pub fn read_exec<S: Store>(
         Ok(built) => built,
         Err(stop) => return Err(stop),
     };
-    match load_script(alloc, Core::Small, &inputs.script) {
+    match load_script(alloc, built.map.core, &inputs.script) {
         Ok(script) => Ok(ExecRead { built, script }),
         Err(stop) => {
             discard(built);

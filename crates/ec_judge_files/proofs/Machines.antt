@@ -5,7 +5,7 @@ use Rattle.ec_avr.specs.declared.machine.Access.{Access}
 use Rattle.ec_avr.specs.declared.machine.Access.TheVariants.{Silent, In as PortIn, Out as PortOut, Read as ByteRead}
 use Rattle.ec_avr.specs.declared.machine.Access.TheVariants.{Write as ByteWrite, Stack}
 use Rattle.ec_avr.specs.Machine.{State, Inputs, IsReset}
-use Rattle.ec_asm.specs.Change.{Env, Kind, Own, Object, Port, Stacked, Barred}
+use Rattle.ec_asm.specs.Change.{Env, Kind, Own, Object, Port, Stacked, Page, Barred}
 use Rattle.ec_asm.specs.Shows.{noted_all, if_object}
 use Rattle.ec_core.specs.declared.values.Value.{Value}
 use Rattle.ec_core.specs.Meaning.{behaviour_of, run}
@@ -50,6 +50,7 @@ no_read Own at byte rest = refl
 no_read Object at byte rest = refl
 no_read Port at byte rest = refl
 no_read Stacked at byte rest = refl
+no_read Page at byte rest = refl
 no_read Barred at byte rest = refl
 
 no_table : (kind : Kind) (at byte : ℕ) (rest : List Access) → ports_of (if_object kind (ByteRead FlashBank at byte) ++ rest) ≡ ports_of rest
@@ -57,6 +58,7 @@ no_table Own at byte rest = refl
 no_table Object at byte rest = refl
 no_table Port at byte rest = refl
 no_table Stacked at byte rest = refl
+no_table Page at byte rest = refl
 no_table Barred at byte rest = refl
 
 no_write : (kind : Kind) (at byte : ℕ) (rest : List Access) → ports_of (if_object kind (ByteWrite at byte) ++ rest) ≡ ports_of rest
@@ -64,6 +66,7 @@ no_write Own at byte rest = refl
 no_write Object at byte rest = refl
 no_write Port at byte rest = refl
 no_write Stacked at byte rest = refl
+no_write Page at byte rest = refl
 no_write Barred at byte rest = refl
 
 ports_noted : (e : Env) (trace : List Access) → ports_of (noted_all e trace) ≡ ports_of trace

@@ -1,4 +1,4 @@
-//! Programs with the word `__farflash`, from their tokens: no text gives it yet. Blanks stand between the tokens, and in
+//! Programs with the word `__farflash`, from their tokens. Blanks stand between the tokens, and in
 //! words is told what a program does, or the first constraint that it breaks and the token at which it is told.
 ghost use Rattle.ec_iohw.specs.Valid.{ValidIo};
 

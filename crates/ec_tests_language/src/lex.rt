@@ -320,10 +320,11 @@ static READ: [(&str, &[Kind]); 9] = [
         &[Kind::Io(IoOp::ReadBufferLong), Kind::Group(GroupOp::Map)],
     ),
     (
-        "#include <stdint.h>\nuint16_t __flash goto",
+        "#include <stdint.h>\nuint16_t __flash __farflash goto",
         &[
             Kind::Word(WordKind::Uint16),
             Kind::Word(WordKind::Flash),
+            Kind::Word(WordKind::FarFlash),
             Kind::Reserved,
         ],
     ),

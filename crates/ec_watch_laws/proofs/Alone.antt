@@ -4,6 +4,7 @@ use Rattle.std.proofs.Common.{Some, refl, sym, ap, ◌∙◌, subst, arith}
 use Rattle.std.specs.Prelude.{◌==◌, slice_get}
 use Rattle.std.specs.List.{AllByRecursion}
 use Rattle.std.proofs.lemmas.Bool.{cases_Bool, and_parts, and_from, eqb-true, eq-eqb, ne_eqb}
+use Rattle.ec_space.specs.Memory.{data_size}
 use Rattle.ec_space.specs.declared.space.Bank.TheVariants.{Data as DataBank}
 use Rattle.ec_space.specs.declared.space.Place.{Place}
 use Rattle.ec_space.specs.declared.space.SpaceId.{SpaceId}
@@ -46,7 +47,7 @@ pub record IsAlone (p : PlainProgram) (m : Map) (l : Located) (point : WatchPoin
   pub bytes : point.bytes ≡ scalar_size leaf.ty
   pub some : 1 ≤ scalar_size leaf.ty
   pub high : 256 ≤ place_of l point.object + leaf.at
-  pub low : place_of l point.object + leaf.at + scalar_size leaf.ty ≤ 2304
+  pub low : place_of l point.object + leaf.at + scalar_size leaf.ty ≤ data_size m.core
   pub own : (a : ℕ) → IsIn (place_of l point.object + leaf.at) (scalar_size leaf.ty) a → is_own_byte p l a ≡ false
   pub alone : (o k a : ℕ) (space : SpaceId) → IsHomeByte p l o k space DataBank a
       → IsIn (place_of l point.object + leaf.at) (scalar_size leaf.ty) a → (o ≡ point.object) × (k ≡ point.leaf)

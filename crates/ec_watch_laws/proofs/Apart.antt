@@ -5,6 +5,9 @@ use Rattle.std.specs.Prelude.{Option, IsSomeAnd, slice_get, slice_index_or, nat_
 use Rattle.std.proofs.lemmas.Bool.{cases_Bool, and_parts, leb-true, ltb-true, eqb-true, eq-eqb}
 use Rattle.std.proofs.lemmas.List.{length-map}
 use Rattle.std.proofs.lemmas.Option.{slice_get_within, slice_get-get_or}
+use Rattle.ec_space.specs.Memory.{data_size as size_of_data}
+use Rattle.ec_space.specs.declared.Core.{Core}
+use Rattle.ec_space.specs.declared.Core.TheVariants.{Small, Large}
 use Rattle.ec_space.specs.declared.space.Bank.{Bank}
 use Rattle.ec_space.specs.declared.space.Bank.TheVariants.{Flash as FlashBank, Data as DataBank}
 use Rattle.ec_space.specs.declared.space.Place.{Place}
@@ -48,7 +51,7 @@ pub stands : ApartLaws → (p : PlainProgram) (m : Map) (asm : AsmProgram) (l : 
 stands laws p m asm l h =
     laws.apart p m asm l h.valid h.map
     (laws.short (object_sizes p) 64 _ h.selected asm h.shortened
-    (laws.selections (lowered p (plain_table m.io)) h.selected (laws.made p m.io h.valid h.groups).valid h.code h.selection)).0 h.located
+    (laws.selections m.core (lowered p (plain_table m.io)) h.selected (laws.made p m.io h.valid h.groups).valid h.code h.selection)).0 h.located
 
 -- ---- places
 
@@ -76,11 +79,16 @@ data_home DataBank e = refl
 -- a static object of the data bank stands in memory
 in_memory : (p : PlainProgram) (m : Map) (asm : AsmProgram) (l : Located) → DataStands p m asm l → (o : ℕ) (object : PlainObject)
     (place : Place) → slice_get p.objects o ≡ Some object → is_static object.storage ≡ true → is_data (bank_of object.home) ≡ true
-    → slice_get l.places.items o ≡ Some place → IsInMemory place.offset (size_of_type p.structs object.ty)
+    → slice_get l.places.items o ≡ Some place → IsInMemory m.core place.offset (size_of_type p.structs object.ty)
 in_memory p m asm l d o object place is s home there =
     let storage = static_of object.storage s in
-    subst (λ (z : PlainStorage). StandsIn z place.offset (size_of_type p.structs object.ty)) storage.1
+    subst (λ (z : PlainStorage). StandsIn m.core z place.offset (size_of_type p.structs object.ty)) storage.1
     (d.objects o object place is (data_home (bank_of object.home) home) there)
+
+-- the data bank of either core ends below 65,536
+data_low : (core : Core) → size_of_data core ≤ 65536
+data_low Small = omega arith
+data_low Large = omega arith
 
 pub have_places : ApartLaws → (p : PlainProgram) (m : Map) (asm : AsmProgram) (l : Located) → IsTranslated p m asm l
     → HavePlaces p l.places.items
@@ -88,7 +96,9 @@ have_places laws p m asm l h = record {
   each = each_place p m asm l h;
   low = λ o object place is s home there.
       let r = in_memory p m asm l (stands laws p m asm l h) o object place is s home there in
-      let low = r.1 in omega (arith, low);
+      let low = r.1 in
+      let most = data_low m.core in
+      omega (arith, low, most);
 }
 
 -- ---- whose byte it is
@@ -137,7 +147,7 @@ module _ (p : PlainProgram) (m : Map) (asm : AsmProgram) (l : Located) (h : IsTr
   own_leaf : IsLeafAt p.structs object.ty k q.leaf
   own_leaf = leaf_at point.object k object q.leaf q.is_number.is_object q.is_number.is_leaf
 
-  memory : IsInMemory q.object_place.offset (size_of_type p.structs object.ty)
+  memory : IsInMemory m.core q.object_place.offset (size_of_type p.structs object.ty)
   memory = in_memory p m asm l d point.object object q.object_place q.is_number.is_object named.static named.home q.stands
 
   own_place : place_of l point.object ≡ q.object_place.offset

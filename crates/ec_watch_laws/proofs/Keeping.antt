@@ -4,6 +4,7 @@ use Rattle.std.proofs.Common.{ℤ, refl, sym, ap, ◌∙◌, subst, append_assoc
 use Rattle.std.specs.Prelude.{IsTrue}
 use Rattle.std.specs.List.{AllByRecursion}
 use Rattle.std.proofs.lemmas.Bool.{eqb-true}
+use Rattle.ec_space.specs.Memory.{data_size}
 use Rattle.ec_space.specs.declared.space.SpaceId.{SpaceId}
 use Rattle.ec_runs.specs.Behaviours.{Behaviour, Running as GoesOn, Ended as Ends, Failed, BeginWith}
 use Rattle.ec_avr.specs.declared.machine.Access.{Access}
@@ -136,7 +137,7 @@ ends_or_not (x ∷ xs) = by_rest (ends_or_not xs)
 -- ---- the machine beside its source
 
 module _ (laws : MachineLaws) (p : PlainProgram) (m : Map) (l : Located) (point : WatchPoint) (h : IsAlone p m l point)
-    (holds : ℤ → Bool) (s : State) (inputs : Inputs) (shows : ShowsWhole p m l s inputs) (sized : length s.mem.data ≡ 2304)
+    (holds : ℤ → Bool) (s : State) (inputs : Inputs) (shows : ShowsWhole p m l s inputs) (sized : length s.mem.data ≡ data_size m.core)
     (defined : Defined p (plain_table m.io) inputs) (no_stack : has_stack shows.before ≡ false) where
   abbrev o : ℕ
   o = point.object

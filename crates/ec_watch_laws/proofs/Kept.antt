@@ -94,7 +94,7 @@ watched_runs_keep_sources laws p m asm l name k point holds steps s new report t
     shows : ShowsWhole p m l s inputs
     shows = laws.shows p m asm l s inputs h reset bytes
 
-    sized : length s.mem.data ≡ 2304
+    sized : length s.mem.data ≡ data_size m.core
     sized = reset.size ∙ ap data_size h.located.core
 
     here : IsAlone p m l point

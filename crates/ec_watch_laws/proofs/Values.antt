@@ -3,7 +3,7 @@ use Rattle.std.proofs.Common.{◌≡◌, ℕ, ◌+◌, ◌/◌, ◌%◌, ◌^◌
 use Rattle.std.proofs.Common.{◌∷◌, ◌++◌, length, Option, Some, None, ℤ, refl, sym, ap, ◌∙◌, subst, arith}
 use Rattle.std.specs.Prelude.{⊤, MatchOption, IsSomeAnd, nat_le, slice_get, slice_index, if◌then◌else◌, drop}
 use Rattle.std.proofs.lemmas.Bool.{le-leb}
-use Rattle.ec_space.specs.Memory.{Memory, number_at}
+use Rattle.ec_space.specs.Memory.{Memory, data_size, number_at}
 use Rattle.ec_space.specs.declared.space.Bank.TheVariants.{Data as DataBank}
 use Rattle.ec_space.specs.declared.space.Place.{Place}
 use Rattle.ec_space.specs.declared.space.SpaceId.{SpaceId}
@@ -107,7 +107,7 @@ pub record MachineLaws : Type 0 where
   pub keeps : StepKeeps
 
 module _ (laws : MachineLaws) (p : PlainProgram) (m : Map) (l : Located) (point : WatchPoint) (h : IsAlone p m l point) (s : State)
-    (inputs : Inputs) (shows : ShowsWhole p m l s inputs) (sized : length s.mem.data ≡ 2304)
+    (inputs : Inputs) (shows : ShowsWhole p m l s inputs) (sized : length s.mem.data ≡ data_size m.core)
     (defined : Defined p (plain_table m.io) inputs) where
   -- the run from main is the rest of the whole one
   pub from_main : (after : List Access) (t : State) → machine (length (shows.start ++ after)) inputs s ≡ Running (shows.start ++ after) t

@@ -13,18 +13,18 @@ use Rattle.ec_build.proofs.building.located_by.Goals as goal
 
 pub placed-requires-clause-frames : goal.placed-requires-clause-frames
 placed-requires-clause-frames c =
-    (c.in_ok-asm.ensures.code (plain_program c.args.program.now) c.args.map.now.io c.in_ok-long.ensures.code).frames
+    (c.in_ok-asm.ensures.code c.args.map.now.core (plain_program c.args.program.now) c.args.map.now.io c.in_ok-long.ensures.code).frames
 
 pub placed-requires-clause-code : goal.placed-requires-clause-code
 placed-requires-clause-code c =
-    (c.in_ok-asm.ensures.code (plain_program c.args.program.now) c.args.map.now.io c.in_ok-long.ensures.code).valid
+    (c.in_ok-asm.ensures.code c.args.map.now.core (plain_program c.args.program.now) c.args.map.now.io c.in_ok-long.ensures.code).valid
 
 pub returns-clause-image : goal.returns-clause-image
 returns-clause-image c =
     let p = plain_program c.args.program.now in
     let m = c.args.map.now in
     let asm = c.in_ok-asm.asm in
-    let code = c.in_ok-asm.ensures.code p m.io c.in_ok-long.ensures.code in
+    let code = c.in_ok-asm.ensures.code m.core p m.io c.in_ok-long.ensures.code in
     IfOk-weaker c.placed.result (λ l. IsLocated p m asm l × AreBytes l.image.bytes.items) (λ l. (z : AsmProgram) × IsImageOf p m z l)
     (λ l h. (
       asm,
@@ -37,6 +37,6 @@ returns-clause-stopped c =
     let p = plain_program c.args.program.now in
     let m = c.args.map.now in
     let asm = c.in_ok-asm.asm in
-    let code = c.in_ok-asm.ensures.code p m.io c.in_ok-long.ensures.code in
+    let code = c.in_ok-asm.ensures.code m.core p m.io c.in_ok-long.ensures.code in
     IfErr-weaker c.placed.result (StopsPlacing p m asm) (HasCauseOfPlacing p m)
     (λ stop h. inr (c.as_slice.result.now, asm, (code, h))) c.placed.ensures.stopped

@@ -4,8 +4,8 @@ use Rattle.ec_build.proofs.Coded.{short_code}
 use Rattle.ec_build.proofs.codes.shortened.Goals as goal
 
 pub returns-clause-code : goal.returns-clause-code
-returns-clause-code c p io code =
-    short_code c.shortened_code_is_valid.ensures p io c.args.reaches.now c.args.long
+returns-clause-code c core p io code =
+    short_code c.shortened_code_is_valid.ensures core p io c.args.reaches.now c.args.long
     (record { items = c.in_ok-items.items; frames = c.args.long.frames; entry = c.args.long.entry }) code (record {
       items = c.in_ok-items.ensures ∙ ap near_items c.in_ok-middle.ensures;
       frames = refl;

@@ -9,17 +9,17 @@ use Rattle.ec_build.proofs.reaches.reaches_by.Goals as goal
 
 pub placed-requires-clause-frames : goal.placed-requires-clause-frames
 placed-requires-clause-frames c =
-    (outline_is_valid (plain_program c.args.program.now) c.args.map.now.io c.args.long.now c.in_ok-outline.outline c.requires.code
+    (outline_is_valid c.args.map.now.core (plain_program c.args.program.now) c.args.map.now.io c.args.long.now c.in_ok-outline.outline c.requires.code
     c.in_ok-outline.ensures).1
 
 pub placed-requires-clause-code : goal.placed-requires-clause-code
 placed-requires-clause-code c =
-    (outline_is_valid (plain_program c.args.program.now) c.args.map.now.io c.args.long.now c.in_ok-outline.outline c.requires.code
+    (outline_is_valid c.args.map.now.core (plain_program c.args.program.now) c.args.map.now.io c.args.long.now c.in_ok-outline.outline c.requires.code
     c.in_ok-outline.ensures).0
 
 pub placed-requires-clause-few : goal.placed-requires-clause-few
 placed-requires-clause-few c =
-    (outline_is_valid (plain_program c.args.program.now) c.args.map.now.io c.args.long.now c.in_ok-outline.outline c.requires.code
+    (outline_is_valid c.args.map.now.core (plain_program c.args.program.now) c.args.map.now.io c.args.long.now c.in_ok-outline.outline c.requires.code
     c.in_ok-outline.ensures).2
 
 pub reaches_of-requires-clause-structs : goal.reaches_of-requires-clause-structs

@@ -1,7 +1,7 @@
 use Rattle.std.proofs.Common.{Err, refl, ap, inl}
 use Rattle.ec_io.specs.Views.{store_view, sink_call}
 use Rattle.ec_commands_compile.proofs.ReadingExec.{before_run}
-use Rattle.ec_commands_compile.proofs.RunExec.{executed, exec_stops, left_running}
+use Rattle.ec_commands_compile.proofs.RunExec.{executed, exec_stops, stop_named, left_running}
 use Rattle.ec_commands_compile.proofs.executing.exec_few.Goals as goal
 
 pub returns-in-Err-clause-stopped : goal.returns-in-Err-clause-stopped
@@ -42,6 +42,11 @@ returns-clause-stopped g c =
     c.in-Err-print_run.stop c.requires.few
     (executed _ _ _ _ _ _ _ _ _ made.0 made.1.0 c.in-Ok.ensures.found made.1.1.0 made.1.1.1.0)
     (λ e. c.in-Err-print_run.ensures.failed (ap Err e))
+
+pub returns-clause-named : goal.returns-clause-named
+returns-clause-named g c =
+    let made = c.in-Err-print_run.ensures.shown in
+    stop_named c.args.words.now.items _ _ made.0.end made.1.0 c.in-Err-print_run.stop made.1.1.1.0
 
 pub returns-clause-complete : goal.returns-clause-complete
 returns-clause-complete g c = λ accepted calm out_calm.

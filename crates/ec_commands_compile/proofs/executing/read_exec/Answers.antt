@@ -73,4 +73,5 @@ pub returns-clause-complete : goal.returns-clause-complete
 returns-clause-complete g c = λ accepted calm.
     no_script_fault c.args.words.now.items c.args.first (g.S.Store.disk c.args.store.now) c.in-Ok.inputs.inputs.map.items
     c.in-Ok.inputs.script.items
-    (texts c.in-Ok.inputs.inputs.sources.items) c.in-Err-load_script.stop accepted c.in-Ok.ensures.found c.in-Err-load_script.ensures.stopped
+    (texts c.in-Ok.inputs.inputs.sources.items) c.in-Ok-compile.built c.in-Err-load_script.stop c.in-Ok-compile.ensures.built accepted
+    c.in-Ok.ensures.found c.in-Err-load_script.ensures.stopped
