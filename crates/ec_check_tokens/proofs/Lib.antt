@@ -12,4 +12,5 @@ mod Order
 mod Functions
 mod Objects
 mod Structs
+mod Shared
 mod Samples

@@ -1,5 +1,5 @@
 -- The overflow states in small lists of tokens.
-use Rattle.std.proofs.Common.{◌≡◌, refl, ℕ, true, false, List, [], ◌∷◌}
+use Rattle.std.proofs.Common.{◌≡◌, refl, true, false, List, [], ◌∷◌}
 use Rattle.ec_grammar.specs.declared.token.PragmaKind.TheVariants.{Precision, Fract, Accum}
 use Rattle.ec_grammar.specs.declared.token.PragmaState.TheVariants.{Sat, Default}
 use Rattle.ec_grammar.specs.declared.token.PunctKind.TheVariants.{LeftBrace, RightBrace}

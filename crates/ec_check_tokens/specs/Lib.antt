@@ -5,4 +5,5 @@ pub mod Parts
 pub mod NodeStates
 pub mod Definers
 pub mod Objects
+pub mod Shared
 pub mod Laws

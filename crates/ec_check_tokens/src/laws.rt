@@ -3,6 +3,7 @@ ghost use Rattle.ec_check_tokens.specs.Laws.{TokensSayStates, TokensSayModes};
 ghost use Rattle.ec_check_tokens.specs.FirstTokens.{PartsBeginAtFirstTokens};
 ghost use Rattle.ec_check_tokens.specs.Definers.{DefinersDefine, DefinersAreInOrder, FunctionsAreInOrder};
 ghost use Rattle.ec_check_tokens.specs.Objects.{ObjectsAreInOrder, StructsAreInOrder};
+ghost use Rattle.ec_check_tokens.specs.Shared.{SharedWordsAreSaid};
 
 use ec_check::programs_are_typed;
 use ec_check_meanings::{modes_are_said, walk_gives_meanings};
@@ -67,3 +68,10 @@ pub fn structs_are_in_order()
     equal_structs_are_one();
     structs_are_declared();
 }
+
+/// What the walk and the relations share says what the words for it say: the operators of tokens, what names mean, the types
+/// of type names, where parameters are told and their storage words, what is kept of declarations at file scope, the parts of
+/// objects and their addresses, and the operands of ports.
+pub fn shared_words_are_said()
+    ensures { SharedWordsAreSaid }
+{}

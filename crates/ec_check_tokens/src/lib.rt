@@ -6,5 +6,6 @@ mod laws;
 
 pub use laws::{
     definers_are_in_order, definers_define, functions_are_in_order, objects_are_in_order,
-    parts_begin_at_first_tokens, structs_are_in_order, tokens_say_modes, tokens_say_states,
+    parts_begin_at_first_tokens, shared_words_are_said, structs_are_in_order, tokens_say_modes,
+    tokens_say_states,
 };
