@@ -9,17 +9,19 @@ import pathlib
 import re
 import sys
 
-PORTS = set(range(0x20, 0x100)) - {0x5D, 0x5E, 0x5F}
-BANKS = {"code": (0, 32_768), "tables": (0, 32_768), "data": (256, 2_304), "stack": (256, 2_304)}
+ADDRESSES = set(range(0x20, 0x100)) - {0x5D, 0x5E, 0x5F}
+# The addresses of the ports of each core, where its regions lie, and the greatest address at which an object stands.
+PORTS = {"small": ADDRESSES, "large": ADDRESSES - {0x5B}}
+BANKS = {
+    "small": {"code": (0, 32_768), "tables": (0, 32_768), "data": (256, 2_304), "stack": (256, 2_304)},
+    "large": {"code": (0, 131_072), "tables": (0, 65_535), "far": (0, 131_071), "data": (256, 16_640), "stack": (256, 16_640)},
+}
+LAST_PLACE = {"small": 65_535, "large": 131_071}
 PORT_KEYS, GROUP_KEYS = ("name", "address", "width"), ("name", "acquire", "release")
 
 
 def is_number(value, least=-(2**63), most=2**63 - 1):
     return type(value) is int and least <= value <= most
-
-
-def is_place(value):
-    return is_number(value, 1, 65_535)
 
 
 def is_pair(value):
@@ -58,7 +60,7 @@ def names(given, kind):
 
 def regions(table, holds, why):
     """Regions for which something does not hold."""
-    yield from ((("region",), key, table[key], why(key)) for key in BANKS if not holds(key, table[key]))
+    yield from ((("region",), key, table[key], why(key)) for key in table if not holds(key, table[key]))
 
 
 def sizes(ports):
@@ -69,11 +71,12 @@ def sizes(ports):
             yield ("port", i), "count", port["count"], "is not from 1 to 220"
 
 
-def addresses(ports):
+def addresses(ports, core):
+    others = "0x5B, 0x5D, 0x5E and 0x5F" if core == "large" else "0x5D, 0x5E and 0x5F"
     for i, port in enumerate(ports):
         first = port["address"]
-        if not is_number(first) or not PORTS.issuperset(range(first, first + port["width"] * port.get("count", 1))):
-            yield ("port", i), "address", first, "is not the address of ports alone: 0x20 to 0xFF but for 0x5D, 0x5E and 0x5F"
+        if not is_number(first) or not PORTS[core].issuperset(range(first, first + port["width"] * port.get("count", 1))):
+            yield ("port", i), "address", first, f"is not the address of ports alone: 0x20 to 0xFF but for {others}"
 
 
 def lists(groups, holds, why):
@@ -86,8 +89,8 @@ def are_pairs(value):
     return isinstance(value, list) and len(value) <= 32 and all(map(is_pair, value))
 
 
-def are_writes(value):
-    return all(port in PORTS and is_number(byte, 0, 255) for port, byte in value)
+def are_writes(value, core):
+    return all(port in PORTS[core] and is_number(byte, 0, 255) for port, byte in value)
 
 
 def end(pair):
@@ -95,9 +98,9 @@ def end(pair):
 
 
 def shared(table):
-    """Regions that share bytes with the one before it in its bank."""
-    for one, other in (("code", "tables"), ("data", "stack")):
-        if max(table[one][0], table[other][0]) < min(end(table[one]), end(table[other])):
+    """Regions that share bytes with one before it in its bank."""
+    for one, other in (("code", "tables"), ("code", "far"), ("tables", "far"), ("data", "stack")):
+        if {one, other} <= table.keys() and max(table[one][0], table[other][0]) < min(end(table[one]), end(table[other])):
             yield ("region",), other, table[other], f"shares bytes with `{one}`, {table[one]}"
 
 
@@ -111,10 +114,12 @@ def unknown_groups(given):
 def faults(given, rule):
     """What breaks a rule of a map: the item, the key, the value, and what is wrong with it. All earlier rules hold."""
     region, ports, groups, place = (given.get(key, {}) for key in ("region", "port", "group", "place"))
+    core = given.get("core") if given.get("core") == "large" else "small"
+    banks, last = BANKS[core], LAST_PLACE[core]
     checks = {
         1: lambda: keys(given, (), ("core", "region"), ("port", "group", "place")),
-        2: lambda: [((), "core", given["core"], "is not the string \"small\"")],
-        3: lambda: keys(region, ("region",), tuple(BANKS)),
+        2: lambda: [((), "core", given["core"], "is not the string \"small\" or \"large\"")],
+        3: lambda: keys(region, ("region",), tuple(BANKS["small"]), tuple(banks)),
         4: lambda: regions(
             region,
             lambda _, pair: is_pair(pair) and is_number(pair[0], 0, 131_072) and is_number(pair[1], 1, 131_072),
@@ -122,22 +127,22 @@ def faults(given, rule):
         ),
         5: lambda: regions(
             region,
-            lambda key, pair: BANKS[key][0] <= pair[0] and end(pair) <= BANKS[key][1],
-            lambda key: f"does not lie in {BANKS[key][0]} to {BANKS[key][1]}: it ends by {end(region[key])}",
+            lambda key, pair: banks[key][0] <= pair[0] and end(pair) <= banks[key][1],
+            lambda key: f"does not lie in {banks[key][0]} to {banks[key][1]}: it ends by {end(region[key])}",
         ),
         6: lambda: [(("region",), "code", region["code"], "does not begin at 0, or its size is odd")],
         7: lambda: shared(region),
         8: lambda: tables(given["port"], "port", 64, PORT_KEYS, ("count", "group")),
         9: lambda: names(ports, "port"),
         10: lambda: sizes(ports),
-        11: lambda: addresses(ports),
+        11: lambda: addresses(ports, core),
         12: lambda: tables(given["group"], "group", 16, GROUP_KEYS),
         13: lambda: names(groups, "group"),
         14: lambda: lists(groups, are_pairs, "is no array of at most 32 arrays of two integers"),
-        15: lambda: lists(groups, are_writes, "has a pair that is not the address of a port and a byte from 0 to 255"),
+        15: lambda: lists(groups, lambda pairs: are_writes(pairs, core), "has a pair that is not the address of a port and a byte from 0 to 255"),
         16: lambda: unknown_groups(given),
         17: lambda: [((), "place", place, "is no table")],
-        18: lambda: ((("place",), key, value, "is not from 1 to 65535") for key, value in place.items() if not is_place(value)),
+        18: lambda: ((("place",), key, value, f"is not from 1 to {last}") for key, value in place.items() if not is_number(value, 1, last)),
     }
     return checks[rule]()
 
