@@ -85,7 +85,7 @@ module _ (laws : Laws) (core : Core) (p : PlainIrProgram) (results : ℕ → ℕ
   bytes_same = wanted_same g.slots here there g.code g.code (laws.places p results f g v) tell
 
   uses_same : function_uses core p here f g ≡ function_uses core p there f g
-  uses_same = λ j. uses_in core (data_of p) (homes_of f g.code) (bytes_same j) g.code
+  uses_same = λ j. uses_in core (data_of p) (homes_of f g.code) (bytes_same j) (right_numbers g.code) g.code
 
   code_same : (routines : PlainIr → Option ℕ) → code_of core p routines here f (Some g) ≡ code_of core p routines there f (Some g)
   code_same routines =

@@ -1,7 +1,9 @@
 -- For the crates of the family.
 pub mod Shifted
 pub mod Words
+pub mod Counted
 -- For this crate alone.
+mod Biased
 mod Raised
 mod Toward
 mod Loop

@@ -35,7 +35,7 @@ use Rattle.ec_fxcode_placed.proofs.Loop.{beside_30, rounds}
 
 -- ---- to the right
 
-toward_holds : (f : Format) (mode : Mode) (n A p Y : ℕ) → f.signed ≡ true → f.bits ≡ 8 * suc n → A < 256 ^ suc n → 1 ≤ p
+pub toward_holds : (f : Format) (mode : Mode) (n A p Y : ℕ) → f.signed ≡ true → f.bits ≡ 8 * suc n → A < 256 ^ suc n → 1 ≤ p
     → IsToward (256 ^ suc n) A p Y → HoldsResult (suc n) (fit f mode (trunc (signed_number (suc n) A) p)) Y
 toward_holds f mode n A p Y s e l one is =
     let k = suc n in
@@ -51,7 +51,7 @@ toward_holds f mode n A p Y s e l one is =
     (right_minus f mode k h (N - A) p Y r.0 s half two (omega (arith, l)) (omega (arith, more, two)) one is.below r.1 r.2))
     (cases_lt (2 * A) N)
 
-plain_holds : (f : Format) (mode : Mode) (n A p : ℕ) → f.signed ≡ false → f.bits ≡ 8 * suc n → A < 256 ^ suc n → 1 ≤ p
+pub plain_holds : (f : Format) (mode : Mode) (n A p : ℕ) → f.signed ≡ false → f.bits ≡ 8 * suc n → A < 256 ^ suc n → 1 ≤ p
     → HoldsResult (suc n) (fit f mode (trunc (pos A) p)) (A / p)
 plain_holds f mode n A p s e l one =
     right_unsigned f mode (suc n) A (256 ^ suc n) p (A / p) s (ap (λ t. 2 ^ t) e ∙ bits_power (suc n)) l one refl
@@ -84,7 +84,7 @@ low_minus N M p some most one more less =
     let whole : (N - M) * p ≡ (p - 1) * N + (N - M * p) = omega (arith, a, b, less) in
     ap (λ t. t % N) whole ∙ mod-mul-add (p - 1) N (N - M * p) (omega (arith, more, less))
 
-left_holds : (f : Format) (mode : Mode) (n A p : ℕ) → f.signed ≡ true → f.bits ≡ 8 * suc n → mode.saturate ≡ false → A < 256 ^ suc n
+pub left_holds : (f : Format) (mode : Mode) (n A p : ℕ) → f.signed ≡ true → f.bits ≡ 8 * suc n → mode.saturate ≡ false → A < 256 ^ suc n
     → 1 ≤ p → HoldsResult (suc n) (fit f mode (signed_number (suc n) A *ℤ pos p)) (A * p % 256 ^ suc n)
 left_holds f mode n A p s e sat l one =
     let k = suc n in
@@ -117,7 +117,7 @@ left_holds f mode n A p s e sat l one =
     (cases_lt (M * p - 1) h))
     (cases_lt (2 * A) N)
 
-plain_left_holds : (f : Format) (mode : Mode) (n A p : ℕ) → f.signed ≡ false → f.bits ≡ 8 * suc n → mode.saturate ≡ false
+pub plain_left_holds : (f : Format) (mode : Mode) (n A p : ℕ) → f.signed ≡ false → f.bits ≡ 8 * suc n → mode.saturate ≡ false
     → HoldsResult (suc n) (fit f mode (pos A *ℤ pos p)) (A * p % 256 ^ suc n)
 plain_left_holds f mode n A p s e sat =
     let N = 256 ^ suc n in

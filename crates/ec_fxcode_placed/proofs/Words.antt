@@ -1,5 +1,5 @@
 -- The form of the code: the words and steps of one bit, and the words of the whole.
-use Rattle.std.proofs.Common.{◌≡◌, ℕ, zero, suc, ◌+◌, ◌-◌, ◌*◌, ◌<◌, ◌≤◌, true, false, refl, arith, ◌++◌}
+use Rattle.std.proofs.Common.{◌≡◌, ℕ, zero, suc, ◌+◌, ◌-◌, ◌*◌, ◌^◌, ◌<◌, ◌≤◌, true, false, refl, arith, ◌++◌}
 use Rattle.std.proofs.lemmas.List.Sums.{sum_by-append}
 use Rattle.ec_asm.specs.declared.pieces.Location.{Location}
 use Rattle.ec_asm.specs.declared.pieces.Location.TheVariants.{InRegisters, InMemory}
@@ -130,3 +130,16 @@ placed_shifts_have false true p n =
       a,
       b,
     )
+
+-- ---- few bits
+
+pub few_bits : (k : ℕ) → k < 8 → 2 ^ k ≤ 128
+few_bits zero l = omega arith
+few_bits (suc zero) l = omega arith
+few_bits (suc (suc zero)) l = omega arith
+few_bits (suc (suc (suc zero))) l = omega arith
+few_bits (suc (suc (suc (suc zero)))) l = omega arith
+few_bits (suc (suc (suc (suc (suc zero))))) l = omega arith
+few_bits (suc (suc (suc (suc (suc (suc zero)))))) l = omega arith
+few_bits (suc (suc (suc (suc (suc (suc (suc zero))))))) l = omega arith
+few_bits (suc (suc (suc (suc (suc (suc (suc (suc k)))))))) l = absurd (omega (arith, l))

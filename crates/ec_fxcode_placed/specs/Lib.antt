@@ -1,2 +1,3 @@
 pub mod Shifts
+pub mod Counts
 pub mod ShiftLaws

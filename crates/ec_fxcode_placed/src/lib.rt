@@ -7,4 +7,4 @@
 pub mod laws;
 mod shifts;
 
-pub use shifts::shift_in_place;
+pub use shifts::{shift_in_place, shift_in_place_by};

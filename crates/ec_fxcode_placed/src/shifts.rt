@@ -3,11 +3,14 @@ ghost use Rattle.std.specs.Prelude.{◌≡◌, ◌+◌, ◌-◌, ◌*◌, ◌≤
 ghost use Rattle.ec_runs.specs.Behaviours.{BeginWith};
 ghost use Rattle.ec_asm.specs.Pieces.{HasBytes, HasByte, instruction};
 ghost use Rattle.ec_fxcode_placed.specs.Shifts.{raise_byte, raise_code, half_code, half_words, rounded_code, placed_code};
+ghost use Rattle.ec_fxcode_placed.specs.Counts.{biased_by, biased_byte, bias_code, rounded_by_code, placed_by_code};
+ghost use Rattle.ec_fxcode_placed.specs.Counts.{takes_loop, turned_by_code};
+ghost use Rattle.ec_asm.specs.Items.{chain};
 
 use ec_asm::{AsmItem, Location, Operator, halve};
 use ec_fxcode::sign;
 use ec_isa::Instr;
-use ec_select_shifts::{Direction, shift};
+use ec_select_shifts::{Direction, shift, shift_by};
 use ec_space::{NoMemory, Seq};
 
 /// The subtraction of R31 from a register for byte `i`: the lowest byte takes no borrow.
@@ -141,5 +144,136 @@ pub fn shift_in_place(
         (true, _) => shift(out, Direction::Left, at, bytes),
         (false, true) => rounded(out, at, bytes),
         (false, false) => shift(out, Direction::Right { signed: false }, at, bytes),
+    }
+}
+
+/// The addition of a register to another one for byte `i`: the lowest byte takes R31, and each other one the carry.
+fn more(i: u8, register: u8) -> Instr
+    ensures { result ≡ biased_by i register }
+{
+    if i == 0 {
+        Instr::Add { d: register, r: 31 }
+    } else {
+        Instr::Adc { d: register, r: 0 }
+    }
+}
+
+/// Appends code for byte `i` of a sum with R31.
+fn bias_byte(out: &mut Seq<AsmItem>, r: u8, i: u8) -> Result<(), NoMemory>
+    requires { r + i < 32 }
+    ensures ok { OnOk result (out.new.items ≡ out.old.items ++ biased_byte r i) }
+    ensures err { OnErr result (BeginWith out.old.items out.new.items) }
+{
+    out.extend_from_slice(&[AsmItem::Plain(more(i, r + i))])
+}
+
+/// Appends code that adds R31 to a number in registers from `r` on, where R0 is 0.
+fn bias_bytes(out: &mut Seq<AsmItem>, r: u8, bytes: u8) -> Result<(), NoMemory>
+    requires { r + bytes ≤ 32 }
+    ensures ok { OnOk result (out.new.items ≡ out.old.items ++ chain (biased_byte r) bytes) }
+    ensures err { OnErr result (BeginWith out.old.items out.new.items) }
+{
+    for i in 0..bytes {
+        bias_byte(out, r, i)?;
+    }
+    Ok(())
+}
+
+/// Appends code that adds 2 ^ count - 1 to a number in registers from `r` on where it is negative.
+fn bias(out: &mut Seq<AsmItem>, r: u8, bytes: u8, count: u8) -> Result<(), NoMemory>
+    requires row { r + bytes ≤ 32 }
+    requires some { 1 ≤ bytes }
+    requires few { count < 8 }
+    ensures ok { OnOk result (out.new.items ≡ out.old.items ++ bias_code r bytes count) }
+    ensures err { OnErr result (BeginWith out.old.items out.new.items) }
+{
+    sign(out, Location::InRegisters(r), bytes)?;
+    out.extend_from_slice(&[
+        AsmItem::Plain(Instr::Andi {
+            d: 31,
+            k: low_mask(count),
+        }),
+        AsmItem::Plain(Instr::Eor { d: 0, r: 0 }),
+    ])?;
+    bias_bytes(out, r, bytes)
+}
+
+/// 2 ^ count - 1.
+fn low_mask(count: u8) -> u8
+    requires { count < 8 }
+    ensures { result ≡ 2 ^ count - 1 }
+{
+    (1 << count) - 1
+}
+
+/// Appends code that shifts a number in two's complement to the right by a known count, and rounds toward zero.
+fn rounded_by(out: &mut Seq<AsmItem>, at: Location, bytes: u8, count: u8) -> Result<(), NoMemory>
+    requires at { HasBytes at bytes }
+    requires top { HasByte at (bytes - 1) }
+    requires some { 1 ≤ bytes }
+    ensures ok { OnOk result (out.new.items ≡ out.old.items ++ rounded_by_code at bytes count) }
+    ensures err { OnErr result (BeginWith out.old.items out.new.items) }
+{
+    match at {
+        Location::InRegisters(r) if count < 8 => {
+            bias(out, r, bytes, count)?;
+            shift_by(out, Direction::Right { signed: true }, at, bytes, count)
+        }
+        _ => {
+            out.extend_from_slice(&[AsmItem::Plain(Instr::Ldi { d: 30, k: count })])?;
+            rounded(out, at, bytes)
+        }
+    }
+}
+
+/// Whether the loop has fewer words than a move of whole bytes and a shift of the others by bits.
+fn takes_loop(bytes: u8, count: u8) -> bool
+    ensures { result ≡ takes_loop bytes count }
+{
+    let bits = u16::from(count % 8) * u16::from(bytes.saturating_sub(count / 8));
+    count >= 8 && bits > 4
+}
+
+/// Appends code that shifts a number by a known count, as an integer.
+fn turned_by(
+    out: &mut Seq<AsmItem>,
+    by: Direction,
+    at: Location,
+    bytes: u8,
+    count: u8,
+) -> Result<(), NoMemory>
+    requires at { HasBytes at bytes }
+    requires some { 1 ≤ bytes }
+    ensures ok { OnOk result (out.new.items ≡ out.old.items ++ turned_by_code by at bytes count) }
+    ensures err { OnErr result (BeginWith out.old.items out.new.items) }
+{
+    if takes_loop(bytes, count) {
+        out.extend_from_slice(&[AsmItem::Plain(Instr::Ldi { d: 30, k: count })])?;
+        return shift(out, by, at, bytes);
+    }
+    shift_by(out, by, at, bytes, count)
+}
+
+/// Appends code that shifts a fixed-point number of so many bytes where it stands, by a known count. To the right it
+/// rounds toward zero, and to the left no result is promised where it is out of range. Where memory runs out, a part of
+/// the code is appended.
+pub fn shift_in_place_by(
+    out: &mut Seq<AsmItem>,
+    left: bool,
+    signed: bool,
+    at: Location,
+    bytes: u8,
+    count: u8,
+) -> Result<(), NoMemory>
+    requires at { HasBytes at bytes }
+    requires top { HasByte at (bytes - 1) }
+    requires some { 1 ≤ bytes }
+    ensures ok { OnOk result (out.new.items ≡ out.old.items ++ placed_by_code left signed at bytes count) }
+    ensures err { OnErr result (BeginWith out.old.items out.new.items) }
+{
+    match (left, signed) {
+        (true, _) => turned_by(out, Direction::Left, at, bytes, count),
+        (false, true) => rounded_by(out, at, bytes, count),
+        (false, false) => turned_by(out, Direction::Right { signed: false }, at, bytes, count),
     }
 }

@@ -1,5 +1,5 @@
--- Code of an operation that has a shape is alike at each use: neither known numbers nor what the next operation is told make it
--- longer.
+-- Code of an operation that has a shape is alike wherever the same number is known: what the next operation is told does not make
+-- it longer.
 use Rattle.std.proofs.Common.{◌≡◌, ℕ, ◌≤◌, Bool, true, false, not, List, [], ◌∷◌, refl, sym, subst, arith, inl, inr}
 use Rattle.std.specs.Prelude.{⊤, ◌||◌, ◌&&◌, Option, Some, None, if◌then◌else◌}
 use Rattle.std.proofs.lemmas.Bool.{false≢true}
@@ -176,7 +176,7 @@ module _ (slots : ℕ) (to a b : Temp) (ty aty bty : PlainType) where
 
 divided_alike : (known : Option RightNumber) (telling : Option Told) (left right : Bool) (p q to : Location) (bytes n : ℕ)
     → code_words (integer_binary known telling Div left right p q to bytes n)
-    ≤ code_words (integer_binary None None Div left right p q to bytes n)
+    ≤ code_words (integer_binary known None Div left right p q to bytes n)
 divided_alike None None left right p q to bytes n = omega arith
 divided_alike None (Some told) left right p q to bytes n = omega arith
 divided_alike (Some k) None left right p q to bytes n = omega arith
@@ -184,7 +184,7 @@ divided_alike (Some k) (Some told) left right p q to bytes n = omega arith
 
 remainder_alike : (known : Option RightNumber) (telling : Option Told) (left right : Bool) (p q to : Location) (bytes n : ℕ)
     → code_words (integer_binary known telling Rem left right p q to bytes n)
-    ≤ code_words (integer_binary None None Rem left right p q to bytes n)
+    ≤ code_words (integer_binary known None Rem left right p q to bytes n)
 remainder_alike None None left right p q to bytes n = omega arith
 remainder_alike None (Some told) left right p q to bytes n = omega arith
 remainder_alike (Some k) None left right p q to bytes n = omega arith
@@ -195,7 +195,7 @@ integer_alike : (slots : ℕ) (to a b : Temp) (ty aty bty : PlainType) (known : 
     → IsBinary (family_of op) slots to a b ty aty bty → HaveOperationTypes op ty aty bty
     → op_shapes (binary_op op ty mode to a aty b bty) ≡ s ∷ []
     → code_words (integer_binary known telling op left right p q r a.bytes n)
-    ≤ code_words (integer_binary None None op left right p q r a.bytes n)
+    ≤ code_words (integer_binary known None op left right p q r a.bytes n)
 integer_alike slots to a b ty aty bty known telling left right p q r n Div mode s i h e =
     divided_alike known telling left right p q r a.bytes n
 integer_alike slots to a b ty aty bty known telling left right p q r n Rem mode s i h e =
@@ -222,27 +222,27 @@ second_kind x y a b c d g e n m h = rw (n, m) h
 pub alike : (p : PlainProgram) (results : ℕ → ℕ) (f : ℕ) (called : List ℕ) (slots : ℕ) (at : Temp → Location) (k l : Linkage)
     (told telling : Option Told) (known : Option RightNumber) (n : ℕ) (kept others : Need) (i : PlainIr) (s : Shape)
     → k.core ≡ l.core → IsCovered p results f called slots i → HasOperandTypes i → op_shapes i ≡ s ∷ []
-    → code_words (operation_code p at k told telling known n kept i) ≤ code_words (operation_code p at l None None None n others i)
+    → code_words (operation_code p at k told telling known n kept i) ≤ code_words (operation_code p at l None None known n others i)
 alike p results f called slots at k l told telling known n kept others (binary_op op ty mode to a aty b bty) s c (inl i) h e =
     let pointed = λ (core : Core). pointer_binary core (is_pointer aty) (is_pointer bty) p op aty bty (at a) (at b) (at to) a.bytes
     b.bytes n in
     none_kind (is_fixed aty || is_fixed bty) (is_pointer aty || is_pointer bty)
-    (fixed_binary telling op ty aty bty mode (at a) (at b) (at to) a.bytes n) (pointed k.core)
+    (fixed_binary known telling op ty aty bty mode (at a) (at b) (at to) a.bytes n) (pointed k.core)
     (integer_binary known telling op (is_signed aty) (is_signed bty) (at a) (at b) (at to) a.bytes n)
-    (fixed_binary None op ty aty bty mode (at a) (at b) (at to) a.bytes n) (pointed l.core)
-    (integer_binary None None op (is_signed aty) (is_signed bty) (at a) (at b) (at to) a.bytes n)
+    (fixed_binary known None op ty aty bty mode (at a) (at b) (at to) a.bytes n) (pointed l.core)
+    (integer_binary known None op (is_signed aty) (is_signed bty) (at a) (at b) (at to) a.bytes n)
     (no_fixed (family_of op) slots to a b ty aty bty i) (no_pointer (family_of op) slots to a b ty aty bty i)
     (integer_alike slots to a b ty aty bty known telling (is_signed aty) (is_signed bty) (at a) (at b) (at to) n op mode s i h e)
 alike p results f called slots at k l told telling known n kept others (binary_op op ty mode to a aty b bty) s c (inr (inl i)) h e =
-    let rest = λ (core : Core) (x : Option RightNumber) (y : Option Told). by_kind (is_pointer aty || is_pointer bty)
+    let rest = λ (core : Core) (y : Option Told). by_kind (is_pointer aty || is_pointer bty)
     (pointer_binary core (is_pointer aty) (is_pointer bty) p op aty bty (at a) (at b) (at to) a.bytes b.bytes n)
-    (integer_binary x y op (is_signed aty) (is_signed bty) (at a) (at b) (at to) a.bytes n) in
+    (integer_binary known y op (is_signed aty) (is_signed bty) (at a) (at b) (at to) a.bytes n) in
     let whole = λ (y : Option Told). operator_code y (family_of op) (is_signed aty) (is_signed bty) (at a) (at b) (at to) a.bytes n in
     let other = if is_placed op mode ty aty bty && not (same_location (at b) (at to))
-    then placed_binary op (is_signed aty) (at a) (at b) (at to) a.bytes n
+    then placed_binary known op (is_signed aty) (at a) (at b) (at to) a.bytes n
     else answer_code (fixed_binary_code op ty aty bty mode (at a) (at b) answer_location work_location) (at to) n in
-    first_kind (is_fixed aty || is_fixed bty) (fixed_binary telling op ty aty bty mode (at a) (at b) (at to) a.bytes n)
-    (rest k.core known telling) (fixed_binary None op ty aty bty mode (at a) (at b) (at to) a.bytes n) (rest l.core None None)
+    first_kind (is_fixed aty || is_fixed bty) (fixed_binary known telling op ty aty bty mode (at a) (at b) (at to) a.bytes n)
+    (rest k.core telling) (fixed_binary known None op ty aty bty mode (at a) (at b) (at to) a.bytes n) (rest l.core None)
     (either_fixed aty bty i.types.fixed)
     (other_code (is_on_integers (family_of op) mode ty aty bty) (whole telling) (whole None) other
     (not_on_integers op mode ty aty bty i.types
@@ -252,10 +252,10 @@ alike p results f called slots at k l told telling known n kept others (binary_o
     let pointed = λ (core : Core). pointer_binary core (is_pointer aty) (is_pointer bty) p op aty bty (at a) (at b) (at to) a.bytes
     b.bytes n in
     second_kind (is_fixed aty || is_fixed bty) (is_pointer aty || is_pointer bty)
-    (fixed_binary telling op ty aty bty mode (at a) (at b) (at to) a.bytes n) (pointed k.core)
+    (fixed_binary known telling op ty aty bty mode (at a) (at b) (at to) a.bytes n) (pointed k.core)
     (integer_binary known telling op (is_signed aty) (is_signed bty) (at a) (at b) (at to) a.bytes n)
-    (fixed_binary None op ty aty bty mode (at a) (at b) (at to) a.bytes n) (pointed l.core)
-    (integer_binary None None op (is_signed aty) (is_signed bty) (at a) (at b) (at to) a.bytes n)
+    (fixed_binary known None op ty aty bty mode (at a) (at b) (at to) a.bytes n) (pointed l.core)
+    (integer_binary known None op (is_signed aty) (is_signed bty) (at a) (at b) (at to) a.bytes n)
     (pointers_only op ty aty bty i.pointer i.types).0 i.pointer
     (subst (λ core. code_words (pointed k.core) ≤ code_words (pointed core)) c (omega arith))
 alike p results f called slots at k l told telling known n kept others (unary_op op ty mode to a) s c i h e = omega arith

@@ -1,14 +1,17 @@
 -- The code of operators on fixed-point numbers whose result is computed in its place: its items fit, and its words.
-use Rattle.std.proofs.Common.{◌≡◌, ℕ, zero, suc, ◌+◌, ◌-◌, ◌*◌, ◌<◌, ◌≤◌, Bool, true, false, ◌++◌, refl, arith, ◌∷◌, []}
+use Rattle.std.proofs.Common.{◌≡◌, ℕ, zero, suc, ◌+◌, ◌-◌, ◌*◌, ◌%◌, ◌^◌, ◌<◌, ◌≤◌, Bool, true, false, ◌++◌, refl, arith, ◌∷◌, [], Option}
+use Rattle.std.proofs.Common.{Some}
+use Rattle.std.specs.Prelude.{None, nat_lt, if◌then◌else◌}
 use Rattle.std.proofs.lemmas.Bool.{lt-ltb}
+use Rattle.std.proofs.lemmas.Bool.Decides.{nat_tests}
 use Rattle.ec_fx.specs.declared.numbers.Mode.{Mode}
-use Rattle.ec_isa.specs.declared.instructions.Instr.TheVariants.{Add, Sbc}
+use Rattle.ec_isa.specs.declared.instructions.Instr.TheVariants.{Add, Sbc, Andi, Eor, Ldi}
 use Rattle.ec_isa.specs.Table.{in_table}
 use Rattle.ec_asm.specs.declared.items.AsmItem.TheVariants.{Plain}
 use Rattle.ec_asm.specs.declared.pieces.Location.{Location}
 use Rattle.ec_asm.specs.declared.pieces.Location.TheVariants.{InRegisters, InMemory}
 use Rattle.ec_asm.specs.declared.pieces.Operator.TheVariants.{Difference}
-use Rattle.ec_asm.specs.Items.{code_words}
+use Rattle.ec_asm.specs.Items.{chain, code_words}
 use Rattle.ec_asm.specs.Pieces.{instruction, halve_code}
 use Rattle.ec_asm.specs.Valid.{Sizes}
 use Rattle.ec_core.specs.declared.expressions.BinOp.{BinOp}
@@ -16,14 +19,20 @@ use Rattle.ec_core.specs.declared.expressions.BinOp.TheVariants.{Add as Plus, Su
 use Rattle.ec_core.specs.declared.expressions.BinOp.TheVariants.{Gt, Le, Ge, Eq, Ne}
 use Rattle.ec_fxcode.specs.Clamps.{take_byte, sign_code}
 use Rattle.ec_fxcode_placed.specs.Shifts.{raise_byte, raise_code, half_code, half_words, enter_code, again_code, rounded_code, placed_code}
-use Rattle.ec_fxcode_placed.proofs.Words.{placed_shifts_have}
+use Rattle.ec_fxcode_placed.specs.Counts.{biased_byte, bias_code, rounded_by_code, takes_loop, turned_by_code, placed_by_code}
+use Rattle.ec_fxcode_placed.proofs.Counted.{placed_counts_have}
+use Rattle.ec_fxcode_placed.proofs.Words.{placed_shifts_have, few_bits}
 use Rattle.ec_ir.specs.Costs.{is_bitwise}
+use Rattle.ec_ir.specs.Temporaries.{low_bytes}
+use Rattle.ec_ir_known.specs.declared.known.RightNumber.{RightNumber}
+use Rattle.ec_select_shifts.specs.declared.shifts.Direction.{Direction}
 use Rattle.ec_select_shifts.specs.declared.shifts.Direction.TheVariants.{Left, Right}
+use Rattle.ec_select_shifts.specs.Shifts.{shift_code, counted_code}
 use Rattle.ec_select_operations.specs.Code.{is_difference, takes_place, move_code, stopped_code, placed_shift, placed_whole}
 use Rattle.ec_select_operations.specs.Emitted.{second_bytes}
 use Rattle.ec_select.proofs.Fitting.{fits, Fit, joined, chained, ByteFits, BytesFit, reg}
 use Rattle.ec_select.proofs.Limits.{stopped_words, stopped_fits}
-use Rattle.ec_select.proofs.Loops.{turn_fits, shift_fits}
+use Rattle.ec_select.proofs.Loops.{turn_fits, shift_fits, counted_fits}
 use Rattle.ec_select.proofs.Words.{joined_words}
 
 -- ---- words
@@ -46,13 +55,21 @@ placed_not_bitwise Ge mode one q = absurd cc
 placed_not_bitwise Eq mode one q = absurd cc
 placed_not_bitwise Ne mode one q = absurd cc
 
-module _ (signed : Bool) (a b to : Location) (top : ℕ) (moved : code_words (move_code a to (suc top)) ≤ 4 * suc top)
+module _ (known : Option RightNumber) (signed : Bool) (a b to : Location) (top : ℕ) (moved : code_words (move_code a to (suc top)) ≤ 4 * suc top)
     (counted : code_words (move_code b (InRegisters 30) 1) ≤ 4) where
   sum_words : (minus : Bool) → code_words (stopped_code minus signed a b to top) ≤ 14 * suc top + 12
   sum_words minus = let x = stopped_words minus signed a b to top moved in omega (arith, x)
 
-  shift_words : (left : Bool) → code_words (placed_shift left signed a b to top) ≤ 14 * suc top + 12
-  shift_words left =
+  shift_words : (known : Option RightNumber) (left : Bool) → code_words (placed_shift known left signed a b to top) ≤ 14 * suc top + 12
+  shift_words (Some k) left =
+      let z = placed_counts_have left signed to (suc top) (low_bytes 16 k.number % 256) in
+      omega (
+        arith,
+        joined_words (move_code a to (suc top)) (placed_by_code left signed to (suc top) (low_bytes 16 k.number % 256)),
+        moved,
+        z,
+      )
+  shift_words None left =
       let z = placed_shifts_have left signed to (suc top) in
       omega (
         arith,
@@ -63,9 +80,9 @@ module _ (signed : Bool) (a b to : Location) (top : ℕ) (moved : code_words (mo
         z,
       )
 
-  pub placed_words : (op : BinOp) → code_words (placed_whole op signed a b to top) ≤ 14 * suc top + 12
-  placed_words Shl = shift_words true
-  placed_words Shr = shift_words false
+  pub placed_words : (op : BinOp) → code_words (placed_whole known op signed a b to top) ≤ 14 * suc top + 12
+  placed_words Shl = shift_words known true
+  placed_words Shr = shift_words known false
   placed_words Plus = sum_words (is_difference Plus)
   placed_words Sub = sum_words (is_difference Sub)
   placed_words Mul = sum_words (is_difference Mul)
@@ -121,10 +138,63 @@ module _ (sizes : Sizes) where
   placed_fits false true p n some few x = rounded_fits p n some few x
   placed_fits false false p n some few x = shift_fits sizes (Right false) p n few x
 
-  module _ (signed : Bool) (a b to : Location) (top : ℕ) (few : top ≤ 7) (moved : Fit sizes (move_code a to (suc top)))
+  -- by a known count
+  rounded_by_fits : (p : Location) (n k : ℕ) → 1 ≤ n → n ≤ 8 → k < 256 → BytesFit sizes p n → Fit sizes (rounded_by_code p n k)
+  rounded_by_fits p n k some few small x = by_place p x
+    where
+      by_bits : (q : Location) → BytesFit sizes q n → Fit sizes (Plain (Ldi 30 k) ∷ rounded_code q n)
+      by_bits q y =
+          joined (fits sizes) (Plain (Ldi 30 k) ∷ []) (rounded_code q n) (rw (lt-ltb k 256 small) refl) (rounded_fits q n some few y)
+
+      by_place : (q : Location) → BytesFit sizes q n → Fit sizes (rounded_by_code q n k)
+      by_place (InMemory o j) y = by_bits (InMemory o j) y
+      by_place (InRegisters r) y = by_count (nat_lt k 8) refl
+        where
+          ltb_true : (a b : ℕ) → nat_lt a b ≡ true → a < b
+          ltb_true a b h = grind (arith, nat_tests)
+
+          mask : nat_lt k 8 ≡ true → 2 ^ k - 1 < 256
+          mask t = let h = few_bits k (ltb_true k 8 t) in omega (arith, h)
+
+          byte_fits : (i : ℕ) → i < n → Fit sizes (biased_byte r i)
+          byte_fits zero l = rw (lt-ltb (r + 0) 32 (y 0 l)) refl
+          byte_fits (suc i) l = rw (lt-ltb (r + suc i) 32 (y (suc i) l)) refl
+
+          by_count : (b : Bool) → nat_lt k 8 ≡ b → Fit sizes (if b then bias_code r n k ++ counted_code (Right true) (InRegisters r) n k
+              else Plain (Ldi 30 k) ∷ rounded_code (InRegisters r) n)
+          by_count false t = by_bits (InRegisters r) y
+          by_count true t =
+              joined (fits sizes) (bias_code r n k) (counted_code (Right true) (InRegisters r) n k)
+              (joined (fits sizes) (sign_code (InRegisters r) n)
+              (Plain (Andi 31 (2 ^ k - 1)) ∷ Plain (Eor 0 0) ∷ chain (biased_byte r) n)
+              (joined (fits sizes) (take_byte (InRegisters r) (n - 1)) (Plain (Add 0 0) ∷ Plain (Sbc 31 31) ∷ [])
+              (take_fits (InRegisters r) (n - 1) (y (n - 1) (omega (arith, some)))) refl)
+              (joined (fits sizes) (Plain (Andi 31 (2 ^ k - 1)) ∷ Plain (Eor 0 0) ∷ []) (chain (biased_byte r) n)
+              (rw (lt-ltb (2 ^ k - 1) 256 (mask t)) refl) (chained (fits sizes) (biased_byte r) n byte_fits)))
+              (counted_fits sizes (Right true) (InRegisters r) n k few small y)
+
+  turned_by_fits : (s : Direction) (p : Location) (n k : ℕ) → n ≤ 8 → k < 256 → BytesFit sizes p n → Fit sizes (turned_by_code s p n k)
+  turned_by_fits s p n k few small x = by_loop (takes_loop n k)
+    where
+      by_loop : (b : Bool) → Fit sizes (if b then Plain (Ldi 30 k) ∷ shift_code s p n else counted_code s p n k)
+      by_loop true =
+          joined (fits sizes) (Plain (Ldi 30 k) ∷ []) (shift_code s p n) (rw (lt-ltb k 256 small) refl) (shift_fits sizes s p n few x)
+      by_loop false = counted_fits sizes s p n k few small x
+
+  placed_by_fits : (left signed : Bool) (p : Location) (n k : ℕ) → 1 ≤ n → n ≤ 8 → k < 256 → BytesFit sizes p n
+      → Fit sizes (placed_by_code left signed p n k)
+  placed_by_fits true signed p n k some few small x = turned_by_fits Left p n k few small x
+  placed_by_fits false true p n k some few small x = rounded_by_fits p n k some few small x
+  placed_by_fits false false p n k some few small x = turned_by_fits (Right false) p n k few small x
+
+  module _ (known : Option RightNumber) (signed : Bool) (a b to : Location) (top : ℕ) (few : top ≤ 7) (moved : Fit sizes (move_code a to (suc top)))
       (z : BytesFit sizes to (suc top)) where
-    shifted_fits : (left : Bool) → Fit sizes (move_code b (InRegisters 30) 1) → Fit sizes (placed_shift left signed a b to top)
-    shifted_fits left counted =
+    shifted_fits : (known : Option RightNumber) (left : Bool) → Fit sizes (move_code b (InRegisters 30) 1)
+        → Fit sizes (placed_shift known left signed a b to top)
+    shifted_fits (Some k) left counted =
+        joined (fits sizes) (move_code a to (suc top)) (placed_by_code left signed to (suc top) (low_bytes 16 k.number % 256)) moved
+        (placed_by_fits left signed to (suc top) (low_bytes 16 k.number % 256) (omega arith) (omega arith) (omega arith) z)
+    shifted_fits None left counted =
         joined (fits sizes) (move_code b (InRegisters 30) 1) (move_code a to (suc top) ++ placed_code left signed to (suc top)) counted
         (joined (fits sizes) (move_code a to (suc top)) (placed_code left signed to (suc top)) moved
         (placed_fits left signed to (suc top) (omega arith) (omega arith) z))
@@ -133,9 +203,9 @@ module _ (sizes : Sizes) where
     summed_fits minus y = stopped_fits sizes minus signed a b to top few moved y z
 
     pub whole_fits : (op : BinOp) → (BytesFit sizes b 1 → Fit sizes (move_code b (InRegisters 30) 1))
-        → BytesFit sizes b (second_bytes op (suc top)) → Fit sizes (placed_whole op signed a b to top)
-    whole_fits Shl counted y = shifted_fits true (counted y)
-    whole_fits Shr counted y = shifted_fits false (counted y)
+        → BytesFit sizes b (second_bytes op (suc top)) → Fit sizes (placed_whole known op signed a b to top)
+    whole_fits Shl counted y = shifted_fits known true (counted y)
+    whole_fits Shr counted y = shifted_fits known false (counted y)
     whole_fits Plus counted y = summed_fits (is_difference Plus) y
     whole_fits Sub counted y = summed_fits (is_difference Sub) y
     whole_fits Mul counted y = summed_fits (is_difference Mul) y

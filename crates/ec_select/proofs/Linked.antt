@@ -9,6 +9,8 @@ use Rattle.ec_ir.specs.Operations.{PlainIr, constant, copy, address, field, load
 use Rattle.ec_ir.specs.Operations.{store_object, binary_op, unary_op, conversion, label, jump, branch_zero}
 use Rattle.ec_ir.specs.Operations.{call_function, return_from, port_in, port_out, PlainIrFunction, PlainIrProgram, data_of}
 use Rattle.ec_ir.specs.Valid.{ValidIr, ValidOperation, called_in}
+use Rattle.ec_ir_known.specs.declared.known.RightNumber.{RightNumber}
+use Rattle.ec_ir_known.specs.Known.{right_numbers}
 use Rattle.ec_select_functions.specs.Covered.{IsCovered, AreCovered}
 use Rattle.ec_select_operations.specs.declared.calls.Linking.{Linking}
 use Rattle.ec_select_operations.specs.declared.homes.Homes.{Homes}
@@ -117,21 +119,23 @@ module _ (core : Core) (p : PlainIrProgram) (valid : ValidIr p) (has : HasCode p
   joined_all (u ∷ a) b h k = (h.0, joined_all a b h.1 k)
 
   module _ (f : ℕ) (g : PlainIrFunction) (e : slice_get p.functions f ≡ Some g) (h : Homes) where
-    of_one : (n : ℕ) (i : PlainIr) → IsCovered (data_of p) has.results f (called_in g.code) g.slots i
-        → ValidOperation p valid.results f g.slots g.code i → AllByRecursion Held (uses_of core (data_of p) h n i)
-    of_one n i c v = by_test (is_shaped i) refl
+    of_one : (known : Option RightNumber) (n : ℕ) (i : PlainIr) → IsCovered (data_of p) has.results f (called_in g.code) g.slots i
+        → ValidOperation p valid.results f g.slots g.code i → AllByRecursion Held (uses_of core (data_of p) h known n i)
+    of_one known n i c v = by_test (is_shaped i) refl
       where
-        by_test : (b : Bool) → is_shaped i ≡ b → AllByRecursion Held (if b then use_of core (data_of p) h n i ∷ [] else [])
+        by_test : (b : Bool) → is_shaped i ≡ b → AllByRecursion Held (if b then use_of core (data_of p) h known n i ∷ [] else [])
         by_test true s = (each f g i e c v s, tt)
         by_test false s = tt
 
-    of_code : (wanted : List ℕ) (code : List PlainIr) → AreCovered (data_of p) has.results f (called_in g.code) g.slots code
+    of_code : (wanted : List ℕ) (known : List (Option RightNumber)) (code : List PlainIr) → AreCovered (data_of p) has.results f (called_in g.code) g.slots code
         → AllByRecursion (ValidOperation p valid.results f g.slots g.code) code
-        → AllByRecursion Held (uses_in core (data_of p) h wanted code)
-    of_code [] code c v = tt
-    of_code (n ∷ wanted) [] c v = tt
-    of_code (n ∷ wanted) (i ∷ code) c v =
-        joined_all (uses_of core (data_of p) h n i) (uses_in core (data_of p) h wanted code) (of_one n i c.0 v.0) (of_code wanted code c.1 v.1)
+        → AllByRecursion Held (uses_in core (data_of p) h wanted known code)
+    of_code [] known code c v = tt
+    of_code (n ∷ wanted) [] code c v = tt
+    of_code (n ∷ wanted) (number ∷ known) [] c v = tt
+    of_code (n ∷ wanted) (number ∷ known) (i ∷ code) c v =
+        joined_all (uses_of core (data_of p) h number n i) (uses_in core (data_of p) h wanted known code) (of_one number n i c.0 v.0)
+        (of_code wanted known code c.1 v.1)
 
   from_function : (tables : ℕ → ℕ → Need) (f : ℕ) (gs : List PlainIrFunction)
       → ((j : ℕ) (g : PlainIrFunction) → slice_get gs j ≡ Some g → slice_get p.functions (f + j) ≡ Some g)
@@ -141,7 +145,8 @@ module _ (core : Core) (p : PlainIrProgram) (valid : ValidIr p) (has : HasCode p
       let z : f + 0 ≡ f = omega arith in
       let here : slice_get p.functions f ≡ Some g = subst (λ k. slice_get p.functions k ≡ Some g) z (there 0 g refl) in
       joined_all (function_uses core p (tables f) f g) (uses_from core p tables (f + 1) gs)
-      (of_code f g here (homes_of f g.code) (wanted_bytes (facts_of (tables f) g.code) g.code) g.code (has.functions f g here)
+      (of_code f g here (homes_of f g.code) (wanted_bytes (facts_of (tables f) g.code) g.code) (right_numbers g.code) g.code
+      (has.functions f g here)
       (function_valid p valid f g here).code)
       (from_function tables (f + 1) gs
       (λ j x e. let q : f + suc j ≡ f + 1 + j = omega arith in subst (λ k. slice_get p.functions k ≡ Some x) q (there (suc j) x e)))

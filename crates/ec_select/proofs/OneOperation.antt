@@ -350,10 +350,10 @@ module _ (sizes : Sizes) where
     answer_places : (n : ℕ) → n ≤ 8 → HasPlaces sizes answer_location n
     answer_places n few i l = room.work (40 + i) (omega arith)
 
-    fixed_binary_fits : (telling : Option Told) (op : BinOp) (ty aty bty : PlainType) (mode : Mode) (to a b : Temp) (n : ℕ)
+    fixed_binary_fits : (known : Option RightNumber) (telling : Option Told) (op : BinOp) (ty aty bty : PlainType) (mode : Mode) (to a b : Temp) (n : ℕ)
         → IsFixedBinary k.slots op to a b ty aty bty → n ≤ to.bytes
-        → Fit sizes (fixed_binary telling op ty aty bty mode (home k.homes a) (home k.homes b) (home k.homes to) a.bytes n)
-    fixed_binary_fits telling op ty aty bty mode to a b n h l = by_code (is_on_integers (family_of op) mode ty aty bty) refl
+        → Fit sizes (fixed_binary known telling op ty aty bty mode (home k.homes a) (home k.homes b) (home k.homes to) a.bytes n)
+    fixed_binary_fits known telling op ty aty bty mode to a b n h l = by_code (is_on_integers (family_of op) mode ty aty bty) refl
       where
         code : List AsmItem
         code = fixed_binary_code op ty aty bty mode (home k.homes a) (home k.homes b) answer_location work_location
@@ -362,19 +362,19 @@ module _ (sizes : Sizes) where
         stops = is_placed op mode ty aty bty && not (same_location (home k.homes b) (home k.homes to))
 
         stopped : List AsmItem
-        stopped = placed_binary op (is_signed aty) (home k.homes a) (home k.homes b) (home k.homes to) a.bytes n
+        stopped = placed_binary known op (is_signed aty) (home k.homes a) (home k.homes b) (home k.homes to) a.bytes n
 
         by_stop : (x : Bool) → stops ≡ x → Fit sizes (if x then stopped else answer_code code (home k.homes to) n)
         by_stop true s =
-            let known = and_first (is_placed op mode ty aty bty) (not (same_location (home k.homes b) (home k.homes to))) s in
-            let there = placed_bytes op mode n to a b ty aty bty known
+            let placed = and_first (is_placed op mode ty aty bty) (not (same_location (home k.homes b) (home k.homes to))) s in
+            let there = placed_bytes op mode n to a b ty aty bty placed
             (record { types = h.types; left = h.left_bytes; right = h.right_bytes; result = h.result_bytes; most = l }) in
             let most = h.left.most in let some = h.left.some in let wide = there.result in
             let top = a.bytes - 1 in
             let one_more : a.bytes ≡ suc top = omega arith in
             let second : second_bytes op (suc top) ≤ b.bytes = subst (λ (m : ℕ). second_bytes op m ≤ b.bytes) one_more there.right in
-            unless_none n (placed_whole op (is_signed aty) (home k.homes a) (home k.homes b) (home k.homes to) top)
-            (whole_fits sizes (is_signed aty) (home k.homes a) (home k.homes b) (home k.homes to) top (omega arith)
+            unless_none n (placed_whole known op (is_signed aty) (home k.homes a) (home k.homes b) (home k.homes to) top)
+            (whole_fits sizes known (is_signed aty) (home k.homes a) (home k.homes b) (home k.homes to) top (omega arith)
             (move_fits (home k.homes a) (home k.homes to) (suc top) (low_home a (suc top) h.left (omega arith))
             (low_home to (suc top) h.result (omega arith))) (low_home to (suc top) h.result (omega arith)) op
             (λ x. move_fits (home k.homes b) (InRegisters 30) 1 x (registers_fit sizes 30 1 (omega arith)))
@@ -639,14 +639,14 @@ module _ (sizes : Sizes) where
         → IsBinary (family_of op) k.slots to a b ty aty bty
         ⊎ (IsFixedBinary k.slots op to a b ty aty bty ⊎ IsPointerBinary p k.slots op to a b ty aty bty) → n ≤ to.bytes
         → Fit sizes (by_kind (is_fixed aty || is_fixed bty)
-        (fixed_binary telling op ty aty bty mode (home k.homes a) (home k.homes b) (home k.homes to) a.bytes n)
+        (fixed_binary known telling op ty aty bty mode (home k.homes a) (home k.homes b) (home k.homes to) a.bytes n)
         (by_kind (is_pointer aty || is_pointer bty)
         (pointer_binary k.core (is_pointer aty) (is_pointer bty) p op aty bty (home k.homes a) (home k.homes b) (home k.homes to)
         a.bytes b.bytes n)
         (integer_binary known telling op (is_signed aty) (is_signed bty) (home k.homes a) (home k.homes b) (home k.homes to)
         a.bytes n)))
     of_binary known telling op ty aty bty mode to a b n (inl h) l =
-        let own = fixed_binary telling op ty aty bty mode (home k.homes a) (home k.homes b) (home k.homes to) a.bytes n in
+        let own = fixed_binary known telling op ty aty bty mode (home k.homes a) (home k.homes b) (home k.homes to) a.bytes n in
         let pointed = pointer_binary k.core (is_pointer aty) (is_pointer bty) p op aty bty (home k.homes a) (home k.homes b)
         (home k.homes to) a.bytes b.bytes n in
         let usual = integer_binary known telling op (is_signed aty) (is_signed bty) (home k.homes a) (home k.homes b)
@@ -657,15 +657,15 @@ module _ (sizes : Sizes) where
         (no_pointer (family_of op) k.slots to a b ty aty bty h)
         (taking_fits op known telling to a b ty aty bty (is_signed aty) (is_signed bty) n h l))
     of_binary known telling op ty aty bty mode to a b n (inr (inl h)) l =
-        let own = fixed_binary telling op ty aty bty mode (home k.homes a) (home k.homes b) (home k.homes to) a.bytes n in
+        let own = fixed_binary known telling op ty aty bty mode (home k.homes a) (home k.homes b) (home k.homes to) a.bytes n in
         let pointed = pointer_binary k.core (is_pointer aty) (is_pointer bty) p op aty bty (home k.homes a) (home k.homes b)
         (home k.homes to) a.bytes b.bytes n in
         let usual = integer_binary known telling op (is_signed aty) (is_signed bty) (home k.homes a) (home k.homes b)
         (home k.homes to) a.bytes n in
         own_fits sizes (is_fixed aty || is_fixed bty) own (by_kind (is_pointer aty || is_pointer bty) pointed usual)
-        (either_fixed aty bty h.types.fixed) (fixed_binary_fits telling op ty aty bty mode to a b n h l)
+        (either_fixed aty bty h.types.fixed) (fixed_binary_fits known telling op ty aty bty mode to a b n h l)
     of_binary known telling op ty aty bty mode to a b n (inr (inr h)) l =
-        let own = fixed_binary telling op ty aty bty mode (home k.homes a) (home k.homes b) (home k.homes to) a.bytes n in
+        let own = fixed_binary known telling op ty aty bty mode (home k.homes a) (home k.homes b) (home k.homes to) a.bytes n in
         let pointed = pointer_binary k.core (is_pointer aty) (is_pointer bty) p op aty bty (home k.homes a) (home k.homes b)
         (home k.homes to) a.bytes b.bytes n in
         let usual = integer_binary known telling op (is_signed aty) (is_signed bty) (home k.homes a) (home k.homes b)

@@ -720,11 +720,11 @@ module _ (laws : WordLaws) where
 
   -- ---- operations with a fixed-point type
 
-  pub fixed_binary_most : (telling : Option Told) (op : BinOp) (ty aty bty : PlainType) (mode : Mode) (slots : ℕ) (h : Homes)
+  pub fixed_binary_most : (known : Option RightNumber) (telling : Option Told) (op : BinOp) (ty aty bty : PlainType) (mode : Mode) (slots : ℕ) (h : Homes)
       (to a b : Temp) (n : ℕ) → IsFixedBinary slots op to a b ty aty bty → n ≤ to.bytes
-      → code_words (fixed_binary telling op ty aty bty mode (home h a) (home h b) (home h to) a.bytes n)
+      → code_words (fixed_binary known telling op ty aty bty mode (home h a) (home h b) (home h to) a.bytes n)
       ≤ binary_words op ty aty bty
-  fixed_binary_most telling op ty aty bty mode slots h to a b n i l = by_code (is_on_integers (family_of op) mode ty aty bty) refl
+  fixed_binary_most known telling op ty aty bty mode slots h to a b n i l = by_code (is_on_integers (family_of op) mode ty aty bty) refl
     where
       code : List AsmItem
       code = fixed_binary_code op ty aty bty mode (home h a) (home h b) answer_location work_location
@@ -733,13 +733,13 @@ module _ (laws : WordLaws) where
       stops = is_placed op mode ty aty bty && not (same_location (home h b) (home h to))
 
       stopped : List AsmItem
-      stopped = placed_binary op (is_signed aty) (home h a) (home h b) (home h to) a.bytes n
+      stopped = placed_binary known op (is_signed aty) (home h a) (home h b) (home h to) a.bytes n
 
       by_stop : (x : Bool) → stops ≡ x
           → code_words (if x then stopped else answer_code code (home h to) n) ≤ binary_words op ty aty bty
       by_stop true s =
-          let known = and_first (is_placed op mode ty aty bty) (not (same_location (home h b) (home h to))) s in
-          let takes = and_second (has_one_format ty aty) (takes_place op mode (has_one_format aty bty)) known in
+          let placed = and_first (is_placed op mode ty aty bty) (not (same_location (home h b) (home h to))) s in
+          let takes = and_second (has_one_format ty aty) (takes_place op mode (has_one_format aty bty)) placed in
           let words : binary_words op ty aty bty ≡ operation_words (widest (ty ∷ aty ∷ bty ∷ [])) =
           ap (λ x. if x && is_integer ty then 10 * widest (ty ∷ aty ∷ bty ∷ []) else operation_words (widest (ty ∷ aty ∷ bty ∷ [])))
           (placed_not_bitwise op mode (has_one_format aty bty) takes) in
@@ -747,9 +747,9 @@ module _ (laws : WordLaws) where
           let bytes = i.left_bytes in
           let some = i.left.some in
           let top = a.bytes - 1 in
-          let few = placed_words (is_signed aty) (home h a) (home h b) (home h to) top (move_words (home h a) (home h to) (suc top))
+          let few = placed_words known (is_signed aty) (home h a) (home h b) (home h to) top (move_words (home h a) (home h to) (suc top))
           (move_words (home h b) (InRegisters 30) 1) op in
-          unless_none n (binary_words op ty aty bty) (placed_whole op (is_signed aty) (home h a) (home h b) (home h to) top)
+          unless_none n (binary_words op ty aty bty) (placed_whole known op (is_signed aty) (home h a) (home h b) (home h to) top)
           (omega (arith, words, wide, bytes, some, few))
       by_stop false s =
           let bytes = i.result_bytes in
@@ -842,13 +842,13 @@ module _ (laws : WordLaws) where
       ⊎ (IsFixedBinary slots op to a b ty aty bty ⊎ IsPointerBinary p slots op to a b ty aty bty)
       → n ≤ to.bytes → OfKind (is_fixed aty || is_fixed bty) ⊤ (is_bitwise op ≡ true → to.at ≡ a.at)
       → code_words (by_kind (is_fixed aty || is_fixed bty)
-      (fixed_binary telling op ty aty bty mode (home h a) (home h b) (home h to) a.bytes n)
+      (fixed_binary known telling op ty aty bty mode (home h a) (home h b) (home h to) a.bytes n)
       (by_kind (is_pointer aty || is_pointer bty)
       (pointer_binary core (is_pointer aty) (is_pointer bty) p op aty bty (home h a) (home h b) (home h to) a.bytes b.bytes n)
       (integer_binary known telling op (is_signed aty) (is_signed bty) (home h a) (home h b) (home h to) a.bytes n)))
       ≤ binary_words op ty aty bty
   one_binary core p known telling op ty aty bty mode slots h to a b n (inl i) l q =
-      let own = fixed_binary telling op ty aty bty mode (home h a) (home h b) (home h to) a.bytes n in
+      let own = fixed_binary known telling op ty aty bty mode (home h a) (home h b) (home h to) a.bytes n in
       let pointed = pointer_binary core (is_pointer aty) (is_pointer bty) p op aty bty (home h a) (home h b) (home h to)
       a.bytes b.bytes n in
       let usual = integer_binary known telling op (is_signed aty) (is_signed bty) (home h a) (home h b) (home h to) a.bytes n in
@@ -859,15 +859,15 @@ module _ (laws : WordLaws) where
       (others_words (is_pointer aty || is_pointer bty) pointed usual most (no_pointer (family_of op) slots to a b ty aty bty i)
       (taking_most known telling op slots h to a b ty aty bty (is_signed aty) (is_signed bty) n i l same))
   one_binary core p known telling op ty aty bty mode slots h to a b n (inr (inl i)) l q =
-      let own = fixed_binary telling op ty aty bty mode (home h a) (home h b) (home h to) a.bytes n in
+      let own = fixed_binary known telling op ty aty bty mode (home h a) (home h b) (home h to) a.bytes n in
       let pointed = pointer_binary core (is_pointer aty) (is_pointer bty) p op aty bty (home h a) (home h b) (home h to)
       a.bytes b.bytes n in
       let usual = integer_binary known telling op (is_signed aty) (is_signed bty) (home h a) (home h b) (home h to) a.bytes n in
       let most = binary_words op ty aty bty in
       own_words (is_fixed aty || is_fixed bty) own (by_kind (is_pointer aty || is_pointer bty) pointed usual) most
-      (either_fixed aty bty i.types.fixed) (fixed_binary_most telling op ty aty bty mode slots h to a b n i l)
+      (either_fixed aty bty i.types.fixed) (fixed_binary_most known telling op ty aty bty mode slots h to a b n i l)
   one_binary core p known telling op ty aty bty mode slots h to a b n (inr (inr i)) l q =
-      let own = fixed_binary telling op ty aty bty mode (home h a) (home h b) (home h to) a.bytes n in
+      let own = fixed_binary known telling op ty aty bty mode (home h a) (home h b) (home h to) a.bytes n in
       let pointed = pointer_binary core (is_pointer aty) (is_pointer bty) p op aty bty (home h a) (home h b) (home h to)
       a.bytes b.bytes n in
       let usual = integer_binary known telling op (is_signed aty) (is_signed bty) (home h a) (home h b) (home h to) a.bytes n in

@@ -374,7 +374,7 @@ module _ (laws : WordLaws) where
 
   -- ---- operators with a fixed-point operand
 
-  module _ (telling : Option Told) (mode : Mode) (slots : ℕ) (h : Homes) (to a b : Temp) (ty aty bty : PlainType) (n : ℕ) where
+  module _ (known : Option RightNumber) (telling : Option Told) (mode : Mode) (slots : ℕ) (h : Homes) (to a b : Temp) (ty aty bty : PlainType) (n : ℕ) where
     -- so many words has an operator on integers
     abbrev same_words : BinOp → ℕ
     same_words op =
@@ -422,16 +422,16 @@ module _ (laws : WordLaws) where
     exact_own Shr i l q = absurd (no_format (counts_format aty bty) q)
 
     fixed_binary_row : (op : BinOp) → IsFixedBinary slots op to a b ty aty bty → n ≤ to.bytes
-        → code_words (fixed_binary telling op ty aty bty mode (home h a) (home h b) (home h to) a.bytes n)
+        → code_words (fixed_binary known telling op ty aty bty mode (home h a) (home h b) (home h to) a.bytes n)
         ≤ most_in (shape_code (binary_shape op ty mode aty bty))
     fixed_binary_row op i l =
         let wide = widest (ty ∷ aty ∷ bty ∷ []) in
         let whole = operator_code telling (family_of op) (is_signed aty) (is_signed bty) (home h a) (home h b) (home h to) a.bytes n in
         let others = if is_placed op mode ty aty bty && not (same_location (home h b) (home h to))
-        then placed_binary op (is_signed aty) (home h a) (home h b) (home h to) a.bytes n
+        then placed_binary known op (is_signed aty) (home h a) (home h b) (home h to) a.bytes n
         else answer_code (fixed_binary_code op ty aty bty mode (home h a) (home h b) answer_location work_location) (home h to) n in
-        let code = fixed_binary telling op ty aty bty mode (home h a) (home h b) (home h to) a.bytes n in
-        let x = fixed_binary_most laws telling op ty aty bty mode slots h to a b n i l in
+        let code = fixed_binary known telling op ty aty bty mode (home h a) (home h b) (home h to) a.bytes n in
+        let x = fixed_binary_most laws known telling op ty aty bty mode slots h to a b n i l in
         let y = wide_binary op ty aty bty in
         fixed_row op (are_exact op mode ty (aty ∷ bty ∷ [])) (counts_fixed ty || any_fixed (aty ∷ bty ∷ []))
         (counts_pointer ty || any_pointer (aty ∷ bty ∷ [])) wide (code_words code)
@@ -488,13 +488,13 @@ module _ (laws : WordLaws) where
       → to.bytes ≡ scalar_size ty → n ≤ to.bytes
       → OfKind (is_fixed aty || is_fixed bty) ⊤ (is_bitwise op ≡ true → to.at ≡ a.at)
       → code_words (by_kind (is_fixed aty || is_fixed bty)
-      (fixed_binary telling op ty aty bty mode (home h a) (home h b) (home h to) a.bytes n)
+      (fixed_binary known telling op ty aty bty mode (home h a) (home h b) (home h to) a.bytes n)
       (by_kind (is_pointer aty || is_pointer bty)
       (pointer_binary core (is_pointer aty) (is_pointer bty) p op aty bty (home h a) (home h b) (home h to) a.bytes b.bytes n)
       (integer_binary known telling op (is_signed aty) (is_signed bty) (home h a) (home h b) (home h to) a.bytes n)))
       ≤ most_in (shape_code (binary_shape op ty mode aty bty))
   binary_own core p known telling op ty aty bty mode slots h to a b n (inl i) size l q =
-      let own = fixed_binary telling op ty aty bty mode (home h a) (home h b) (home h to) a.bytes n in
+      let own = fixed_binary known telling op ty aty bty mode (home h a) (home h b) (home h to) a.bytes n in
       let pointed = pointer_binary core (is_pointer aty) (is_pointer bty) p op aty bty (home h a) (home h b) (home h to)
       a.bytes b.bytes n in
       let usual = integer_binary known telling op (is_signed aty) (is_signed bty) (home h a) (home h b) (home h to) a.bytes n in
@@ -505,15 +505,15 @@ module _ (laws : WordLaws) where
       (other_kind (is_pointer aty || is_pointer bty) pointed usual most (no_pointer (family_of op) slots to a b ty aty bty i)
       (integer_row known telling slots h to a b ty aty bty (is_signed aty) (is_signed bty) n size l op mode i same))
   binary_own core p known telling op ty aty bty mode slots h to a b n (inr (inl i)) size l q =
-      let own = fixed_binary telling op ty aty bty mode (home h a) (home h b) (home h to) a.bytes n in
+      let own = fixed_binary known telling op ty aty bty mode (home h a) (home h b) (home h to) a.bytes n in
       let pointed = pointer_binary core (is_pointer aty) (is_pointer bty) p op aty bty (home h a) (home h b) (home h to)
       a.bytes b.bytes n in
       let usual = integer_binary known telling op (is_signed aty) (is_signed bty) (home h a) (home h b) (home h to) a.bytes n in
       let most = most_in (shape_code (binary_shape op ty mode aty bty)) in
       own_kind (is_fixed aty || is_fixed bty) own (by_kind (is_pointer aty || is_pointer bty) pointed usual) most
-      (either_fixed aty bty i.types.fixed) (fixed_binary_row telling mode slots h to a b ty aty bty n op i l)
+      (either_fixed aty bty i.types.fixed) (fixed_binary_row known telling mode slots h to a b ty aty bty n op i l)
   binary_own core p known telling op ty aty bty mode slots h to a b n (inr (inr i)) size l q =
-      let own = fixed_binary telling op ty aty bty mode (home h a) (home h b) (home h to) a.bytes n in
+      let own = fixed_binary known telling op ty aty bty mode (home h a) (home h b) (home h to) a.bytes n in
       let pointed = pointer_binary core (is_pointer aty) (is_pointer bty) p op aty bty (home h a) (home h b) (home h to)
       a.bytes b.bytes n in
       let usual = integer_binary known telling op (is_signed aty) (is_signed bty) (home h a) (home h b) (home h to) a.bytes n in

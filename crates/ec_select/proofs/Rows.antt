@@ -1,7 +1,7 @@
 -- Rows of shapes, and what holds of each of a list.
 use Rattle.std.proofs.Common.{◌≡◌, ℕ, zero, suc, ◌+◌, ◌-◌, ◌<◌, ◌≤◌, Bool, true, false, List, [], ◌∷◌, ◌++◌, refl, sym, ◌∙◌, ap}
 use Rattle.std.proofs.Common.{subst, arith, map, length, get_or, append_assoc}
-use Rattle.std.specs.Prelude.{if◌then◌else◌}
+use Rattle.std.specs.Prelude.{if◌then◌else◌, Option}
 use Rattle.std.specs.List.{AllByRecursion}
 use Rattle.ec_space.specs.declared.Core.{Core}
 use Rattle.ec_core_shapes.specs.Shapes.{Shape, same_shape}
@@ -9,6 +9,7 @@ use Rattle.ec_select_routines.specs.Sizes.{of_shape}
 use Rattle.ec_shapes.specs.Shapes.{has}
 use Rattle.ec_core.specs.Plain.{PlainProgram}
 use Rattle.ec_ir.specs.Operations.{PlainIr, PlainIrFunction, PlainIrProgram}
+use Rattle.ec_ir_known.specs.declared.known.RightNumber.{RightNumber}
 use Rattle.ec_select_operations.specs.Needs.{Need}
 use Rattle.ec_select_operations.specs.declared.homes.Homes.{Homes}
 use Rattle.ec_select.specs.declared.sharing.Row as measured_row
@@ -81,13 +82,15 @@ used_more us all rest u rows d e = e ∙ ap (λ (xs : List Use). map (row_of us)
 
 -- ---- uses
 
-pub one_use_more : (core : Core) (p : PlainProgram) (h : Homes) (n : ℕ) (i : PlainIr) (wanted wanted' : List ℕ) (code code' : List PlainIr)
-    (old new all : List Use) → wanted ≡ n ∷ wanted' → code ≡ i ∷ code' → new ≡ old ++ uses_of core p h n i
-    → old ++ uses_in core p h wanted code ≡ all → new ++ uses_in core p h wanted' code' ≡ all
-one_use_more core p h n i wanted wanted' code code' old new all e q more whole =
-    ap (λ (x : List Use). x ++ uses_in core p h wanted' code') more
-    ∙ append_assoc old (uses_of core p h n i) (uses_in core p h wanted' code')
-    ∙ sym (λ j. old ++ uses_in core p h (e j) (q j)) ∙ whole
+pub one_use_more : (core : Core) (p : PlainProgram) (h : Homes) (n : ℕ) (number : Option RightNumber) (i : PlainIr)
+    (wanted wanted' : List ℕ) (known known' : List (Option RightNumber)) (code code' : List PlainIr)
+    (old new all : List Use) → wanted ≡ n ∷ wanted' → known ≡ number ∷ known' → code ≡ i ∷ code'
+    → new ≡ old ++ uses_of core p h number n i
+    → old ++ uses_in core p h wanted known code ≡ all → new ++ uses_in core p h wanted' known' code' ≡ all
+one_use_more core p h n number i wanted wanted' known known' code code' old new all e s q more whole =
+    ap (λ (x : List Use). x ++ uses_in core p h wanted' known' code') more
+    ∙ append_assoc old (uses_of core p h number n i) (uses_in core p h wanted' known' code')
+    ∙ sym (λ j. old ++ uses_in core p h (e j) (s j) (q j)) ∙ whole
 
 -- ---- labels and routines
 

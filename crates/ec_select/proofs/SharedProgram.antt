@@ -89,7 +89,7 @@ module _ (laws : WordLaws) (routine_laws : RoutineLaws) (core : Core) (p : Plain
 
   few_of : (f : ℕ) (g : PlainIrFunction) → IsCounted p results f g → AllByRecursion IsFew (function_uses core p (tables f) f g)
   few_of f g h =
-      uses_few laws routine_laws (data_of p) results f (called_in g.code) (linked f g) (width_of f g) (facts_of (tables f) g.code) g.code
+      uses_few laws routine_laws (data_of p) results f (called_in g.code) (linked f g) (width_of f g) (tables f) g.code g.code
       h.covered h.in_place h.bytes h.types
 
   few_from : (f : ℕ) (gs : List PlainIrFunction)
@@ -115,7 +115,7 @@ module _ (laws : WordLaws) (routine_laws : RoutineLaws) (core : Core) (p : Plain
   shapes_from f (g ∷ gs) =
       mapped (function_uses core p (tables f) f g) (uses_from core p tables (f + 1) gs)
       ∙ ap (λ ss. ss ++ map sizes.shape (uses_from core p tables (f + 1) gs))
-      (shapes_in (data_of p) (linked f g) (facts_of (tables f) g.code) g.code)
+      (shapes_in (data_of p) (linked f g) (tables f) g.code g.code)
       ∙ ap (λ ss. all_made op_shapes g.code ++ ss) (shapes_from (f + 1) gs)
       ∙ sym (made_joined g.code (all_code gs))
 
@@ -167,7 +167,7 @@ module _ (laws : WordLaws) (routine_laws : RoutineLaws) (core : Core) (p : Plain
         let h = each f g e in
         let k = linked f g in
         let a = ops_few laws routine_laws (data_of p) results f (called_in g.code) k (width_of f g) all_uses (routines_begin p)
-        (λ i. refl) alone_words (short f g h) (facts_of (tables f) g.code) None g.code h.covered h.in_place h.bytes h.types in
+        (λ i. refl) alone_words (short f g h) (tables f) g.code None g.code h.covered h.in_place h.bytes h.types in
         omega (
           arith,
           joined_words (Label (function_label f) ∷ []) (ops_code (data_of p) (home k.homes) k (facts_of (tables f) g.code) None g.code),
@@ -266,8 +266,8 @@ module _ (laws : WordLaws) (routine_laws : RoutineLaws) (core : Core) (p : Plain
       (total sizes.own (function_uses core p (tables f) f g)) (total sizes.own (uses_from core p tables (f + 1) gs))
       (total sizes.own (function_uses core p (tables f) f g ++ uses_from core p tables (f + 1) gs)) (operations_words g.code)
       (functions_words gs)
-      (own_sum laws routine_laws (data_of p) results f (called_in g.code) (linked f g) (width_of f g) (facts_of (tables f) g.code)
-      g.code h.covered h.in_place h.bytes h.types)
+      (own_sum laws routine_laws (data_of p) results f (called_in g.code) (linked f g) (width_of f g) (tables f) g.code g.code
+      h.covered h.in_place h.bytes h.types)
       (own_from (f + 1) gs next) (total_joined unshaped_words g.code (all_code gs))
       (total_joined sizes.own (function_uses core p (tables f) f g) (uses_from core p tables (f + 1) gs))
     where

@@ -13,6 +13,7 @@ use Rattle.ec_shapes.proofs.Sums.{total_joined}
 use Rattle.ec_ir.specs.Operations.{PlainIr}
 use Rattle.ec_ir.specs.Operations.{binary_op, unary_op, conversion}
 use Rattle.ec_ir_known.specs.declared.known.RightNumber.{RightNumber}
+use Rattle.ec_ir_known.specs.Known.{numbers_left}
 use Rattle.ec_ir.specs.Costs.{op_words, code_words as operations_words}
 use Rattle.ec_ir_shapes.specs.Costs.{shape_code, own_words, op_shapes}
 use Rattle.ec_select_operations.specs.declared.families.Told.{Told}
@@ -20,7 +21,7 @@ use Rattle.ec_select_operations.specs.Code.{Linkage, own_code, called_code, link
 use Rattle.ec_select_operations.specs.Code.{result_wanted, kept_need, wanted_behind, wanted_bytes}
 use Rattle.ec_select_operations.specs.Emitted.{linkage}
 use Rattle.ec_select_operations.specs.Homes.{home}
-use Rattle.ec_select_operations.specs.Needs.{Need, Facts, needs, nothing}
+use Rattle.ec_select_operations.specs.Needs.{Need, facts_of, needs, nothing}
 use Rattle.ec_select_operations.specs.Routines.{routine_for}
 use Rattle.ec_select_functions.specs.Covered.{IsCovered, AreCovered}
 use Rattle.ec_select.specs.InPlace.{IsInPlace}
@@ -59,19 +60,22 @@ same_routine l (unary_op op ty mode to a) s e = refl
 same_routine l (conversion to ty mode a aty) s e = refl
 same_routine l i s e = absurd cc
 
-no_use : (p : PlainProgram) (k : Linkage) (m : ℕ) (i : PlainIr) → op_shapes i ≡ [] → uses_of k.core p k.homes m i ≡ []
-no_use p k m i e = by_test (is_shaped i) (ap has_some e) where
-  by_test : (x : Bool) → x ≡ false → (if x then use_of k.core p k.homes m i ∷ [] else []) ≡ []
+no_use : (p : PlainProgram) (k : Linkage) (known : Option RightNumber) (m : ℕ) (i : PlainIr) → op_shapes i ≡ []
+    → uses_of k.core p k.homes known m i ≡ []
+no_use p k known m i e = by_test (is_shaped i) (ap has_some e) where
+  by_test : (x : Bool) → x ≡ false → (if x then use_of k.core p k.homes known m i ∷ [] else []) ≡ []
   by_test true q = absurd (false≢true (sym q))
   by_test false q = refl
 
-one_use : (p : PlainProgram) (k : Linkage) (at : ℕ → Need) (need : Need) (i : PlainIr) (s : Shape) → op_shapes i ≡ s ∷ []
-    → uses_of k.core p k.homes (wanted_behind at need i) i ≡ use_of k.core p k.homes (result_wanted need i) i ∷ []
-one_use p k at need i s e =
+one_use : (p : PlainProgram) (k : Linkage) (known : Option RightNumber) (at : ℕ → Need) (need : Need) (i : PlainIr) (s : Shape)
+    → op_shapes i ≡ s ∷ []
+    → uses_of k.core p k.homes known (wanted_behind at need i) i ≡ use_of k.core p k.homes known (result_wanted need i) i ∷ []
+one_use p k known at need i s e =
     by_test (is_shaped i) (ap has_some e) (wanted_behind at need i)
-    ∙ ap (λ n. use_of k.core p k.homes n i ∷ []) (behind_is at need i s e)
+    ∙ ap (λ n. use_of k.core p k.homes known n i ∷ []) (behind_is at need i s e)
   where
-    by_test : (x : Bool) → x ≡ true → (m : ℕ) → (if x then use_of k.core p k.homes m i ∷ [] else []) ≡ use_of k.core p k.homes m i ∷ []
+    by_test : (x : Bool) → x ≡ true → (m : ℕ)
+        → (if x then use_of k.core p k.homes known m i ∷ [] else []) ≡ use_of k.core p k.homes known m i ∷ []
     by_test true q m = refl
     by_test false q m = absurd (false≢true q)
 
@@ -104,18 +108,18 @@ linked_few None c own call w false t h g = g
 
 module _ (laws : WordLaws) (routine_laws : RoutineLaws) (p : PlainProgram) (results : ℕ → ℕ) (f : ℕ) (called : List ℕ)
     (k : Linkage) (width_is : (k.homes.width ≡ 2) ⊎ (k.homes.width ≡ 4)) where
-  use_few : (need : Need) (i : PlainIr) (s : Shape) → IsCovered p results f called k.slots i → IsInPlace i → HasTypeBytes i
-      → HasOperandTypes i → op_shapes i ≡ s ∷ [] → IsFew (use_of k.core p k.homes (result_wanted need i) i)
-  use_few need i s h q b t e =
+  use_few : (known : Option RightNumber) (need : Need) (i : PlainIr) (s : Shape) → IsCovered p results f called k.slots i → IsInPlace i → HasTypeBytes i
+      → HasOperandTypes i → op_shapes i ≡ s ∷ [] → IsFew (use_of k.core p k.homes known (result_wanted need i) i)
+  use_few known need i s h q b t e =
       let same : s ≡ shape_of i = sym (is_shape i s e) in
       let n = result_wanted need i in
-      let x = alike p results f called k.slots (home k.homes) (linkage (alone k.core k.homes)) k None None None n nothing (kept_need need i) i s
+      let x = alike p results f called k.slots (home k.homes) (linkage (alone k.core k.homes)) k None None known n nothing (kept_need need i) i s
       refl h t e in
-      let y = own_within laws p results f called k width_is None None None need i s h q b e in
+      let y = own_within laws p results f called k width_is None None known need i s h q b e in
       let z = routine_within routine_laws p results f called k.slots 0 i s h b e in
       record {
-        own = subst (λ r. code_words (own_items k.core p k.homes n i) ≤ shape_most r) same
-            (chain_of (code_words (own_items k.core p k.homes n i)) (code_words (own_code p (home k.homes) k None None None need i))
+        own = subst (λ r. code_words (own_items k.core p k.homes known n i) ≤ shape_most r) same
+            (chain_of (code_words (own_items k.core p k.homes known n i)) (code_words (own_code p (home k.homes) k None None known need i))
             (shape_most s) x y);
         call = subst (λ r. code_words (called_code (home k.homes) 0 n i) ≤ shape_call r) same
             (call_within routine_laws.calls (home k.homes) 0 n i s b e (wanted_few need i s e));
@@ -133,21 +137,24 @@ module _ (laws : WordLaws) (routine_laws : RoutineLaws) (p : PlainProgram) (resu
   alone_short before telling known need i h q b e =
       own_most laws p results f called k width_is before telling known need (kept_need need i) i h q b e
 
-  uses_few_one : (at : ℕ → Need) (need : Need) (i : PlainIr) → IsCovered p results f called k.slots i → IsInPlace i → HasTypeBytes i
-      → HasOperandTypes i → AllByRecursion IsFew (uses_of k.core p k.homes (wanted_behind at need i) i)
-  uses_few_one at need i h q b t = by_shape (op_shapes i) refl where
-    by_shape : (ss : List Shape) → op_shapes i ≡ ss → AllByRecursion IsFew (uses_of k.core p k.homes (wanted_behind at need i) i)
-    by_shape [] e = subst (AllByRecursion IsFew) (sym (no_use p k (wanted_behind at need i) i e)) tt
-    by_shape (s ∷ []) e = subst (AllByRecursion IsFew) (sym (one_use p k at need i s e)) (use_few need i s h q b t e, tt)
+  uses_few_one : (known : Option RightNumber) (at : ℕ → Need) (need : Need) (i : PlainIr) → IsCovered p results f called k.slots i → IsInPlace i → HasTypeBytes i
+      → HasOperandTypes i → AllByRecursion IsFew (uses_of k.core p k.homes known (wanted_behind at need i) i)
+  uses_few_one known at need i h q b t = by_shape (op_shapes i) refl where
+    by_shape : (ss : List Shape) → op_shapes i ≡ ss → AllByRecursion IsFew (uses_of k.core p k.homes known (wanted_behind at need i) i)
+    by_shape [] e = subst (AllByRecursion IsFew) (sym (no_use p k known (wanted_behind at need i) i e)) tt
+    by_shape (s ∷ []) e = subst (AllByRecursion IsFew) (sym (one_use p k known at need i s e)) (use_few known need i s h q b t e, tt)
     by_shape (s ∷ (r ∷ ss)) e = absurd (one_at_most i s r ss e)
 
-  pub uses_few : (at : Facts) (code : List PlainIr) → AreCovered p results f called k.slots code → AllByRecursion IsInPlace code
+  pub uses_few : (labels : ℕ → Need) (all code : List PlainIr) → AreCovered p results f called k.slots code → AllByRecursion IsInPlace code
       → AllByRecursion HasTypeBytes code → AllByRecursion HasOperandTypes code
-      → AllByRecursion IsFew (uses_in k.core p k.homes (wanted_bytes at code) code)
-  uses_few at [] h q b t = tt
-  uses_few at (i ∷ code) h q b t =
-      all_joined IsFew (uses_of k.core p k.homes (wanted_behind at.needed (needs at code) i) i) (uses_in k.core p k.homes (wanted_bytes at code) code)
-      (uses_few_one at.needed (needs at code) i h.0 q.0 b.0 t.0) (uses_few at code h.1 q.1 b.1 t.1)
+      → AllByRecursion IsFew (uses_in k.core p k.homes (wanted_bytes (facts_of labels all) code) (numbers_left all code) code)
+  uses_few labels all [] h q b t = tt
+  uses_few labels all (i ∷ code) h q b t =
+      let at = facts_of labels all in
+      let known = at.known (i ∷ code) in
+      all_joined IsFew (uses_of k.core p k.homes known (wanted_behind at.needed (needs at code) i) i)
+      (uses_in k.core p k.homes (wanted_bytes at code) (numbers_left all code) code)
+      (uses_few_one known at.needed (needs at code) i h.0 q.0 b.0 t.0) (uses_few labels all code h.1 q.1 b.1 t.1)
 
   -- or has at most the words that it may have alone, and one with a shape leaves them to its use
   pub alone_op : (before telling : Option Told) (known : Option RightNumber) (need : Need) (i : PlainIr)
@@ -162,10 +169,10 @@ module _ (laws : WordLaws) (routine_laws : RoutineLaws) (p : PlainProgram) (resu
       by_test true e x = absurd (false≢true (sym e))
       by_test false e x = x
 
-  own_sum_one : (at : ℕ → Need) (need : Need) (i : PlainIr) → IsCovered p results f called k.slots i → IsInPlace i → HasTypeBytes i
+  own_sum_one : (known : Option RightNumber) (at : ℕ → Need) (need : Need) (i : PlainIr) → IsCovered p results f called k.slots i → IsInPlace i → HasTypeBytes i
       → HasOperandTypes i
-      → unshaped_words i + total sizes.own (uses_of k.core p k.homes (wanted_behind at need i) i) ≤ op_words i
-  own_sum_one at need i h q b t = by_shape (op_shapes i) refl where
+      → unshaped_words i + total sizes.own (uses_of k.core p k.homes known (wanted_behind at need i) i) ≤ op_words i
+  own_sum_one known at need i h q b t = by_shape (op_shapes i) refl where
     not_shaped : (x : Bool) → x ≡ false → (if x then 0 else op_words i) + 0 ≤ op_words i
     not_shaped true e = omega arith
     not_shaped false e = omega arith
@@ -178,31 +185,34 @@ module _ (laws : WordLaws) (routine_laws : RoutineLaws) (p : PlainProgram) (resu
     chain_of x y z h g = omega (arith, h, g)
 
     by_shape : (ss : List Shape) → op_shapes i ≡ ss
-        → unshaped_words i + total sizes.own (uses_of k.core p k.homes (wanted_behind at need i) i) ≤ op_words i
+        → unshaped_words i + total sizes.own (uses_of k.core p k.homes known (wanted_behind at need i) i) ≤ op_words i
     by_shape [] e =
-        subst (λ us. unshaped_words i + total sizes.own us ≤ op_words i) (sym (no_use p k (wanted_behind at need i) i e))
+        subst (λ us. unshaped_words i + total sizes.own us ≤ op_words i) (sym (no_use p k known (wanted_behind at need i) i e))
         (not_shaped (is_shaped i) (ap has_some e))
     by_shape (s ∷ []) e =
         let n = result_wanted need i in
-        let x = alike p results f called k.slots (home k.homes) (linkage (alone k.core k.homes)) k None None None n nothing (kept_need need i) i s
+        let x = alike p results f called k.slots (home k.homes) (linkage (alone k.core k.homes)) k None None known n nothing (kept_need need i) i s
         refl h t e in
-        let y = op_most laws p results f called k width_is None None None need (kept_need need i) i h q b in
-        subst (λ us. unshaped_words i + total sizes.own us ≤ op_words i) (sym (one_use p k at need i s e))
-        (shaped (is_shaped i) (code_words (own_items k.core p k.homes n i)) (ap has_some e)
-        (chain_of (code_words (own_items k.core p k.homes n i)) (code_words (own_code p (home k.homes) k None None None need i)) (op_words i) x y))
+        let y = op_most laws p results f called k width_is None None known need (kept_need need i) i h q b in
+        subst (λ us. unshaped_words i + total sizes.own us ≤ op_words i) (sym (one_use p k known at need i s e))
+        (shaped (is_shaped i) (code_words (own_items k.core p k.homes known n i)) (ap has_some e)
+        (chain_of (code_words (own_items k.core p k.homes known n i)) (code_words (own_code p (home k.homes) k None None known need i)) (op_words i) x y))
     by_shape (s ∷ (r ∷ ss)) e = absurd (one_at_most i s r ss e)
 
-  pub own_sum : (at : Facts) (code : List PlainIr) → AreCovered p results f called k.slots code → AllByRecursion IsInPlace code
+  pub own_sum : (labels : ℕ → Need) (all code : List PlainIr) → AreCovered p results f called k.slots code → AllByRecursion IsInPlace code
       → AllByRecursion HasTypeBytes code → AllByRecursion HasOperandTypes code
-      → total unshaped_words code + total sizes.own (uses_in k.core p k.homes (wanted_bytes at code) code) ≤ operations_words code
-  own_sum at [] h q b t = omega arith
-  own_sum at (i ∷ code) h q b t =
+      → total unshaped_words code + total sizes.own (uses_in k.core p k.homes (wanted_bytes (facts_of labels all) code) (numbers_left all code) code)
+      ≤ operations_words code
+  own_sum labels all [] h q b t = omega arith
+  own_sum labels all (i ∷ code) h q b t =
+      let at = facts_of labels all in
+      let known = at.known (i ∷ code) in
+      let others = uses_in k.core p k.homes (wanted_bytes at code) (numbers_left all code) code in
       let m = wanted_behind at.needed (needs at code) i in
-      sums (unshaped_words i) (total unshaped_words code) (total sizes.own (uses_of k.core p k.homes m i))
-      (total sizes.own (uses_in k.core p k.homes (wanted_bytes at code) code))
-      (total sizes.own (uses_of k.core p k.homes m i ++ uses_in k.core p k.homes (wanted_bytes at code) code)) (op_words i) (operations_words code)
-      (own_sum_one at.needed (needs at code) i h.0 q.0 b.0 t.0) (own_sum at code h.1 q.1 b.1 t.1)
-      (total_joined sizes.own (uses_of k.core p k.homes m i) (uses_in k.core p k.homes (wanted_bytes at code) code))
+      sums (unshaped_words i) (total unshaped_words code) (total sizes.own (uses_of k.core p k.homes known m i))
+      (total sizes.own others) (total sizes.own (uses_of k.core p k.homes known m i ++ others)) (op_words i) (operations_words code)
+      (own_sum_one known at.needed (needs at code) i h.0 q.0 b.0 t.0) (own_sum labels all code h.1 q.1 b.1 t.1)
+      (total_joined sizes.own (uses_of k.core p k.homes known m i) others)
     where
       sums : (a b x y both u v : ℕ) → a + x ≤ u → b + y ≤ v → both ≡ x + y → a + b + both ≤ u + v
       sums a b x y both u v h g e = omega (arith, h, g, e)
@@ -216,7 +226,7 @@ module _ (laws : WordLaws) (routine_laws : RoutineLaws) (p : PlainProgram) (resu
     one_few : (at : ℕ → Need) (before telling : Option Told) (known : Option RightNumber) (need : Need) (i : PlainIr)
         → IsCovered p results f called k.slots i → IsInPlace i → HasTypeBytes i → HasOperandTypes i
         → code_words (op_code p (home k.homes) k before telling known need i)
-        ≤ alone_words i + total (cost us) (uses_of k.core p k.homes (wanted_behind at need i) i)
+        ≤ alone_words i + total (cost us) (uses_of k.core p k.homes known (wanted_behind at need i) i)
     one_few at before telling known need i h q b t = by_shape (op_shapes i) refl where
       n : ℕ
       n = result_wanted need i
@@ -247,43 +257,45 @@ module _ (laws : WordLaws) (routine_laws : RoutineLaws) (p : PlainProgram) (resu
       at_most x y z e h = omega (arith, e, h)
 
       by_shape : (ss : List Shape) → op_shapes i ≡ ss → code_words (op_code p (home k.homes) k before telling known need i)
-          ≤ alone_words i + total (cost us) (uses_of k.core p k.homes (wanted_behind at need i) i)
+          ≤ alone_words i + total (cost us) (uses_of k.core p k.homes known (wanted_behind at need i) i)
       by_shape [] e =
           let own = own_code p (home k.homes) k before telling known need i in
           let calls = λ (l : ℕ). called_code (home k.homes) l (result_wanted need i) i in
-          let most = alone_words i + total (cost us) (uses_of k.core p k.homes (wanted_behind at need i) i) in
+          let most = alone_words i + total (cost us) (uses_of k.core p k.homes known (wanted_behind at need i) i) in
           subst (λ o. code_words (linked_code o calls own) ≤ most) (sym (unrouted (ap has_some e)))
-          (more (code_words own) (alone_words i) (total (cost us) (uses_of k.core p k.homes (wanted_behind at need i) i))
+          (more (code_words own) (alone_words i) (total (cost us) (uses_of k.core p k.homes known (wanted_behind at need i) i))
           (short before telling known need i h q b e))
       by_shape (s ∷ []) e =
           let own = own_code p (home k.homes) k before telling known need i in
           let calls = λ (l : ℕ). called_code (home k.homes) l (result_wanted need i) i in
-          let u = use_of k.core p k.homes (result_wanted need i) i in
+          let u = use_of k.core p k.homes known (result_wanted need i) i in
           let x = alike p results f called k.slots (home k.homes) k (linkage (alone k.core k.homes)) before telling known
           (result_wanted need i) (kept_need need i) nothing i s refl h t e in
           let few = linked_few (k.routine_of i) calls own u.call u.own (stands_once us (shape_of i)) (routed (ap has_some e))
           (λ l. at_most (code_words (calls l)) u.call u.call (call_alike (home k.homes) l (result_wanted need i) i) (omega arith)) x in
           subst (λ vs. code_words (op_code p (home k.homes) k before telling known need i) ≤ alone_words i + total (cost us) vs)
-          (sym (one_use p k at need i s e))
+          (sym (one_use p k known at need i s e))
           (last (code_words (op_code p (home k.homes) k before telling known need i)) (cost us u) (alone_words i) few)
       by_shape (s ∷ (r ∷ ss)) e = absurd (one_at_most i s r ss e)
 
-    pub ops_few : (at : Facts) (before : Option Told) (code : List PlainIr) → AreCovered p results f called k.slots code
+    pub ops_few : (labels : ℕ → Need) (all : List PlainIr) (before : Option Told) (code : List PlainIr) → AreCovered p results f called k.slots code
         → AllByRecursion IsInPlace code → AllByRecursion HasTypeBytes code → AllByRecursion HasOperandTypes code
-        → code_words (ops_code p (home k.homes) k at before code)
-        ≤ total alone_words code + total (cost us) (uses_in k.core p k.homes (wanted_bytes at code) code)
-    ops_few at before [] h q b t = omega arith
-    ops_few at before (i ∷ code) h q b t =
+        → code_words (ops_code p (home k.homes) k (facts_of labels all) before code)
+        ≤ total alone_words code + total (cost us) (uses_in k.core p k.homes (wanted_bytes (facts_of labels all) code) (numbers_left all code) code)
+    ops_few labels all before [] h q b t = omega arith
+    ops_few labels all before (i ∷ code) h q b t =
+        let at = facts_of labels all in
+        let known = at.known (i ∷ code) in
+        let behind = uses_in k.core p k.homes (wanted_bytes at code) (numbers_left all code) code in
         let next = tells_next at i code in
         let m = wanted_behind at.needed (needs at code) i in
-        let here = op_code p (home k.homes) k before next (at.known (i ∷ code)) (needs at code) i in
+        let here = op_code p (home k.homes) k before next known (needs at code) i in
         let others = ops_code p (home k.homes) k at next code in
-        sums (code_words here) (code_words others) (alone_words i) (total alone_words code) (total (cost us) (uses_of k.core p k.homes m i))
-        (total (cost us) (uses_in k.core p k.homes (wanted_bytes at code) code)) (code_words (here ++ others))
-        (total (cost us) (uses_of k.core p k.homes m i ++ uses_in k.core p k.homes (wanted_bytes at code) code))
-        (one_few at.needed before next (at.known (i ∷ code)) (needs at code) i h.0 q.0 b.0 t.0)
-        (ops_few at next code h.1 q.1 b.1 t.1) (joined_words here others)
-        (total_joined (cost us) (uses_of k.core p k.homes m i) (uses_in k.core p k.homes (wanted_bytes at code) code))
+        sums (code_words here) (code_words others) (alone_words i) (total alone_words code) (total (cost us) (uses_of k.core p k.homes known m i))
+        (total (cost us) behind) (code_words (here ++ others)) (total (cost us) (uses_of k.core p k.homes known m i ++ behind))
+        (one_few at.needed before next known (needs at code) i h.0 q.0 b.0 t.0)
+        (ops_few labels all next code h.1 q.1 b.1 t.1) (joined_words here others)
+        (total_joined (cost us) (uses_of k.core p k.homes known m i) behind)
       where
         sums : (a b x y c d both cost : ℕ) → a ≤ x + c → b ≤ y + d → both ≡ a + b → cost ≡ c + d → both ≤ x + y + cost
         sums a b x y c d both cost h g e q = omega (arith, h, g, e, q)
@@ -294,24 +306,28 @@ pub mapped : (us vs : List Use) → map sizes.shape (us ++ vs) ≡ map sizes.sha
 mapped [] vs = refl
 mapped (u ∷ us) vs = ap (λ ss. shape_of u.operation ∷ ss) (mapped us vs)
 
-shapes_one : (p : PlainProgram) (k : Linkage) (m : ℕ) (i : PlainIr) → map sizes.shape (uses_of k.core p k.homes m i) ≡ op_shapes i
-shapes_one p k m i = by_shape (op_shapes i) refl where
-  by_shape : (ss : List Shape) → op_shapes i ≡ ss → map sizes.shape (uses_of k.core p k.homes m i) ≡ op_shapes i
-  by_shape [] e = ap (map sizes.shape) (no_use p k m i e) ∙ sym e
+shapes_one : (p : PlainProgram) (k : Linkage) (known : Option RightNumber) (m : ℕ) (i : PlainIr)
+    → map sizes.shape (uses_of k.core p k.homes known m i) ≡ op_shapes i
+shapes_one p k known m i = by_shape (op_shapes i) refl where
+  by_shape : (ss : List Shape) → op_shapes i ≡ ss → map sizes.shape (uses_of k.core p k.homes known m i) ≡ op_shapes i
+  by_shape [] e = ap (map sizes.shape) (no_use p k known m i e) ∙ sym e
   by_shape (s ∷ []) e = by_test (is_shaped i) (ap has_some e) ∙ ap (λ r. r ∷ []) (is_shape i s e) ∙ sym e where
-    by_test : (x : Bool) → x ≡ true → map sizes.shape (if x then use_of k.core p k.homes m i ∷ [] else []) ≡ shape_of i ∷ []
+    by_test : (x : Bool) → x ≡ true → map sizes.shape (if x then use_of k.core p k.homes known m i ∷ [] else []) ≡ shape_of i ∷ []
     by_test true q = refl
     by_test false q = absurd (false≢true q)
   by_shape (s ∷ (r ∷ ss)) e = absurd (one_at_most i s r ss e)
 
-pub shapes_in : (p : PlainProgram) (k : Linkage) (at : Facts) (code : List PlainIr)
-    → map sizes.shape (uses_in k.core p k.homes (wanted_bytes at code) code) ≡ all_made op_shapes code
-shapes_in p k at [] = refl
-shapes_in p k at (i ∷ code) =
+pub shapes_in : (p : PlainProgram) (k : Linkage) (labels : ℕ → Need) (all code : List PlainIr)
+    → map sizes.shape (uses_in k.core p k.homes (wanted_bytes (facts_of labels all) code) (numbers_left all code) code) ≡ all_made op_shapes code
+shapes_in p k labels all [] = refl
+shapes_in p k labels all (i ∷ code) =
+    let at = facts_of labels all in
+    let known = at.known (i ∷ code) in
     let m = wanted_behind at.needed (needs at code) i in
-    mapped (uses_of k.core p k.homes m i) (uses_in k.core p k.homes (wanted_bytes at code) code)
-    ∙ ap (λ ss. ss ++ map sizes.shape (uses_in k.core p k.homes (wanted_bytes at code) code)) (shapes_one p k m i)
-    ∙ ap (λ ss. op_shapes i ++ ss) (shapes_in p k at code)
+    let behind = uses_in k.core p k.homes (wanted_bytes at code) (numbers_left all code) code in
+    mapped (uses_of k.core p k.homes known m i) behind
+    ∙ ap (λ ss. ss ++ map sizes.shape behind) (shapes_one p k known m i)
+    ∙ ap (λ ss. op_shapes i ++ ss) (shapes_in p k labels all code)
 
 pub made_joined : (xs ys : List PlainIr) → all_made op_shapes (xs ++ ys) ≡ all_made op_shapes xs ++ all_made op_shapes ys
 made_joined [] ys = refl

@@ -11,6 +11,8 @@ use Rattle.ec_core_shapes.specs.Shapes.{Form, unary_form, binary_form, conversio
 use Rattle.ec_core_shapes.specs.Shapes.{conversion_shape, same_shape}
 use Rattle.ec_ir.specs.declared.operations.Temp.{Temp}
 use Rattle.ec_ir.specs.Operations.{PlainIr, binary_op, unary_op, conversion, label, PlainIrFunction, PlainIrProgram, data_of}
+use Rattle.ec_ir_known.specs.declared.known.RightNumber.{RightNumber}
+use Rattle.ec_ir_known.specs.Known.{right_numbers}
 use Rattle.ec_ir_shapes.specs.Costs.{op_shapes}
 use Rattle.ec_select_operations.specs.declared.calls.Linking.{Linking}
 use Rattle.ec_select_operations.specs.declared.homes.Homes.{Homes}
@@ -69,30 +71,34 @@ pub record Use : Type 0 where
 abbrev pub alone : Core → Homes → Linking
 alone core h = record { core = core; first_label = 0; first_entry = 1; homes = h; slots = 0; is_main = false }
 
--- where n bytes of its result are needed
-abbrev pub own_items : Core → PlainProgram → Homes → (n : ℕ) → PlainIr → List AsmItem
-own_items core p h n i = operation_code p (home h) (linkage (alone core h)) None None None n nothing i
+-- where n bytes of its result are needed, and its second operand may be known to hold a number
+abbrev pub own_items : Core → PlainProgram → Homes → (known : Option RightNumber) → (n : ℕ) → PlainIr → List AsmItem
+own_items core p h known n i = operation_code p (home h) (linkage (alone core h)) None None known n nothing i
 
-abbrev pub use_of : Core → PlainProgram → Homes → (n : ℕ) → PlainIr → Use
-use_of core p h n i = record {
+abbrev pub use_of : Core → PlainProgram → Homes → (known : Option RightNumber) → (n : ℕ) → PlainIr → Use
+use_of core p h known n i = record {
   operation = i;
-  own = code_words (own_items core p h n i);
+  own = code_words (own_items core p h known n i);
   call = code_words (called_code (home h) 0 n i);
 }
 
-abbrev pub uses_of : Core → PlainProgram → Homes → (n : ℕ) → PlainIr → List Use
-uses_of core p h n i = if is_shaped i then use_of core p h n i ∷ [] else []
+abbrev pub uses_of : Core → PlainProgram → Homes → (known : Option RightNumber) → (n : ℕ) → PlainIr → List Use
+uses_of core p h known n i = if is_shaped i then use_of core p h known n i ∷ [] else []
 
--- of several operations, where numbers tell how many bytes are needed of each result
-abbrev pub uses_in : Core → PlainProgram → Homes → (wanted : List ℕ) → List PlainIr → List Use
-uses_in core p h [] code = []
-uses_in core p h (n ∷ wanted) [] = []
-uses_in core p h (n ∷ wanted) (i ∷ code) = uses_of core p h n i ++ uses_in core p h wanted code
+-- of several operations: `wanted` tells how many bytes are needed of each result, and `known` the number that each second
+-- operand is known to hold
+abbrev pub uses_in : Core → PlainProgram → Homes → (wanted : List ℕ) → (known : List (Option RightNumber)) → List PlainIr
+    → List Use
+uses_in core p h [] known code = []
+uses_in core p h (n ∷ wanted) [] code = []
+uses_in core p h (n ∷ wanted) (number ∷ known) [] = []
+uses_in core p h (n ∷ wanted) (number ∷ known) (i ∷ code) =
+    uses_of core p h number n i ++ uses_in core p h wanted known code
 
 -- of the function with number f, where a table tells what is needed at its labels
 abbrev pub function_uses : Core → PlainIrProgram → (ℕ → Need) → ℕ → PlainIrFunction → List Use
 function_uses core p labels f g =
-    uses_in core (data_of p) (homes_of f g.code) (wanted_bytes (facts_of labels g.code) g.code) g.code
+    uses_in core (data_of p) (homes_of f g.code) (wanted_bytes (facts_of labels g.code) g.code) (right_numbers g.code) g.code
 
 -- of functions that are numbered from f on
 abbrev pub uses_from : Core → PlainIrProgram → (ℕ → ℕ → Need) → (f : ℕ) → List PlainIrFunction → List Use

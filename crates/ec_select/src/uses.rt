@@ -53,17 +53,19 @@ fn alone(core: Core, homes: Homes) -> Linking
     }
 }
 
-/// The words of an operation's own code, where so many bytes of its result are wanted.
+/// The words of an operation's own code, where so many bytes of its result are wanted, and its second operand may be
+/// known to hold a number.
 fn own_words(
     alloc: Global,
     ir: &IrProgram,
     core: Core,
     homes: Homes,
+    known: Option<RightNumber>,
     wanted: u8,
     i: &Ir,
 ) -> Result<u64, NoMemory>
     requires { CanBeEmitted (declarations ir.now) (alone core homes) wanted (plain_ir i.now) }
-    ensures { IfOk result (λ n. n ≡ code_words (own_items core (declarations ir.now) homes wanted (plain_ir i.now))) }
+    ensures { IfOk result (λ n. n ≡ code_words (own_items core (declarations ir.now) homes known wanted (plain_ir i.now))) }
 {
     let mut items = Seq::new(alloc);
     let flags = Flags {
@@ -75,7 +77,7 @@ fn own_words(
         ir,
         alone(core, homes),
         flags,
-        None,
+        known,
         wanted,
         &[],
         i,
@@ -98,16 +100,17 @@ fn use_of<'a>(
     ir: &IrProgram,
     core: Core,
     homes: Homes,
+    known: Option<RightNumber>,
     wanted: u8,
     i: &'a Ir,
 ) -> Result<Use<'a>, NoMemory>
     requires shaped { is_shaped (plain_ir i.now) ≡ true }
     requires each { CanBeUsed core (declarations ir.now) homes wanted (plain_ir i.now) }
-    ensures { IfOk result (λ u. plain_use u ≡ use_of core (declarations ir.now) homes wanted (plain_ir i.now)) }
+    ensures { IfOk result (λ u. plain_use u ≡ use_of core (declarations ir.now) homes known wanted (plain_ir i.now)) }
 {
     Ok(Use {
         operation: i,
-        own: own_words(alloc, ir, core, homes, wanted, i)?,
+        own: own_words(alloc, ir, core, homes, known, wanted, i)?,
         call: call_words(alloc, homes, wanted, i)?,
     })
 }
@@ -119,21 +122,23 @@ fn add_use<'a>(
     ir: &IrProgram,
     core: Core,
     homes: Homes,
+    known: Option<RightNumber>,
     wanted: u8,
     i: &'a Ir,
 ) -> Result<(), NoMemory>
     requires { CanBeUsed core (declarations ir.now) homes wanted (plain_ir i.now) }
     ensures { OnOk result (map plain_use uses.new.items ≡ map plain_use uses.old.items
-        ++ uses_of core (declarations ir.now) homes wanted (plain_ir i.now)) }
+        ++ uses_of core (declarations ir.now) homes known wanted (plain_ir i.now)) }
 {
     if is_shaped(i) {
-        let u = use_of(alloc, ir, core, homes, wanted, i)?;
+        let u = use_of(alloc, ir, core, homes, known, wanted, i)?;
         return push(uses, u);
     }
     Ok(())
 }
 
-/// Appends the uses in the code of a function, where numbers tell how many bytes are wanted of each result.
+/// Appends the uses in the code of a function, where numbers tell how many bytes are wanted of each result, and what each
+/// second operand is known to hold.
 fn add_uses<'a>(
     alloc: Global,
     uses: &mut Vec<Use<'a>>,
@@ -141,15 +146,17 @@ fn add_uses<'a>(
     core: Core,
     homes: Homes,
     wanted: &[u8],
+    known: &[Option<RightNumber>],
     code: &'a [Ir],
 ) -> Result<(), NoMemory>
     requires numbers { length code.now ≡ length wanted.now }
+    requires known { length code.now ≡ length known.now }
     requires each { CanBeUses core (declarations ir.now) homes wanted.now (map plain_ir code.now) }
     ensures { OnOk result (map plain_use uses.new.items ≡ map plain_use uses.old.items
-        ++ uses_in core (declarations ir.now) homes wanted.now (map plain_ir code.now)) }
+        ++ uses_in core (declarations ir.now) homes wanted.now known.now (map plain_ir code.now)) }
 {
     for k in 0..code.len() {
-        add_use(alloc, uses, ir, core, homes, wanted[k], &code[k])?;
+        add_use(alloc, uses, ir, core, homes, known[k], wanted[k], &code[k])?;
     }
     Ok(())
 }
@@ -176,7 +183,16 @@ fn add_function_uses<'a>(
     let numbers: &[Option<RightNumber>] = &known;
     let bytes = wanted(alloc, table, &g.code, numbers, g.slots)?;
     let code = g.code.as_slice();
-    add_uses(alloc, uses, ir, core, homes_of(f, code), &bytes, code)?;
+    add_uses(
+        alloc,
+        uses,
+        ir,
+        core,
+        homes_of(f, code),
+        &bytes,
+        numbers,
+        code,
+    )?;
     Ok(())
 }
 

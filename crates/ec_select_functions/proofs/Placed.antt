@@ -1,7 +1,7 @@
 -- Operators whose result is computed in its place.
 use Rattle.std.proofs.Common.{◌≡◌, ◌≢◌, ◌⊎◌, inl, inr, ℕ, suc, ◌+◌, ◌-◌, ◌*◌, ◌/◌, ◌%◌, ◌^◌, ◌<◌, ◌≤◌, Bool, true, false, ◌&&◌, ◌++◌}
-use Rattle.std.proofs.Common.{Ok, refl, sym, ap, ◌∙◌, subst, arith, ℤ, pos, negsuc, unsigned_abs, [], ◌∷◌}
-use Rattle.std.specs.Prelude.{Err, int_le, int_lt, not, if◌then◌else◌}
+use Rattle.std.proofs.Common.{Option, Some, Ok, refl, sym, ap, ◌∙◌, subst, arith, ℤ, pos, negsuc, unsigned_abs, [], ◌∷◌}
+use Rattle.std.specs.Prelude.{⊤, None, Err, int_le, int_lt, not, if◌then◌else◌}
 use Rattle.std.proofs.lemmas.Bool.{and_parts, false≢true}
 use Rattle.std.proofs.lemmas.Int.{ints}
 use Rattle.std.proofs.lemmas.Nat.{mul-le}
@@ -37,13 +37,16 @@ use Rattle.ec_core.specs.Words.{operation_words, widest}
 use Rattle.ec_ir.specs.declared.operations.Temp.{Temp}
 use Rattle.ec_ir.specs.Costs.{binary_words, is_bitwise, is_integer}
 use Rattle.ec_ir.specs.Meaning.{Mach, machine}
-use Rattle.ec_ir.specs.Temporaries.{bits, with_content}
+use Rattle.ec_ir.specs.Temporaries.{bits, with_content, low_bytes}
+use Rattle.ec_ir_known.specs.declared.known.RightNumber.{RightNumber}
 use Rattle.ec_fxcode.specs.ClampLaws.{HoldsResult, IsClearOfEnds}
 use Rattle.ec_fxcode_shifts.specs.ShiftLaws.{number_in, fixed_in}
 use Rattle.ec_fxcode_shifts.proofs.Before.{count_is, low_count}
 use Rattle.ec_fxcode_shifts.proofs.Entered.{format_width}
 use Rattle.ec_fxcode_quotients.specs.QuotientLaws.{operand_in}
 use Rattle.ec_fxcode_placed.specs.Shifts.{placed_code}
+use Rattle.ec_fxcode_placed.specs.Counts.{placed_by_code}
+use Rattle.ec_fxcode_placed.proofs.Counted.{placed_counts_are_right}
 use Rattle.ec_fxcode_placed.proofs.Shifted.{placed_shifts_are_right}
 use Rattle.ec_select_fixed.specs.Types.{format_in}
 use Rattle.ec_select_fixed.specs.FixedLaws.{IsBinaryResult}
@@ -179,7 +182,7 @@ module _ (p : PlainProgram) (e : Env) (slots : ℕ) (home : Temp → Location) (
       → HasHome slots t → HasHome slots a → HasHome slots b → t.bytes ≡ suc top → a.bytes ≡ suc top
       → IsFormat f → f.bits ≡ 8 * suc top → (left ≡ true → mode.saturate ≡ false) → v.at (base b) < f.bits → M need0 m v
       → ((u : ℕ) → u ≢ t.at → need u ≤ need0 u)
-      → HasAt e (placed_shift left f.signed (home a) (home b) (home t) top) pc end → 5 + 2 * suc top + f.bits * (6 + 6 * suc top) ≤ c
+      → HasAt e (placed_shift None left f.signed (home a) (home b) (home t) top) pc end → 5 + 2 * suc top + f.bits * (6 + 6 * suc top) ≤ c
       →
       ((z : ℕ) (v2 : View)
       → HoldsResult (suc top) (shift_of (fixed_in f (suc top) (value v.at (base a) (suc top))) (v.at (base b)) left mode) z
@@ -262,6 +265,71 @@ module _ (p : PlainProgram) (e : Env) (slots : ℕ) (home : Temp → Location) (
       beside : (a n j : ℕ) → Outside a n 30 → j < n → Outside 30 1 (a + j)
       beside a n j h l m = grind arith
 
+  -- what is known of the count
+  abbrev pub KnownCount : Option RightNumber → Temp → View → Type 0
+  KnownCount None b v = ⊤
+  KnownCount (Some k) b v = low_bytes 16 k.number % 256 ≡ v.at (base b)
+
+  -- the number is brought to its place, and shifted there by a known count
+  counted_passes : (left : Bool) (f : Format) (mode : Mode) (top c n pc end count : ℕ) (t a : Temp) (need need0 : Need) (m : Mach)
+      (v : View) (o : Outcome Value)
+      → HasHome slots t → HasHome slots a → t.bytes ≡ suc top → a.bytes ≡ suc top
+      → IsFormat f → f.bits ≡ 8 * suc top → (left ≡ true → mode.saturate ≡ false) → count < f.bits → M need0 m v
+      → ((u : ℕ) → u ≢ t.at → need u ≤ need0 u)
+      → HasAt e (move_code (home a) (home t) (suc top) ++ placed_by_code left f.signed (home t) (suc top) count) pc end
+      → 5 + 2 * suc top + f.bits * (6 + 6 * suc top) ≤ c
+      →
+      ((z : ℕ) (v2 : View)
+      → HoldsResult (suc top) (shift_of (fixed_in f (suc top) (value v.at (base a) (suc top))) count left mode) z
+      → M need (machine (with_content t (bits z) m.temps) (worked c m.state)) v2
+      → Follows p place e n (m.state.work + c) end v2 o)
+      → Follows p place e n m.state.work pc v o
+  counted_passes left f mode top c n pc end count t a need need0 m v o it ia same_t same_a format bits_are sat small h more at room
+      onward =
+      let k = suc top in
+      let move = move_code (home a) (home t) k in
+      let turn = placed_by_code left f.signed (home t) k count in
+      let s2 = has_parts e move turn pc end at in
+      let v2 = block e move v in
+      let sa : StandsFrom e (home a) k (base a) Own =
+      stands_less e (home a) a.bytes k (base a) Own (omega arith) (y.layout.temps_at a ia) in
+      let st : StandsFrom e (home t) k (base t) Own =
+      stands_less e (home t) t.bytes k (base t) Own (omega arith) (y.layout.temps_at t it) in
+      let first = read_first p e slots home base place y t a k it ia (omega arith) in
+      let k2 = move_holds e (home a) (home t) k (base a) (base t) v sa st first h.bytes in
+      let h2 = moved_numbers p e slots home base place y v v2 (base a) (base t) k sa.clear h.bytes k2 in
+      let number : value v2.at (base t) k ≡ value v.at (base a) k = row_value v2.at v.at (base a) (base t) k k2.there in
+      let clear = clear_of_ends (base t) t.bytes (y.layout.temps_work t it) in
+      let run = placed_counts_are_right left f mode e (home t) top (base t) count s2.0 end v2 format bits_are sat st
+      (subst (λ (i : ℕ). IsClearOfEnds (base t) i) same_t clear) h2 small s2.2 in
+      let v3 = run.last in
+      let few = run.at_most in
+      let go2 = block_goes e move pc s2.0 v (move_straight (home a) (home t) k) s2.1 in
+      let goes = goes_on_to e (code_steps move) run.steps pc s2.0 end v v2 v3 go2 run.goes in
+      let steps2 = move_steps (home a) (home t) k in
+      let z = value v3.at (base t) k in
+      let holds : HoldsResult k (shift_of (fixed_in f k (value v.at (base a) k)) count left mode) z =
+      subst (λ (i : ℕ). HoldsResult k (shift_of (fixed_in f k i) count left mode) z) number run.holds in
+      let most : suc count * (6 + 6 * k) ≤ f.bits * (6 + 6 * k) =
+      mul-le (suc count) (6 + 6 * k) f.bits (6 + 6 * k) (omega (arith, small)) (omega arith) in
+      let wide : Wide v v3 (base t) t.bytes =
+      λ i x w lo hi out.
+      let inside : Outside (base t) k i = subst (λ (q : ℕ). Outside (base t) q i) same_t out in
+      run.same i x w (λ q. let l = hi (omega arith) in omega arith) (λ q. let l = hi (omega arith) in omega arith) inside
+      ∙ k2.frame i x w (λ q. let l = hi (omega arith) in omega arith) inside in
+      let held =
+      λ (j : ℕ) (l : j < k). (let two = st.clear in let r : v3.at (base t + j) < 256 = run.numbers (base t + j) (omega arith) in r) in
+      let w = wanted need t in
+      let less = wanted_most need t in
+      let low : value v3.at (base t) w ≡ z % 256 ^ w = sym (value_mod v3.at (base t) w k (omega (arith, less, same_t)) held) in
+      let below : z < 256 ^ t.bytes = subst (λ (i : ℕ). z < 256 ^ i) (sym same_t) (value_below v3.at (base t) k held) in
+      let matches = written_wide p e slots home base place y t (bits z) need need0 m (worked c m.state) v v3 it h more wide (low, below)
+      run.numbers refl (run.seen ∙ k2.quiet.seen ∙ h.seen)
+      (kept_left y.inputs m.state v v3 (run.inputs ∙ k2.quiet.inputs) h.left)
+      (run.safe ∙ k2.quiet.safe ∙ h.safe) in
+      after p place e (code_steps move + run.steps) n n m.state.work (m.state.work + c) pc end v v3 o goes (omega arith)
+      (omega (arith, few, steps2, most, room)) (onward z v3 holds matches)
+
   -- ---- by the operator
 
   -- two temporaries that do not stand at one place
@@ -312,15 +380,15 @@ module _ (p : PlainProgram) (e : Env) (slots : ℕ) (home : Temp → Location) (
       matches)
 
   -- an operator whose result is computed in its place, where it has a result
-  abbrev Passes : (op : BinOp) (ty aty bty : PlainType) (mode : Mode) (c n pc end : ℕ) (t a b : Temp) (need need0 : Need) (m : Mach)
-      (v : View) (o : Outcome Value) (r : Value) → Type 0
-  Passes op ty aty bty mode c n pc end t a b need need0 m v o r =
-      IsFixedBinary slots op t a b ty aty bty → is_placed op mode ty aty bty ≡ true → not (same_location (home b) (home t)) ≡ true
+  abbrev Passes : (known : Option RightNumber) (op : BinOp) (ty aty bty : PlainType) (mode : Mode) (c n pc end : ℕ) (t a b : Temp)
+      (need need0 : Need) (m : Mach) (v : View) (o : Outcome Value) (r : Value) → Type 0
+  Passes known op ty aty bty mode c n pc end t a b need need0 m v o r =
+      KnownCount known b v → IsFixedBinary slots op t a b ty aty bty → is_placed op mode ty aty bty ≡ true → not (same_location (home b) (home t)) ≡ true
       → IsNumber
       (arithmetic_value op (number_type ty) mode (operand_in (format_in aty) (scalar_size aty) (value v.at (base a) (scalar_size aty)))
       (operand_in (format_in bty) (scalar_size bty) (value v.at (base b) (scalar_size bty)))) r
       → M need0 m v → ((u : ℕ) → u ≢ t.at → need u ≤ need0 u)
-      → HasAt e (placed_whole op (is_signed aty) (home a) (home b) (home t) (a.bytes - 1)) pc end
+      → HasAt e (placed_whole known op (is_signed aty) (home a) (home b) (home t) (a.bytes - 1)) pc end
       → 64 * binary_words op ty aty bty ≤ c
       →
       ((z : ℕ) (v2 : View)
@@ -353,11 +421,11 @@ module _ (p : PlainProgram) (e : Env) (slots : ℕ) (home : Temp → Location) (
       low_count v.at (base b) size c.number (omega (arith, some, width)) number (omega (arith, inside, few)) in
       (c.is ∙ ap pos (sym low), omega (arith, low, inside))
 
-  shift_of_kind : (left : Bool) (k : FxKind) (s u : Bool) (bty : PlainType) (mode : Mode) (c n pc end : ℕ) (t a b : Temp)
+  shift_of_kind : (known : Option RightNumber) (left : Bool) (k : FxKind) (s u : Bool) (bty : PlainType) (mode : Mode) (c n pc end : ℕ) (t a b : Temp)
       (need need0 : Need) (m : Mach) (v : View) (o : Outcome Value) (r : Value)
-      → HasAt e (placed_shift left (format_of k).signed (home a) (home b) (home t) (a.bytes - 1)) pc end
-      → Passes (shift_operator left) (fixed k s) (fixed k u) bty mode c n pc end t a b need need0 m v o r
-  shift_of_kind left k s u bty mode c n pc end t a b need need0 m v o r there i is other number h more code room onward =
+      → HasAt e (placed_shift known left (format_of k).signed (home a) (home b) (home t) (a.bytes - 1)) pc end
+      → Passes known (shift_operator left) (fixed k s) (fixed k u) bty mode c n pc end t a b need need0 m v o r
+  shift_of_kind known left k s u bty mode c n pc end t a b need need0 m v o r there counted i is other number h more code room onward =
       let f = format_of k in
       let size = f.bits / 8 in
       let suited = operands_suit (shift_operator left) (fixed k s) (fixed k u) bty i.types in
@@ -376,60 +444,80 @@ module _ (p : PlainProgram) (e : Env) (slots : ℕ) (home : Temp → Location) (
       let fits : 5 + 2 * suc top + f.bits * (6 + 6 * suc top) ≤ c =
       (let q = shift_roomy left (fixed k s) (fixed k u) bty (suc top) (omega arith) (omega (arith, wide)) in
       subst (λ (j : ℕ). 5 + 2 * suc top + j * (6 + 6 * suc top) ≤ c) (sym bits_are) (omega (arith, q, room))) in
-      shifted_passes left f mode top c n pc end t a b need need0 m v o i.result i.left i.right width_t width_a (IsFormat-format_of k)
-      bits_are sat count.1 h more there fits
-      (λ z v2 holds matches.
-      let at_size : HoldsResult size (shift_of (fixed_in f size x) (v.at (base b)) left mode) z =
+      let result = λ (z : ℕ) (v2 : View)
+      (holds : HoldsResult (suc top) (shift_of (fixed_in f (suc top) (value v.at (base a) (suc top))) (v.at (base b)) left mode) z)
+      (matches : M need (machine (with_content t (bits z) m.temps) (worked c m.state)) v2).
+      (let at_size : HoldsResult size (shift_of (fixed_in f size x) (v.at (base b)) left mode) z =
       subst (λ (j : ℕ). HoldsResult j (shift_of (fixed_in f j (value v.at (base a) j)) (v.at (base b)) left mode) z) wide holds in
       onward z v2
       (shift_result left k s u bty mode x (value v.at (base b) (scalar_size bty)) z suited whole
       (λ q q_is inside.
       let same : pos q ≡ pos (v.at (base b)) = sym q_is ∙ count.0 in
       let one : v.at (base b) ≡ q = cc in
-      subst (λ (j : ℕ). HoldsResult size (shift_of (fixed_in f size x) j left mode) z) one at_size)) matches)
+      subst (λ (j : ℕ). HoldsResult size (shift_of (fixed_in f size x) j left mode) z) one at_size)) matches) in
+      by_known known there counted
+      (λ place. shifted_passes left f mode top c n pc end t a b need need0 m v o i.result i.left i.right width_t width_a (IsFormat-format_of k)
+      bits_are sat count.1 h more place fits result)
+      (λ number same place. counted_passes left f mode top c n pc end number t a need need0 m v o i.result i.left width_t width_a
+      (IsFormat-format_of k) bits_are sat (rw same (count.1)) h more place fits
+      (λ z v2 holds matches. result z v2
+      (subst (λ (j : ℕ). HoldsResult (suc top) (shift_of (fixed_in f (suc top) (value v.at (base a) (suc top))) j left mode) z) same holds)
+      matches))
+    where
+      by_known : (known : Option RightNumber)
+          → HasAt e (placed_shift known left (format_of k).signed (home a) (home b) (home t) (a.bytes - 1)) pc end → KnownCount known b v
+          → (HasAt e (placed_shift None left (format_of k).signed (home a) (home b) (home t) (a.bytes - 1)) pc end
+          → Follows p place e n m.state.work pc v o)
+          → ((number : ℕ) → number ≡ v.at (base b)
+          → HasAt e (move_code (home a) (home t) (suc (a.bytes - 1))
+          ++ placed_by_code left (format_of k).signed (home t) (suc (a.bytes - 1)) number) pc end
+          → Follows p place e n m.state.work pc v o)
+          → Follows p place e n m.state.work pc v o
+      by_known None there counted unknown by_number = unknown there
+      by_known (Some number) there counted unknown by_number = by_number (low_bytes 16 number.number % 256) counted there
 
   -- ---- by the operator
 
   abbrev OfOperator : BinOp → Type 0
   OfOperator op =
-      (ty aty bty : PlainType) (mode : Mode) (c n pc end : ℕ) (t a b : Temp) (need need0 : Need) (m : Mach) (v : View) (o : Outcome Value)
-      (r : Value) → Passes op ty aty bty mode c n pc end t a b need need0 m v o r
+      (known : Option RightNumber) (ty aty bty : PlainType) (mode : Mode) (c n pc end : ℕ) (t a b : Temp) (need need0 : Need) (m : Mach) (v : View) (o : Outcome Value)
+      (r : Value) → Passes known op ty aty bty mode c n pc end t a b need need0 m v o r
 
   by_shift : (left : Bool)
-      → ((signed : Bool) (a b to : Location) (top : ℕ)
-      → placed_whole (shift_operator left) signed a b to top ≡ placed_shift left signed a b to top)
+      → ((known : Option RightNumber) (signed : Bool) (a b to : Location) (top : ℕ)
+      → placed_whole known (shift_operator left) signed a b to top ≡ placed_shift known left signed a b to top)
       → OfOperator (shift_operator left)
-  by_shift left code_is ty aty bty mode c n pc end t a b need need0 m v o r i is other number h more there room onward =
+  by_shift left code_is known ty aty bty mode c n pc end t a b need need0 m v o r counted i is other number h more there room onward =
       let first = (and_parts (has_one_format ty aty) (takes_place (shift_operator left) mode (has_one_format aty bty)) is).0 in
       let one = one_format ty aty first in
-      let passes = λ (x z : PlainType). Passes (shift_operator left) x z bty mode c n pc end t a b need need0 m v o r in
+      let passes = λ (x z : PlainType). Passes known (shift_operator left) x z bty mode c n pc end t a b need need0 m v o r in
       (subst (λ x. passes x aty) (sym one.first) (subst (λ z. passes (fixed one.kind one.first_saturates) z) (sym one.second)
-      (λ i is other number h more there room onward.
-      shift_of_kind left one.kind one.first_saturates one.second_saturates bty mode c n pc end t a b need need0 m v o r
-      (subst (λ q. HasAt e q pc end) (code_is (format_of one.kind).signed (home a) (home b) (home t) (a.bytes - 1)) there)
-      i is other number h more there room onward))) i is other number h more there room onward
+      (λ counted i is other number h more there room onward.
+      shift_of_kind known left one.kind one.first_saturates one.second_saturates bty mode c n pc end t a b need need0 m v o r
+      (subst (λ q. HasAt e q pc end) (code_is known (format_of one.kind).signed (home a) (home b) (home t) (a.bytes - 1)) there)
+      counted i is other number h more there room onward))) counted i is other number h more there room onward
 
   by_sum : (op : BinOp) → (op ≡ Add) ⊎ (op ≡ Sub)
       → ((mode : Mode) (one : Bool) → takes_place op mode one ≡ (one && mode.saturate))
-      → ((signed : Bool) (a b to : Location) (top : ℕ)
-      → placed_whole op signed a b to top ≡ stopped_code (is_difference op) signed a b to top)
+      → ((known : Option RightNumber) (signed : Bool) (a b to : Location) (top : ℕ)
+      → placed_whole known op signed a b to top ≡ stopped_code (is_difference op) signed a b to top)
       → OfOperator op
-  by_sum op adds takes code_is ty aty bty mode c n pc end t a b need need0 m v o r i is other number h more there room onward =
+  by_sum op adds takes code_is known ty aty bty mode c n pc end t a b need need0 m v o r counted i is other number h more there room onward =
       let parts = and_parts (has_one_format ty aty) (takes_place op mode (has_one_format aty bty)) is in
       let lim = limited op mode ty aty bty adds parts.0 (sym (takes mode (has_one_format aty bty)) ∙ parts.1) in
       sum_passes op ty aty bty mode c n pc end t a b need need0 m v o i lim other h more
-      (subst (λ q. HasAt e q pc end) (code_is (is_signed aty) (home a) (home b) (home t) (a.bytes - 1)) there) room onward
+      (subst (λ q. HasAt e q pc end) (code_is known (is_signed aty) (home a) (home b) (home t) (a.bytes - 1)) there) room onward
 
   none_placed : (op : BinOp) → ((mode : Mode) (one : Bool) → takes_place op mode one ≡ false) → OfOperator op
-  none_placed op never ty aty bty mode c n pc end t a b need need0 m v o r i is other number h more there room onward =
+  none_placed op never known ty aty bty mode c n pc end t a b need need0 m v o r counted i is other number h more there room onward =
       let parts = and_parts (has_one_format ty aty) (takes_place op mode (has_one_format aty bty)) is in
       absurd (false≢true (sym (never mode (has_one_format aty bty)) ∙ parts.1))
 
   pub placed_passes : (op : BinOp) → OfOperator op
-  placed_passes Add = by_sum Add (inl refl) (λ q w. refl) (λ q w x z u. refl)
-  placed_passes Sub = by_sum Sub (inr refl) (λ q w. refl) (λ q w x z u. refl)
-  placed_passes Shl = by_shift true (λ q w x z u. refl)
-  placed_passes Shr = by_shift false (λ q w x z u. refl)
+  placed_passes Add = by_sum Add (inl refl) (λ q w. refl) (λ g q w x z u. refl)
+  placed_passes Sub = by_sum Sub (inr refl) (λ q w. refl) (λ g q w x z u. refl)
+  placed_passes Shl = by_shift true (λ g q w x z u. refl)
+  placed_passes Shr = by_shift false (λ g q w x z u. refl)
   placed_passes Mul = none_placed Mul (λ q w. refl)
   placed_passes Div = none_placed Div (λ q w. refl)
   placed_passes Rem = none_placed Rem (λ q w. refl)

@@ -79,7 +79,7 @@ use Rattle.ec_select_operations.specs.Code.{related_bytes}
 use Rattle.ec_select_operations.specs.Code.{pointers_code}
 use Rattle.ec_select_functions.specs.Covered.{IsPointerBinary, IsPointerConversion}
 use Rattle.ec_select_operations.specs.Homes.{HasHome}
-use Rattle.ec_select_operations.specs.Needs.{Need, Facts, facts_of, before, needs, wanted, at_least, without, all_or_none}
+use Rattle.ec_select_operations.specs.Needs.{Need, Facts, is_fixed, facts_of, before, needs, wanted, at_least, without, all_or_none}
 use Rattle.ec_select_operations.specs.Places.{Apart, IsClear}
 use Rattle.ec_select_operations.specs.Pointers.{is_into_data, IsPointerIn, IsPointerSize, home_of}
 use Rattle.ec_select_functions.specs.Relation.{FramesStand, Matches, HoldsContent}
@@ -702,6 +702,29 @@ pub no_count : (op : BinOp) (count : PlainType) → (IsIntegerType count → ⊥
 no_count Add count none h = none h
 no_count Sub count none h = none h
 no_count op count none h = h
+
+-- an operator with a pointer has no fixed-point operand
+pub no_fixed_operand : (p : PlainProgram) (slots : ℕ) (op : BinOp) (t a b : Temp) (ty aty bty : PlainType)
+    → IsPointerBinary p slots op t a b ty aty bty → (is_fixed aty || is_fixed bty) ≡ false
+no_fixed_operand p slots op t a b ty aty bty k = by_types aty bty k
+  where
+    first : (space : SpaceId) (const : Bool) (to z : PlainType) → IsPointerBinary p slots op t a b ty (pointer space const to) z
+        → (is_fixed (pointer space const to) || is_fixed z) ≡ false
+    first space const to (pointer space2 const2 to2) k = refl
+    first space const to (integer signed bytes) k = refl
+    first space const to (fixed kind saturates) k = absurd (no_count op (fixed kind saturates) (λ i. i) k.types.0)
+    first space const to void k = refl
+    first space const to (array of len) k = refl
+    first space const to (struct index) k = refl
+
+    by_types : (x z : PlainType) → IsPointerBinary p slots op t a b ty x z → (is_fixed x || is_fixed z) ≡ false
+    by_types (pointer space const to) z k = first space const to z k
+    by_types (integer signed bytes) (pointer space const to) k = refl
+    by_types (fixed kind saturates) (pointer space const to) k = absurd k.types.1
+    by_types void (pointer space const to) k = refl
+    by_types (array of len) (pointer space const to) k = refl
+    by_types (struct index) (pointer space const to) k = refl
+    by_types x z k = absurd (let g = k.pointer in cc)
 
 module _ (p : PlainProgram) (functions : List PlainIrFunction) (e : Env) (slots : ℕ) (home : Temp → Location)
     (base : Temp → ℕ) (place : ℕ → ℕ) (y : Setting p e slots home base place) (labels : ℕ → Need) (all : List PlainIr)

@@ -89,7 +89,7 @@ use Rattle.ec_select_operations.specs.declared.families.Told.{Told}
 use Rattle.ec_select_operations.specs.Code.{Linkage, told_of, is_only_tested, tells, tells_next, flag_code, is_signed, compared_signed}
 use Rattle.ec_select_operations.specs.Code.{op_code, own_code, called_code, linked_code, result_wanted, ops_code, family_of, same_location, reversed_code}
 use Rattle.ec_select_operations.specs.Code.{combined_code, binary_code, turn_code, unary_code, move_code}
-use Rattle.ec_select_operations.specs.Code.{compared_code, counted_code, taking_code, changed_by_code}
+use Rattle.ec_select_operations.specs.Code.{compared_code, counted_code, taking_code, changed_by_code, integer_binary as integer_code}
 use Rattle.ec_select_operations.specs.Code.{conversion_code, turned_code, shift_of, shifted_bytes, long_code}
 use Rattle.ec_select_functions.specs.Covered.{IsCovered, IsBinary, IsUnary, AreConverted, IsPort}
 use Rattle.ec_select_functions.specs.Covered.{AreIntegers, AreCompared}
@@ -136,7 +136,7 @@ use Rattle.ec_select_functions.proofs.MemorySteps.{address_follows, field_follow
 use Rattle.ec_select_functions.proofs.MemorySteps.{load_follows, store_follows}
 use Rattle.ec_select_functions.proofs.PointerNumbers.{place_of, objects_have_places, address_is, address_low}
 use Rattle.ec_select_functions.proofs.PointerNumbers.{number_below}
-use Rattle.ec_select_functions.proofs.PointerSteps.{pointer_binary_follows, pointer_conversion_follows}
+use Rattle.ec_select_functions.proofs.PointerSteps.{pointer_binary_follows, pointer_conversion_follows, no_fixed_operand}
 use Rattle.ec_select_functions.proofs.Computed.{stand, constant_matches, copy_matches, binary_matches, moved_numbers}
 use Rattle.ec_select_functions.proofs.Computed.{result_of}
 use Rattle.ec_select_functions.proofs.Taken.{is_changed, TakesSum, TakesOrder, TakesShift, takes, taken_is}
@@ -147,7 +147,7 @@ use Rattle.ec_select_functions.proofs.FixedRuns.{answer_passes, by_itself, slots
 use Rattle.ec_select_functions.proofs.Carried.{brought_passes}
 use Rattle.ec_select_functions.proofs.Checked.{is_known, checked_on, performed, checked}
 use Rattle.ec_select_functions.proofs.Negated.{negated_passes}
-use Rattle.ec_select_functions.proofs.Placed.{binary_roomy, placed_passes}
+use Rattle.ec_select_functions.proofs.Placed.{binary_roomy, KnownCount, placed_passes}
 use Rattle.ec_select_functions.proofs.Follow.{with_ports, Follows, after, from_held, from_number}
 use Rattle.ec_select_functions.proofs.Match.{kept_left, wanted_most, read_first, whole, at_width, weaker, written}
 use Rattle.ec_select_functions.proofs.Match.{written_wide}
@@ -221,6 +221,11 @@ module _ (p : PlainProgram) (functions : List PlainIrFunction) (e : Env) (slots 
   abbrev plain_items : PlainIr → List PlainIr → List AsmItem
   plain_items i rest =
       own_code p home link None (plain_told i rest) None (needs at rest) i ++ items_told (plain_told i rest) rest
+
+  -- the same where its second operand may be known to hold a number
+  abbrev known_items : Option RightNumber → PlainIr → List PlainIr → List AsmItem
+  known_items known i rest =
+      own_code p home link None (plain_told i rest) known (needs at rest) i ++ items_told (plain_told i rest) rest
 
   -- what is needed before it
   abbrev plain_needs : PlainIr → List PlainIr → Need
@@ -1832,7 +1837,8 @@ module _ (p : PlainProgram) (functions : List PlainIrFunction) (e : Env) (slots 
   abbrev FixedBinaryRuns : BinOp → PlainType → Mode → (t a : Temp) → PlainType → Temp → PlainType → List PlainIr → (n pc : ℕ) → Mach → View
       → List AsmItem → Type 0
   FixedBinaryRuns op ty mode t a aty b bty rest n pc m v code =
-      (r : Value)
+      (r : Value) (low : ℕ) → m.temps b.at ≡ Some (record { bytes = b.bytes; content = bits low })
+      → value v.at (base b) (scalar_size bty) ≡ low
       → IsNumber
       (arithmetic_value op (number_type ty) mode
       (fixed_operand_in (format_in aty) (scalar_size aty) (value v.at (base a) (scalar_size aty)))
@@ -1956,18 +1962,22 @@ module _ (p : PlainProgram) (functions : List PlainIrFunction) (e : Env) (slots 
               λ (x1 x2 : ℕ). IsNumber
               (arithmetic_value op (number_type ty) mode (fixed_operand_in (format_in aty) (scalar_size aty) x1)
               (fixed_operand_in (format_in bty) (scalar_size bty) x2)) r in
-              runs r
+              runs r low2 qb y_is
               (subst (λ x1. given x1 (value v.at (base b) (scalar_size bty))) (sym x_is) (subst (λ x2. given low1 x2) (sym y_is) number))
               z parts.0 parts.1 (λ number v2 g matches. reached parts.0 number v2 parts.2 x_is y_is g matches)
 
-  pub fixed_binary_follows : (op : BinOp) (ty : PlainType) (mode : Mode) (t a : Temp) (aty : PlainType) (b : Temp) (bty : PlainType)
-      (rest : List PlainIr) (n pc : ℕ) (m : Mach) (v : View) → IsFixedBinary slots op t a b ty aty bty
-      → is_on_integers (family_of op) mode ty aty bty ≡ false
-      → HasAt e (plain_items (binary_op op ty mode t a aty b bty) rest) pc end → M
+  -- the number is held that the second operand is known to hold
+  abbrev HoldsKnown : Option RightNumber → Temp → Mach → Type 0
+  HoldsKnown known b m = (k : RightNumber) → known ≡ Some k → IsKnown b k.number m
+
+  pub fixed_binary_follows : (known : Option RightNumber) (op : BinOp) (ty : PlainType) (mode : Mode) (t a : Temp) (aty : PlainType)
+      (b : Temp) (bty : PlainType) (rest : List PlainIr) (n pc : ℕ) (m : Mach) (v : View) → HoldsKnown known b m
+      → IsFixedBinary slots op t a b ty aty bty → is_on_integers (family_of op) mode ty aty bty ≡ false
+      → HasAt e (known_items known (binary_op op ty mode t a aty b bty) rest) pc end → M
       (plain_needs (binary_op op ty mode t a aty b bty) rest) m v
       → Rest (suc n) rest → G (suc n) m.state.work pc v (P n (binary_op op ty mode t a aty b bty) rest m)
-  fixed_binary_follows op ty mode t a aty b bty rest n pc m v k apart stands h f =
-      fixed_binary_passes op ty mode t a aty b bty rest n pc m v (code_of i rest) k none stand h runs f
+  fixed_binary_follows known op ty mode t a aty b bty rest n pc m v holds_known k apart stands h f =
+      fixed_binary_passes op ty mode t a aty b bty rest n pc m v own k none stand h runs f
     where
       i : PlainIr
       i = binary_op op ty mode t a aty b bty
@@ -2004,28 +2014,48 @@ module _ (p : PlainProgram) (functions : List PlainIrFunction) (e : Env) (slots 
       code : List AsmItem
       code = fixed_binary_code op ty aty bty mode (home a) (home b) answer_location work_location
 
+      own : List AsmItem
+      own = own_code p home link None None known need i
+
       whole : List AsmItem
-      whole = placed_whole op (is_signed aty) (home a) (home b) (home t) (a.bytes - 1)
+      whole = placed_whole known op (is_signed aty) (home a) (home b) (home t) (a.bytes - 1)
 
       stops : Bool
       stops = is_placed op mode ty aty bty && not (same_location (home b) (home t))
 
       stopped : List AsmItem
-      stopped = placed_binary op (is_signed aty) (home a) (home b) (home t) a.bytes w
+      stopped = placed_binary known op (is_signed aty) (home a) (home b) (home t) a.bytes w
 
-      code_is : code_of i rest ≡ (if stops then stopped else answer_code code (home t) w)
+      code_is : own ≡ (if stops then stopped else answer_code code (home t) w)
       code_is =
-          ap (λ z. code_by_kind z (fixed_binary None op ty aty bty mode (home a) (home b) (home t) a.bytes w)
+          ap (λ z. code_by_kind z (fixed_binary known None op ty aty bty mode (home a) (home b) (home t) a.bytes w)
           (code_by_kind (is_pointer aty || is_pointer bty)
           (pointer_binary link.core (is_pointer aty) (is_pointer bty) p op aty bty (home a) (home b) (home t) a.bytes b.bytes w)
-          (binary_code (family_of op) (is_signed aty) (is_signed bty) (home a) (home b) (home t) a.bytes w))) fx
+          (integer_code known None op (is_signed aty) (is_signed bty) (home a) (home b) (home t) a.bytes w))) fx
           ∙ ap
           (λ z. if z then binary_code (family_of op) (is_signed aty) (is_signed bty) (home a) (home b) (home t) a.bytes w
           else (if stops then stopped else answer_code code (home t) w)) apart
 
-      stand : HasAt e (code_of i rest ++ items rest) pc end
-      stand = subst (λ x. HasAt e (own_code p home link None x None need i ++ items_told x rest) pc end)
+      stand : HasAt e (own ++ items rest) pc end
+      stand = subst (λ x. HasAt e (own_code p home link None x known need i ++ items_told x rest) pc end)
           (none_told (is_only_tested t (slice_get rest 0) (slice_index (wanted_bytes at rest) 0))) stands
+
+      -- the lowest byte of a known number is the count
+      count_known : (x : Option RightNumber) → known ≡ x → (low : ℕ)
+          → m.temps b.at ≡ Some (record { bytes = b.bytes; content = bits low }) → value v.at (base b) (scalar_size bty) ≡ low
+          → KnownCount p e slots home base place y x b v
+      count_known None s low q y_is = tt
+      count_known (Some number) s low q y_is =
+          let some = k.right.some in
+          let eight = k.right.most in
+          let two = (y.layout.temps_at b k.right).clear in
+          let size = k.right_bytes in
+          let held = λ (j : ℕ) (l : j < scalar_size bty). (let r : v.at (base b + j) < 256 = h.bytes (base b + j) (omega (arith, two)) in r) in
+          let here : base b + 0 ≡ base b = omega arith in
+          let one : value v.at (base b) 1 ≡ v.at (base b + 0) = omega arith in
+          number_low number.number 1 b.bytes some (omega (arith, eight)) ∙ ap (λ x. x % 256 ^ 1) (sym (holds_known number s low q))
+          ∙ ap (λ x. x % 256 ^ 1) (sym y_is) ∙ value_mod v.at (base b) 1 (scalar_size bty) (omega (arith, some, size)) held
+          ∙ one ∙ ap v.at here
 
       more : (u : ℕ) → u ≢ t.at → need u ≤ plain_needs i rest u
       more u d = other_needed op t a b ka kb need u d
@@ -2034,13 +2064,13 @@ module _ (p : PlainProgram) (functions : List PlainIrFunction) (e : Env) (slots 
       cases_of true q1 q2 = q1
       cases_of false q1 q2 = q2
 
-      none : (w == 0) ≡ true → code_of i rest ≡ []
+      none : (w == 0) ≡ true → own ≡ []
       none z =
           let no = λ (x : List AsmItem). ap (λ (q : Bool). if q then [] else x) z in
           code_is ∙ cases_of stops (no whole) (no (code ++ copy_code answer_location (home t) w))
 
-      runs : FixedBinaryRuns op ty mode t a aty b bty rest n pc m v (code_of i rest)
-      runs r number z mid there onward = by_code stops refl (subst (λ x. HasAt e x pc mid) code_is there)
+      runs : FixedBinaryRuns op ty mode t a aty b bty rest n pc m v own
+      runs r low2 qb y_is number z mid there onward = by_code stops refl (subst (λ x. HasAt e x pc mid) code_is there)
         where
           m1 : Mach
           m1 = machine (with_temp t r m.temps) (worked c m.state)
@@ -2048,10 +2078,10 @@ module _ (p : PlainProgram) (functions : List PlainIrFunction) (e : Env) (slots 
           by_code : (x : Bool) → stops ≡ x → HasAt e (if x then stopped else answer_code code (home t) w) pc mid
               → G (suc n) m.state.work pc v (R (suc n) rest m1)
           by_code true s there =
-              let known = and_parts (is_placed op mode ty aty bty) (not (same_location (home b) (home t))) s in
+              let parts = and_parts (is_placed op mode ty aty bty) (not (same_location (home b) (home t))) s in
               let code_there : HasAt e whole pc mid = subst (λ (x : Bool). HasAt e (if x then [] else whole) pc mid) z there in
-              placed_passes p e slots home base place y op ty aty bty mode c (suc n) pc mid t a b need (plain_needs i rest) m v
-              (R (suc n) rest m1) r k known.0 known.1 number h more code_there (omega arith) onward
+              placed_passes p e slots home base place y op known ty aty bty mode c (suc n) pc mid t a b need (plain_needs i rest) m v
+              (R (suc n) rest m1) r (count_known known refl low2 qb y_is) k parts.0 parts.1 number h more code_there (omega arith) onward
           by_code false s there =
               let size = scalar_size ty in
               let same : size ≡ t.bytes = sym k.result_bytes in
@@ -2112,7 +2142,7 @@ module _ (p : PlainProgram) (functions : List PlainIrFunction) (e : Env) (slots 
       code = call_with_two (home a) (home b) a.bytes b.bytes l
 
       runs : FixedBinaryRuns op ty mode t a aty b bty rest n pc m v (answer_code code (home t) w)
-      runs r number z mid there onward =
+      runs r low2 qb y_is number z mid there onward =
           let size = scalar_size ty in
           let same : size ≡ t.bytes = sym k.result_bytes in
           let some = k.result.some in
@@ -3813,7 +3843,7 @@ module _ (p : PlainProgram) (functions : List PlainIrFunction) (e : Env) (slots 
           subst (λ x. HasAt e (code_by_kind x
           (pointer_binary link.core (is_pointer aty) (is_pointer bty) p op aty bty (home a) (home b) (home t) a.bytes b.bytes w) own
           ++ after) pc end) px
-          (subst (λ x. HasAt e (code_by_kind x (fixed_binary (Some told) op ty aty bty mode (home a) (home b) (home t) a.bytes w)
+          (subst (λ x. HasAt e (code_by_kind x (fixed_binary None (Some told) op ty aty bty mode (home a) (home b) (home t) a.bytes w)
           (code_by_kind (is_pointer aty || is_pointer bty)
           (pointer_binary link.core (is_pointer aty) (is_pointer bty) p op aty bty (home a) (home b) (home t) a.bytes b.bytes w) own)
           ++ after) pc end) fx stand) in
@@ -4167,7 +4197,7 @@ module _ (p : PlainProgram) (functions : List PlainIrFunction) (e : Env) (slots 
           ap (λ z. if only then told_by (not z) (family_of op) sign else None) on in
           ap (λ z. (if z then operator_code (plain_told i rest) (family_of op) sign sign (home a) (home b) (home t) a.bytes w
           else (if is_placed op mode ty (fixed k s1) (fixed k s2) && not (same_location (home b) (home t))
-          then placed_binary op sign (home a) (home b) (home t) a.bytes w
+          then placed_binary None op sign (home a) (home b) (home t) a.bytes w
           else answer_code (fixed_binary_code op ty (fixed k s1) (fixed k s2) mode (home a) (home b) answer_location work_location)
           (home t) w)) ++ items_told (plain_told i rest) rest) on
           ∙ ap (λ z. operator_code z (family_of op) sign sign (home a) (home b) (home t) a.bytes w ++ items_told z rest) tells_same
@@ -4221,11 +4251,15 @@ module _ (p : PlainProgram) (functions : List PlainIrFunction) (e : Env) (slots 
   none_taken op (Some k) whole q = ap (λ x. if not x && takes_number op then Some k else None) q
 
   -- of the code of one kind, that of the others says nothing
-  kinds_same : (own other : Bool) (c d x z : List AsmItem) → (own || other) ≡ true
-      → code_by_kind own c (code_by_kind other d x) ≡ code_by_kind own c (code_by_kind other d z)
-  kinds_same true other c d x z q = refl
-  kinds_same false true c d x z q = refl
-  kinds_same false false c d x z q = absurd cc
+  other_same : (own : Bool) (c g x : List AsmItem) → own ≡ false → code_by_kind own c x ≡ code_by_kind own g x
+  other_same true c g x q = absurd cc
+  other_same false c g x q = refl
+
+  others_same : (own other : Bool) (c g d x z : List AsmItem) → own ≡ false → other ≡ true
+      → code_by_kind own c (code_by_kind other d x) ≡ code_by_kind own g (code_by_kind other d z)
+  others_same true other c g d x z n q = absurd cc
+  others_same false true c g d x z n q = refl
+  others_same false false c g d x z n q = absurd cc
 
   pointer_whole : (x : PlainType) → is_pointer x ≡ true → is_whole x ≡ true
   pointer_whole (pointer space const to) q = refl
@@ -4256,8 +4290,8 @@ module _ (p : PlainProgram) (functions : List PlainIrFunction) (e : Env) (slots 
       (λ (k : IsFixedBinary slots op t a b ty aty bty). on_fixed k)
       (λ (k : IsPointerBinary p slots op t a b ty aty bty).
       pointer_binary_follows p functions e slots home base place y labels all end results me link stack op ty mode t a aty b bty
-      rest n pc m v k (own_stands (or_right is_fx is_px k.pointer) (either_whole aty bty k.pointer)) (own_needs (either_whole aty bty k.pointer))
-      r.here.core f)
+      rest n pc m v k (pointer_stands (no_fixed_operand p slots op t a b ty aty bty k) k.pointer (either_whole aty bty k.pointer))
+      (own_needs (either_whole aty bty k.pointer)) r.here.core f)
       j)
       r.covered.0.0
     where
@@ -4283,7 +4317,7 @@ module _ (p : PlainProgram) (functions : List PlainIrFunction) (e : Env) (slots 
       is_wx = is_whole aty || is_whole bty
 
       of_fixed : List AsmItem
-      of_fixed = fixed_binary telling op ty aty bty mode (home a) (home b) (home t) a.bytes w
+      of_fixed = fixed_binary known telling op ty aty bty mode (home a) (home b) (home t) a.bytes w
 
       of_pointers : List AsmItem
       of_pointers = pointer_binary link.core (is_pointer aty) (is_pointer bty) p op aty bty (home a) (home b) (home t) a.bytes b.bytes w
@@ -4301,12 +4335,35 @@ module _ (p : PlainProgram) (functions : List PlainIrFunction) (e : Env) (slots 
       behind : Behind rest
       behind = record { covered = r.covered.1; live = r.live; inside = r.inside }
 
-      own_stands : (is_fx || is_px) ≡ true → is_wx ≡ true → HasAt e (plain_items i rest) pc end
-      own_stands q w =
+      -- an operator on integers takes no known number where its operands are fixed-point numbers
+      code_on : is_fx ≡ true → is_on_integers (family_of op) mode ty aty bty ≡ true → (x : Option RightNumber)
+          → own_code p home link None (telling_with None) x (needs at rest) i
+          ≡ operator_code (telling_with None) (family_of op) (is_signed aty) (is_signed bty) (home a) (home b) (home t) a.bytes w
+      code_on fx on x =
+          ap (λ z. code_by_kind z (fixed_binary x (telling_with None) op ty aty bty mode (home a) (home b) (home t) a.bytes w)
+          (code_by_kind is_px of_pointers
+          (integer_code x (telling_with None) op (is_signed aty) (is_signed bty) (home a) (home b) (home t) a.bytes w))) fx
+          ∙ ap
+          (λ z. if z then operator_code (telling_with None) (family_of op) (is_signed aty) (is_signed bty) (home a) (home b) (home t) a.bytes w
+          else (if is_placed op mode ty aty bty && not (same_location (home b) (home t))
+          then placed_binary x op (is_signed aty) (home a) (home b) (home t) a.bytes w
+          else answer_code (fixed_binary_code op ty aty bty mode (home a) (home b) answer_location work_location) (home t) w)) on
+
+      fixed_stands : is_wx ≡ true → HasAt e (known_items known i rest) pc end
+      fixed_stands w =
+          subst (λ x. HasAt e (own_code p home link None (telling_with x) known (needs at rest) i ++ items_told (telling_with x) rest) pc end)
+          (none_taken op known is_wx w) stands
+
+      pointer_stands : is_fx ≡ false → is_px ≡ true → is_wx ≡ true → HasAt e (plain_items i rest) pc end
+      pointer_stands none q w =
           subst (λ x. HasAt e (own_code p home link None (telling_with x) None (needs at rest) i ++ items_told (telling_with x) rest) pc end)
           (none_taken op known is_wx w)
           (subst (λ x. HasAt e (x ++ items_told telling rest) pc end)
-          (kinds_same is_fx is_px of_fixed of_pointers (of_integers (number_taken known false op)) (of_integers None) q) stands)
+          (others_same is_fx is_px of_fixed (fixed_binary None telling op ty aty bty mode (home a) (home b) (home t) a.bytes w0) of_pointers
+          (of_integers (number_taken known false op)) (of_integers None) none q) stands)
+        where
+          w0 : ℕ
+          w0 = wanted (needs at rest) t
 
       needs_with : Option RightNumber → Need
       needs_with taken =
@@ -4319,14 +4376,17 @@ module _ (p : PlainProgram) (functions : List PlainIrFunction) (e : Env) (slots 
       on_fixed : IsFixedBinary slots op t a b ty aty bty → G (suc n) m.state.work pc v (P n i rest m)
       on_fixed k =
           let whole = either_fixed is_whole type_whole aty bty k.types.fixed in
-          let stand = own_stands (ap (λ x. x || is_px) (either_fixed is_fixed type_fixed aty bty k.types.fixed)) whole in
+          let fixed_so = either_fixed is_fixed type_fixed aty bty k.types.fixed in
+          let stand = fixed_stands whole in
           let needed = own_needs whole in
           ⊎_elim
           (λ (q : is_on_integers (family_of op) mode ty aty bty ≡ true).
           on_integers_follow start ready n go op ty mode t a aty b bty pc rest m v q (on_wholes slots op mode t a b ty aty bty k q) f behind
-          stand needed)
+          (subst (λ x. HasAt e (x ++ items_told (telling_with None) rest) pc end)
+          (code_on fixed_so q known ∙ sym (code_on fixed_so q None)) stand) needed)
           (λ (q : is_on_integers (family_of op) mode ty aty bty ≡ false).
-          fixed_binary_follows op ty mode t a aty b bty rest n pc m v k q stand needed f)
+          fixed_binary_follows known op ty mode t a aty b bty rest n pc m v
+          (λ number held_so. (right_held (known_at all (i ∷ rest)) a b number m.temps held_so held).number) k q stand needed f)
           (cases_Bool (is_on_integers (family_of op) mode ty aty bty))
 
       on_integers : IsBinary (family_of op) slots t a b ty aty bty → (taken : Option RightNumber) → number_taken known false op ≡ taken
@@ -4347,11 +4407,14 @@ module _ (p : PlainProgram) (functions : List PlainIrFunction) (e : Env) (slots 
           by_taken None q =
               integers_follow start ready n go op ty mode t a aty b bty pc rest m v k behind
               (subst (λ x. HasAt e (code_by_kind is_fx
-              (fixed_binary (telling_with x) op ty aty bty mode (home a) (home b) (home t) a.bytes w)
+              (fixed_binary None (telling_with x) op ty aty bty mode (home a) (home b) (home t) a.bytes w)
               (code_by_kind is_px of_pointers (items_with None (telling_with x))) ++ items_told (telling_with x) rest) pc end)
               (taken_so None q)
+              (subst (λ x. HasAt e (x ++ items_told telling rest) pc end)
+              (other_same is_fx of_fixed (fixed_binary None telling op ty aty bty mode (home a) (home b) (home t) a.bytes w)
+              (code_by_kind is_px of_pointers (of_integers None)) (no_kind is_fixed (λ s n. refl) (family_of op) t a b ty aty bty k))
               (subst (λ x. HasAt e (code_by_kind is_fx of_fixed (code_by_kind is_px of_pointers (of_integers x))
-              ++ items_told telling rest) pc end) q stands))
+              ++ items_told telling rest) pc end) q stands)))
               (subst (λ x. M (needs_with x) m v) (taken_so None q) h) f
           by_taken (Some number) q =
               let fx = no_kind is_fixed (λ s n. refl) (family_of op) t a b ty aty bty k in

@@ -66,6 +66,7 @@ use Rattle.ec_select_operations.specs.Homes.{home, result_location}
 use Rattle.ec_fxcode_formats.specs.Brought.{can_bring, bring_code}
 use Rattle.ec_fxcode_limits.specs.Limits.{limited_code}
 use Rattle.ec_fxcode_placed.specs.Shifts.{placed_code}
+use Rattle.ec_fxcode_placed.specs.Counts.{placed_by_code}
 use Rattle.ec_select_fixed.specs.Codes.{fixed_binary_code, fixed_unary_code, fixed_conversion_code}
 use Rattle.ec_select_fixed.specs.Types.{format_in}
 use Rattle.ec_select_routines.specs.Codes.{call_with_one, call_with_two}
@@ -414,27 +415,30 @@ is_placed op mode ty aty bty = has_one_format ty aty && takes_place op mode (has
 abbrev pub stopped_code : (minus signed : Bool) → (a b to : Location) → (top : ℕ) → List AsmItem
 stopped_code minus signed a b to top = move_code a to (suc top) ++ limited_code minus signed b to top
 
--- or the lowest byte of the second one is brought to R30, and they are shifted there by it
-abbrev pub placed_shift : (left signed : Bool) → (a b to : Location) → (top : ℕ) → List AsmItem
-placed_shift left signed a b to top =
+-- or the lowest byte of the second one is brought to R30, and they are shifted there by it, or by the number that the
+-- second one is known to hold
+abbrev pub placed_shift : (known : Option RightNumber) → (left signed : Bool) → (a b to : Location) → (top : ℕ) → List AsmItem
+placed_shift None left signed a b to top =
     move_code b (InRegisters 30) 1 ++ (move_code a to (suc top) ++ placed_code left signed to (suc top))
+placed_shift (Some k) left signed a b to top =
+    move_code a to (suc top) ++ placed_by_code left signed to (suc top) (low_bytes 16 k.number % 256)
 
-abbrev pub placed_whole : BinOp → (signed : Bool) → (a b to : Location) → (top : ℕ) → List AsmItem
-placed_whole Shl signed a b to top = placed_shift true signed a b to top
-placed_whole Shr signed a b to top = placed_shift false signed a b to top
-placed_whole op signed a b to top = stopped_code (is_difference op) signed a b to top
+abbrev pub placed_whole : (known : Option RightNumber) → BinOp → (signed : Bool) → (a b to : Location) → (top : ℕ) → List AsmItem
+placed_whole known Shl signed a b to top = placed_shift known true signed a b to top
+placed_whole known Shr signed a b to top = placed_shift known false signed a b to top
+placed_whole known op signed a b to top = stopped_code (is_difference op) signed a b to top
 
-abbrev pub placed_binary : BinOp → (signed : Bool) → (a b to : Location) → (bytes n : ℕ) → List AsmItem
-placed_binary op signed a b to bytes n = if n == 0 then [] else placed_whole op signed a b to (bytes - 1)
+abbrev pub placed_binary : (known : Option RightNumber) → BinOp → (signed : Bool) → (a b to : Location) → (bytes n : ℕ) → List AsmItem
+placed_binary known op signed a b to bytes n = if n == 0 then [] else placed_whole known op signed a b to (bytes - 1)
 
 -- operands of so many bytes. An operator whose second operand stands at the result's place is none of those
-abbrev pub fixed_binary : (telling : Option Told) → BinOp → (ty aty bty : PlainType) → Mode → (a b to : Location)
-    → (bytes n : ℕ) → List AsmItem
-fixed_binary telling op ty aty bty mode a b to bytes n =
+abbrev pub fixed_binary : (known : Option RightNumber) → (telling : Option Told) → BinOp → (ty aty bty : PlainType) → Mode
+    → (a b to : Location) → (bytes n : ℕ) → List AsmItem
+fixed_binary known telling op ty aty bty mode a b to bytes n =
     if is_on_integers (family_of op) mode ty aty bty
     then operator_code telling (family_of op) (is_signed aty) (is_signed bty) a b to bytes n
     else (if is_placed op mode ty aty bty && not (same_location b to)
-    then placed_binary op (is_signed aty) a b to bytes n
+    then placed_binary known op (is_signed aty) a b to bytes n
     else answer_code (fixed_binary_code op ty aty bty mode a b answer_location work_location) to n)
 
 -- where a number of up to 6 bytes waits while its place gets a result
@@ -597,7 +601,7 @@ operation_code p home k told telling known bytes kept (store_object o offset t) 
     copy_code (home t) (object_location p.objects o offset) t.bytes
 operation_code p home k told telling known bytes kept (binary_op op ty mode to a aty b bty) =
     by_kind (is_fixed aty || is_fixed bty)
-    (fixed_binary telling op ty aty bty mode (home a) (home b) (home to) a.bytes bytes)
+    (fixed_binary known telling op ty aty bty mode (home a) (home b) (home to) a.bytes bytes)
     (by_kind (is_pointer aty || is_pointer bty)
     (pointer_binary k.core (is_pointer aty) (is_pointer bty) p op aty bty (home a) (home b) (home to) a.bytes b.bytes
     bytes)

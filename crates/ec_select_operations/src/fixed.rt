@@ -1,11 +1,12 @@
 //! Operations with a fixed-point type: they are those of integers where both give the same, a sum or a difference that
 //! saturates is one of integers that is stopped at the ends of its range, and most shifts are made in the place of the
 //! result. Else they compute in the work bytes, and their result is brought from there to its place.
-ghost use Rattle.std.specs.Prelude.{◌≡◌, ◌-◌, ◌≤◌, ◌<◌, ◌++◌, suc, true, not, ◌&&◌, OnOk, OnErr};
+ghost use Rattle.std.specs.Prelude.{◌≡◌, ◌-◌, ◌≤◌, ◌<◌, ◌++◌, suc, true, not, ◌&&◌, Some, None, OnOk, OnErr};
 ghost use Rattle.ec_runs.specs.Behaviours.{BeginWith};
 ghost use Rattle.ec_asm.specs.Pieces.{HasBytes, operate_code};
 ghost use Rattle.ec_fxcode_limits.specs.Limits.{operator_of, limited_code};
 ghost use Rattle.ec_fxcode_placed.specs.Shifts.{placed_code};
+ghost use Rattle.ec_fxcode_placed.specs.Counts.{placed_by_code};
 ghost use Rattle.ec_core.specs.Layout.{scalar_size};
 ghost use Rattle.ec_core.specs.Plain.{plain_type};
 ghost use Rattle.ec_fxcode_formats.specs.Brought.{can_bring};
@@ -24,6 +25,7 @@ use crate::families::{
     BinaryOperation, Family, Told, convert, family_of, is_same, move_number, operator, unary,
 };
 use crate::homes::{Homes, home};
+use crate::numbers::bits_of;
 use crate::pointers::is_difference;
 use crate::types::{has_one_format, has_one_fraction, is_fixed, is_signed, is_whole};
 use ec_asm::{AsmItem, Location, Operator, copy, operate};
@@ -31,8 +33,9 @@ use ec_core::{BinOp, CType, UnOp};
 use ec_fx::Mode;
 use ec_fxcode_formats::{Digits, bring, can_bring};
 use ec_fxcode_limits::limit;
-use ec_fxcode_placed::shift_in_place;
+use ec_fxcode_placed::{shift_in_place, shift_in_place_by};
 use ec_ir::{Temp, scalar_size};
+use ec_ir_known::RightNumber;
 use ec_select_bytes::constant;
 use ec_select_fixed::Places;
 use ec_space::{NoMemory, Seq};
@@ -192,8 +195,29 @@ fn shifted(
     shift_in_place(out, left, of.signed, to, bytes)
 }
 
+/// Appends code that puts a number of so many bytes to another place and shifts it there by a known count.
+#[tactic(auto, using(crate::proofs::Emits::byte_there))]
+fn shifted_by(
+    out: &mut Seq<AsmItem>,
+    left: bool,
+    of: Operands,
+    to: Location,
+    bytes: u8,
+    count: u8,
+) -> Result<(), NoMemory>
+    requires left { HasBytes of.left bytes }
+    requires to { HasBytes to bytes }
+    requires some { 1 ≤ bytes }
+    ensures ok { OnOk result (out.new.items ≡ out.old.items
+        ++ (move_code of.left to bytes ++ placed_by_code left of.signed to bytes count)) }
+    ensures err { OnErr result (BeginWith out.old.items out.new.items) }
+{
+    move_number(out, of.left, to, bytes)?;
+    shift_in_place_by(out, left, of.signed, to, bytes, count)
+}
+
 /// Appends code that puts a number of `top + 1` bytes, shifted by the lowest byte of another one, to another place.
-fn shift(
+fn shift_by_count(
     out: &mut Seq<AsmItem>,
     left: bool,
     of: Operands,
@@ -204,17 +228,62 @@ fn shift(
     requires right { HasBytes of.right 1 }
     requires to { HasBytes to (suc top) }
     requires few { top < 255 }
-    ensures ok { OnOk result (out.new.items ≡ out.old.items ++ placed_shift left of.signed of.left of.right to top) }
+    ensures ok { OnOk result (out.new.items ≡ out.old.items
+        ++ placed_shift None left of.signed of.left of.right to top) }
     ensures err { OnErr result (BeginWith out.old.items out.new.items) }
 {
     move_number(out, of.right, Location::InRegisters(30), 1)?;
     shifted(out, left, of, to, top + 1)
 }
 
+/// The same, where the other number is known.
+fn shift_by_number(
+    out: &mut Seq<AsmItem>,
+    number: RightNumber,
+    left: bool,
+    of: Operands,
+    to: Location,
+    top: u8,
+) -> Result<(), NoMemory>
+    requires left { HasBytes of.left (suc top) }
+    requires to { HasBytes to (suc top) }
+    requires few { top < 255 }
+    ensures ok { OnOk result (out.new.items ≡ out.old.items
+        ++ placed_shift (Some number) left of.signed of.left of.right to top) }
+    ensures err { OnErr result (BeginWith out.old.items out.new.items) }
+{
+    let count = (bits_of(number.number) % 256) as u8;
+    shifted_by(out, left, of, to, top + 1, count)
+}
+
+/// Either of them.
+fn shift(
+    out: &mut Seq<AsmItem>,
+    known: Option<RightNumber>,
+    left: bool,
+    of: Operands,
+    to: Location,
+    top: u8,
+) -> Result<(), NoMemory>
+    requires left { HasBytes of.left (suc top) }
+    requires right { HasBytes of.right 1 }
+    requires to { HasBytes to (suc top) }
+    requires few { top < 255 }
+    ensures ok { OnOk result (out.new.items ≡ out.old.items
+        ++ placed_shift known left of.signed of.left of.right to top) }
+    ensures err { OnErr result (BeginWith out.old.items out.new.items) }
+{
+    match known {
+        Some(number) => shift_by_number(out, number, left, of, to, top),
+        None => shift_by_count(out, left, of, to, top),
+    }
+}
+
 /// Appends the code of an operator that computes its result, of `top + 1` bytes, in its place.
 #[tactic(auto, using(crate::proofs::Emits::fewer_bytes))]
 fn placed_whole(
     out: &mut Seq<AsmItem>,
+    known: Option<RightNumber>,
     op: BinOp,
     of: Operands,
     to: Location,
@@ -224,12 +293,13 @@ fn placed_whole(
     requires right { HasBytes of.right (second_bytes op (suc top)) }
     requires to { HasBytes to (suc top) }
     requires few { top < 255 }
-    ensures ok { OnOk result (out.new.items ≡ out.old.items ++ placed_whole op of.signed of.left of.right to top) }
+    ensures ok { OnOk result (out.new.items ≡ out.old.items
+        ++ placed_whole known op of.signed of.left of.right to top) }
     ensures err { OnErr result (BeginWith out.old.items out.new.items) }
 {
     match op {
-        BinOp::Shl => shift(out, true, of, to, top),
-        BinOp::Shr => shift(out, false, of, to, top),
+        BinOp::Shl => shift(out, known, true, of, to, top),
+        BinOp::Shr => shift(out, known, false, of, to, top),
         _ => stopped(out, is_difference(op), of, to, top),
     }
 }
@@ -237,6 +307,7 @@ fn placed_whole(
 /// The same of a first operand of so many bytes, where so many bytes of the result are wanted.
 fn placed(
     out: &mut Seq<AsmItem>,
+    known: Option<RightNumber>,
     op: BinOp,
     of: Operands,
     to: Location,
@@ -248,13 +319,13 @@ fn placed(
     requires to { HasBytes to bytes }
     requires some { 1 ≤ bytes }
     ensures ok { OnOk result (out.new.items ≡ out.old.items
-        ++ placed_binary op of.signed of.left of.right to bytes wanted) }
+        ++ placed_binary known op of.signed of.left of.right to bytes wanted) }
     ensures err { OnErr result (BeginWith out.old.items out.new.items) }
 {
     if wanted == 0 {
         return Ok(());
     }
-    placed_whole(out, op, of, to, bytes - 1)
+    placed_whole(out, known, op, of, to, bytes - 1)
 }
 
 /// Appends the code of a binary operator on operands of which one is fixed-point at least, of whose result so many
@@ -264,6 +335,7 @@ fn placed(
 pub fn fixed_binary(
     out: &mut Seq<AsmItem>,
     homes: Homes,
+    known: Option<RightNumber>,
     telling: Option<Told>,
     op: BinOp,
     ty: &CType,
@@ -277,7 +349,7 @@ pub fn fixed_binary(
 ) -> Result<(), NoMemory>
     requires { FixedHasBytes op wanted to a b (plain_type ty.now) (plain_type aty.now) (plain_type bty.now) }
     ensures ok { OnOk result (out.new.items ≡ out.old.items
-        ++ fixed_binary telling op (plain_type ty.now) (plain_type aty.now) (plain_type bty.now) mode (home homes a)
+        ++ fixed_binary known telling op (plain_type ty.now) (plain_type aty.now) (plain_type bty.now) mode (home homes a)
         (home homes b) (home homes to) a.bytes wanted) }
     ensures err { OnErr result (BeginWith out.old.items out.new.items) }
 {
@@ -298,7 +370,7 @@ pub fn fixed_binary(
             left,
             right,
         };
-        return placed(out, op, of, place, a.bytes, wanted);
+        return placed(out, known, op, of, place, a.bytes, wanted);
     }
     if wanted == 0 {
         return Ok(());

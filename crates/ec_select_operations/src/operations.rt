@@ -162,7 +162,7 @@ pub fn operation(
             if is_fixed(aty) || is_fixed(bty) {
                 let telling = flags.telling;
                 return fixed_binary(
-                    out, homes, telling, *op, ty, *mode, *to, *a, aty, *b, bty, wanted,
+                    out, homes, known, telling, *op, ty, *mode, *to, *a, aty, *b, bty, wanted,
                 );
             }
             if is_pointer(aty) || is_pointer(bty) {

@@ -2,13 +2,14 @@ use Rattle.std.proofs.Common.{◌≡◌, ◌∙◌, ◌++◌, ℕ, List, map, le
 use Rattle.std.proofs.lemmas.List.{length-map}
 use Rattle.ec_ir.specs.declared.operations.Ir.{Ir}
 use Rattle.ec_ir.specs.Operations.{PlainIr, plain_ir, plain_ir_function, plain_ir_program, data_of}
+use Rattle.ec_ir_known.specs.Known.{right_numbers}
 use Rattle.ec_select_live.specs.Tables.{needs_of}
 use Rattle.ec_select_operations.specs.Code.{wanted_bytes}
 use Rattle.ec_select_operations.specs.Needs.{facts_of}
 use Rattle.ec_select.specs.Labels.{homes_of}
 use Rattle.ec_select.specs.Seen.{CanBeUses, plain_use}
 use Rattle.ec_select.specs.Sharing.{uses_in}
-use Rattle.ec_select.proofs.Added.{results_placed}
+use Rattle.ec_select.proofs.Added.{results_placed, numbers_length}
 use Rattle.ec_select.proofs.Emits.{wanted_length}
 use Rattle.ec_select.proofs.Linked.{all_used}
 use Rattle.ec_select.proofs.Setting.{function_few, function_valid}
@@ -45,6 +46,13 @@ add_uses-requires-clause-numbers c =
     ap length c.as_slice-code.ensures
     ∙ sym (ap length c.deref.ensures.value ∙ ap length bytes ∙ wanted_length at (map plain_ir code) ∙ length-map code plain_ir)
 
+pub add_uses-requires-clause-known : goal.add_uses-requires-clause-known
+add_uses-requires-clause-known c =
+    let code = c.args.g.now.code.items in
+    let known : c.deref-numbers.result.now ≡ right_numbers (map plain_ir code) = c.deref-numbers.ensures.value ∙ c.in_ok-known.ensures in
+    ap length c.as_slice-code.ensures
+    ∙ sym (ap length known ∙ numbers_length (map plain_ir code) (map plain_ir code) ∙ length-map code plain_ir)
+
 pub add_uses-requires-clause-each : goal.add_uses-requires-clause-each
 add_uses-requires-clause-each c =
     let p = plain_ir_program c.args.ir.now in
@@ -67,5 +75,7 @@ returns c =
     let bytes : c.deref.result.now ≡ wanted_bytes at g.code = c.deref.ensures.value ∙ c.in_ok-bytes.ensures in
     let homes : c.homes_of.result ≡ homes_of c.args.f g.code = c.homes_of.ensures ∙ ap (homes_of c.args.f) code in
     let more : map plain_use c.add_uses.new.uses.items ≡ map plain_use c.args.uses.now.items
-    ++ uses_in c.args.core (data_of p) c.homes_of.result c.deref.result.now (map plain_ir c.as_slice-code.result.now) = c.in_ok-add_uses.ensures in
-    more ∙ (λ j. map plain_use c.args.uses.now.items ++ uses_in c.args.core (data_of p) (homes j) (bytes j) (code j))
+    ++ uses_in c.args.core (data_of p) c.homes_of.result c.deref.result.now c.deref-numbers.result.now (map plain_ir c.as_slice-code.result.now) =
+    c.in_ok-add_uses.ensures in
+    let known : c.deref-numbers.result.now ≡ right_numbers g.code = c.deref-numbers.ensures.value ∙ c.in_ok-known.ensures in
+    more ∙ (λ j. map plain_use c.args.uses.now.items ++ uses_in c.args.core (data_of p) (homes j) (bytes j) (known j) (code j))

@@ -5,7 +5,7 @@ use Rattle.ec_asm.specs.declared.pieces.Location.TheVariants.{InRegisters}
 use Rattle.ec_fxcode_placed.specs.Shifts.{placed_code}
 use Rattle.ec_select_operations.specs.Code.{move_code}
 use Rattle.ec_select_operations.proofs.Emits.{joined_code}
-use Rattle.ec_select_operations.proofs.fixed.shift.Goals as goal
+use Rattle.ec_select_operations.proofs.fixed.shift_by_count.Goals as goal
 
 pub returns-clause-ok : goal.returns-clause-ok
 returns-clause-ok c =
