@@ -19,8 +19,8 @@ const __farflash struct page sines = {
     0x93A5};
 const __farflash struct page squares = {
     {'s', 'q', 'u', 'a'},
-    {0, 1, 4, 9, 16, 25, 36, 49, 64, 81, 100, 121, 144, 169, 196, 225},
-    0x30D8};
+    {0, 1, 4, 9, 16, 25, 36, 49, 64, 81, 100, 121, 144, 169, 196},
+    0x75F7};
 const __farflash struct page primes = {
     {'p', 'r', 'i', 'm'},
     {2, 3, 5, 7, 11, 13, 17, 19, 23, 29, 31, 37, 41, 43, 47, 53},
