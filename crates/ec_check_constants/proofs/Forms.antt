@@ -9,7 +9,7 @@ use Rattle.ec_core.specs.ArithmeticValues.{HoldsNumber}
 use Rattle.ec_core.specs.Operators.{number_type}
 use Rattle.ec_core.specs.Plain.{PlainType, void, integer, fixed, pointer, array, struct, PlainExpr, expression, PlainNode, number, null}
 use Rattle.ec_core.specs.Plain.{load, address_of, unary, binary, convert, assign, compound, step, logical_not, logical_and, logical_or}
-use Rattle.ec_core.specs.Plain.{conditional, comma, call, io, group, PlainProgram}
+use Rattle.ec_core.specs.Plain.{conditional, comma, call, io, group, bind, dynamic_group, PlainProgram}
 use Rattle.ec_core.specs.Typing.{int, type_of_expr, IsTyped, HaveUnaryTypes, HaveArithmeticTypes, HaveBinaryTypes, AreConvertible}
 use Rattle.ec_core.specs.Valid.{IsExprType, ValidExpr, ValidParts}
 use Rattle.ec_check_constants.specs.Constants.{HasConstantForm, IsConstantForm, IsNumeric, IsConstant, IsConstantNode}
@@ -102,3 +102,5 @@ module _ (p : PlainProgram) (table : IoTable) (f : ℕ) where
     node_constant_of ty (call g args) k t v h = absurd h
     node_constant_of ty (io op port index value) k t v h = absurd h
     node_constant_of ty (group acquire g) k t v h = absurd h
+    node_constant_of ty (bind d choice) k t v h = absurd h
+    node_constant_of ty (dynamic_group acquire d) k t v h = absurd h

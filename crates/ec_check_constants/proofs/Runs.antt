@@ -12,7 +12,7 @@ use Rattle.ec_core.specs.Integers.{truth}
 use Rattle.ec_core.specs.Operators.{number_type, as_number, then_with, Operand, conversion_of, conversion_result}
 use Rattle.ec_core.specs.Plain.{PlainType, void, integer, fixed, pointer, array, struct, PlainExpr, expression, PlainNode, number, null}
 use Rattle.ec_core.specs.Plain.{load, address_of, unary, binary, convert, assign, compound, step, logical_not, logical_and, logical_or}
-use Rattle.ec_core.specs.Plain.{conditional, comma, call, io, group}
+use Rattle.ec_core.specs.Plain.{conditional, comma, call, io, group, bind, dynamic_group}
 use Rattle.ec_core.specs.State.{Setting, State, worked, Outcome, got, next, given, choose}
 use Rattle.ec_core.specs.Typing.{type_of_expr}
 use Rattle.ec_check_constants.specs.Constants.{IsConstant, IsConstantNode, is_true, truth_of, constant, node_constant}
@@ -27,12 +27,12 @@ record Gives (o : Outcome Value) (r : Result ℤ Undefined) (s : State) : Type 0
 worked_none : (s : State) → worked 0 s ≡ s
 worked_none s =
     let e : s.work + 0 ≡ s.work = omega arith in
-    ap (λ (n : ℕ). record { objects = s.objects; acquired = s.acquired; events = s.events; work = n }) e
+    ap (λ (n : ℕ). record { objects = s.objects; groups = s.groups; events = s.events; work = n }) e
 
 worked_twice : (j k : ℕ) (s : State) → worked k (worked j s) ≡ worked (j + k) s
 worked_twice j k s =
     let e : s.work + j + k ≡ s.work + (j + k) = omega arith in
-    ap (λ (n : ℕ). record { objects = s.objects; acquired = s.acquired; events = s.events; work = n }) e
+    ap (λ (n : ℕ). record { objects = s.objects; groups = s.groups; events = s.events; work = n }) e
 
 at_once : (r : Result ℤ Undefined) (s : State) → Gives (given (as_number r) s) r s
 at_once r s = record { words = 0; is = ap (λ (t : State). given (as_number r) t) (sym (worked_none s)) }
@@ -136,6 +136,8 @@ module _ (w : Setting) (calls : Calls) where
     node_gives ty mode (call f args) s h = absurd h
     node_gives ty mode (io op port index value) s h = absurd h
     node_gives ty mode (group acquire g) s h = absurd h
+    node_gives ty mode (bind d choice) s h = absurd h
+    node_gives ty mode (dynamic_group acquire d) s h = absurd h
 
 pub runs_give : (w : Setting) (calls : Calls) (e : PlainExpr) (s : State) → IsConstant e
     → (words : ℕ) × (value_of w calls e s ≡ given (as_number (constant e)) (worked words s))

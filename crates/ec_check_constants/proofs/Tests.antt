@@ -1,10 +1,10 @@
 -- The test tells exactly the constant expressions.
-use Rattle.std.proofs.Common.{◌≡◌, ◌∙◌, refl, Bool, true, ◌&&◌}
-use Rattle.std.specs.Prelude.{IsTrue}
+use Rattle.std.proofs.Common.{◌≡◌, true}
 use Rattle.ec_core.specs.Laws.{TypesAreTold}
 use Rattle.ec_core.specs.Operators.{number_type, same_type}
 use Rattle.ec_core.specs.Plain.{PlainType, PlainExpr, expression, PlainNode, number, null, load, address_of, unary, binary, convert, assign}
-use Rattle.ec_core.specs.Plain.{compound, step, logical_not, logical_and, logical_or, conditional, comma, call, io, group}
+use Rattle.ec_core.specs.Plain.{compound, step, logical_not, logical_and, logical_or, conditional, comma, call, io, group, bind}
+use Rattle.ec_core.specs.Plain.{dynamic_group}
 use Rattle.ec_core.specs.Typing.{int, type_of_expr}
 use Rattle.ec_core.proofs.Sameness.{and_true, true_and}
 use Rattle.ec_check_constants.specs.Constants.{IsConstant, IsConstantNode}
@@ -55,6 +55,8 @@ module _ (types : TypesAreTold) where
     node_sound ty (call g args) e = cc
     node_sound ty (io op port index value) e = cc
     node_sound ty (group acquire g) e = cc
+    node_sound ty (bind d choice) e = cc
+    node_sound ty (dynamic_group acquire d) e = cc
 
   mutual
     complete : (e : PlainExpr) → IsConstant e → is_constant e ≡ true
@@ -86,6 +88,8 @@ module _ (types : TypesAreTold) where
     node_complete ty (call g args) h = absurd h
     node_complete ty (io op port index value) h = absurd h
     node_complete ty (group acquire g) h = absurd h
+    node_complete ty (bind d choice) h = absurd h
+    node_complete ty (dynamic_group acquire d) h = absurd h
 
   pub tells_constants : TestsTellConstants
   tells_constants =

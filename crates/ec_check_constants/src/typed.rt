@@ -58,7 +58,9 @@ fn is_constant_node(ty: &CType, node: &Node) -> bool
         | Node::Comma(_, _)
         | Node::Call(_, _)
         | Node::Io { .. }
-        | Node::Group { .. } => false,
+        | Node::Group { .. }
+        | Node::Bind { .. }
+        | Node::DynGroup { .. } => false,
     }
 }
 

@@ -71,7 +71,7 @@ fn in_node(out: &mut Seq<u16>, node: &Node) -> Result<(), NoMemory>
             in_option(out, index)?;
             in_option(out, value)
         }
-        Node::Group { .. } => Ok(()),
+        Node::Group { .. } | Node::Bind { .. } | Node::DynGroup { .. } => Ok(()),
     }
 }
 

@@ -8,7 +8,7 @@ use Rattle.std.proofs.lemmas.Option.{slice_get_within}
 use Rattle.ec_core.specs.Needs.{expr_calls, node_calls, place_calls, option_calls, exprs_calls, optional_calls, stmt_calls, kind_calls}
 use Rattle.ec_core.specs.Needs.{option_stmt_calls, stmts_calls}
 use Rattle.ec_core.specs.Plain.{PlainExpr, expression, PlainNode, number, null, load, address_of, unary, binary, convert, assign, compound}
-use Rattle.ec_core.specs.Plain.{step, logical_not, logical_and, logical_or, conditional, comma, call, io, group, PlainPlace, object, deref}
+use Rattle.ec_core.specs.Plain.{step, logical_not, logical_and, logical_or, conditional, comma, call, io, group, bind, dynamic_group, PlainPlace, object, deref}
 use Rattle.ec_core.specs.Plain.{member, OptionPlainExpr, no_expr, an_expr, PlainExprs, last_expr, next_expr, PlainStmt, statement}
 use Rattle.ec_core.specs.Plain.{PlainKind, empty, evaluate, block, declare, branch, while_loop, do_loop, for_loop, break_loop}
 use Rattle.ec_core.specs.Plain.{continue_loop, return_value, OptionPlainStmt, no_stmt, a_stmt, PlainStmts, last_stmt, next_stmt}
@@ -41,6 +41,8 @@ module _ (May : ℕ → Type 0) where
     NodeCalls (call f args) = May f × RowCalls args
     NodeCalls (io op port index value) = OptionCalls index × OptionCalls value
     NodeCalls (group acquire g) = ⊤
+    NodeCalls (bind d choice) = ⊤
+    NodeCalls (dynamic_group acquire d) = ⊤
 
     pub PlaceCalls : PlainPlace → Type 0
     PlaceCalls (object o) = ⊤
@@ -118,6 +120,8 @@ module _ (May : ℕ → Type 0) where
         let x1 = all_option value rest x0.1 in
         ((x0.0, x1.0), x1.1)
     all_node (group acquire g) rest h = (tt, h)
+    all_node (bind d choice) rest h = (tt, h)
+    all_node (dynamic_group acquire d) rest h = (tt, h)
 
     all_place : (p : PlainPlace) (rest : List ℕ) → AllByRecursion May (place_calls p rest) → PlaceCalls p × AllByRecursion May rest
     all_place (object o) rest h = (tt, h)

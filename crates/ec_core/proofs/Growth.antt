@@ -3,6 +3,7 @@ use Rattle.std.proofs.Common.{◌≡◌, ◌≤◌, ℕ, zero, suc, ◌+◌, ◌
 use Rattle.std.proofs.Common.{Result, Ok, Err, refl, subst, arith}
 use Rattle.std.specs.Prelude.{⊤, if◌then◌else◌, option_and_then, option_map, slice_get, nat_lt}
 use Rattle.ec_iohw.specs.declared.operations.IoOp.{IoOp}
+use Rattle.ec_iohw.specs.declared.table.Choice.{Choice}
 use Rattle.ec_iohw.specs.declared.table.Pair.{Pair}
 use Rattle.ec_space.specs.declared.space.SpaceId.{SpaceId}
 use Rattle.ec_space.specs.Spaces.{holds}
@@ -14,14 +15,15 @@ use Rattle.ec_core.specs.declared.values.Value.TheVariants.{Number, Pointer}
 use Rattle.ec_core.specs.Accesses.{is_readable, begun, all_ended, frame_ended, is_live_in, Access, access_of, access, recorded, leaf_of}
 use Rattle.ec_core.specs.Accesses.{leaf_at, read_value, read, stored, is_fixed, write, own_access, first_write, initialised, operand_of}
 use Rattle.ec_core.specs.Expressions.{Update, pointed_to, object_place, condition, truth_value, updated_place}
-use Rattle.ec_core.specs.Laws.{IsMade, Step, takes_work, reads_port, writes_port, changes_group, reads_leaf, writes_leaf, begins_object}
+use Rattle.ec_core.specs.Laws.{IsMade, Step, takes_work, reads_port, writes_port, changes_group, binds_group, reads_leaf, writes_leaf, begins_object}
 use Rattle.ec_core.specs.Laws.{ends_object, ends_frame, Leads, here, onward}
 use Rattle.ec_core.specs.Meaning.{state_of}
 use Rattle.ec_core.specs.Operators.{truth_result, compound_result}
 use Rattle.ec_core.specs.Plain.{PlainType, void, integer, fixed, pointer, array, struct, PlainExpr, PlainPlace, PlainObject, PlainProgram}
 use Rattle.ec_core.specs.Pointers.{Pointer as PointerValue}
 use Rattle.ec_core.specs.PortAccesses.{byte_read, bytes_read, bytes_written, port_accessed, is_open, within, opened, port_effect}
-use Rattle.ec_core.specs.PortAccesses.{pairs_written, pairs_of, group_effect}
+use Rattle.ec_core.specs.PortAccesses.{standing_port, accessed, pairs_written, pairs_of, group_effect}
+use Rattle.ec_core.specs.PortAccesses.{bound, bind_effect, choice_effect, dynamic_effect}
 use Rattle.ec_core.specs.PortOperations.{PortAction, reads, writes, updates, port_operation}
 use Rattle.ec_core.specs.PortTable.{PlainPort, PlainGroup}
 use Rattle.ec_core.specs.State.{Setting, Read, told, ObjectState, State, worked, Outcome, got, more, undefined, next, given, choose}
@@ -195,9 +197,14 @@ module _ (w : Setting) (least : ℕ) where
   opened_grows true op port i v s = within_grows (nat_lt i port.count) op port i v s
   opened_grows false op port i v s = still s refl tt
 
-  pub port_effect_grows : (op : IoOp) (port : Option PlainPort) (i v : Value) (s : State) → Grows s (port_effect w.inputs op port i v s)
+  pub accessed_grows : (op : IoOp) (port : Option PlainPort) (i v : ℕ) (s : State) → Grows s (accessed w.inputs op port i v s)
+  accessed_grows op None i v s = still s refl tt
+  accessed_grows op (Some port) i v s = opened_grows (is_open port.group s) op port i v s
+
+  pub port_effect_grows : (op : IoOp) (port : Option PlainPort) (i v : Value) (s : State)
+      → Grows s (port_effect w.inputs w.table op port i v s)
   port_effect_grows op None i v s = still s refl tt
-  port_effect_grows op (Some port) i v s = opened_grows (is_open port.group s) op port _ _ s
+  port_effect_grows op (Some port) i v s = accessed_grows op (standing_port w.table port port.dynamic s) _ _ s
 
   pub pairs_written_leads : (pairs : List Pair) (s : State) → Leads w s (pairs_written pairs s)
   pairs_written_leads [] s = itself s
@@ -207,6 +214,16 @@ module _ (w : Setting) (least : ℕ) where
   group_effect_grows acquire g None s = still s refl tt
   group_effect_grows acquire g (Some x) s =
       grown (leads_on (pairs_written_leads (pairs_of acquire x) s) (by_step (changes_group g acquire refl))) tt
+
+  pub bind_effect_grows : (d choice : ℕ) (s : State) → Grows s (bind_effect d choice s)
+  bind_effect_grows d choice s = grown (by_step (binds_group d choice refl)) tt
+
+  pub choice_effect_grows : (acquire : Bool) (c : Option Choice) (s : State) → Grows s (choice_effect acquire w.table c s)
+  choice_effect_grows acquire None s = still s refl tt
+  choice_effect_grows acquire (Some c) s = group_effect_grows acquire c.group (slice_get w.table.groups c.group) s
+
+  pub dynamic_effect_grows : (acquire : Bool) (d : ℕ) (s : State) → Grows s (dynamic_effect acquire w.table d s)
+  dynamic_effect_grows acquire d s = choice_effect_grows acquire (bound w.table d s) s
 
   -- ---- expressions
 

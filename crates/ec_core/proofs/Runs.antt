@@ -12,14 +12,14 @@ use Rattle.ec_core.specs.declared.values.Value.{Value}
 use Rattle.ec_core.specs.declared.values.Value.TheVariants.{Number}
 use Rattle.ec_core.specs.Accesses.{Access, begun, ended, frame_ended, is_readable, leaf_of, is_fixed, recorded, with_leaf, stored}
 use Rattle.ec_core.specs.Accesses.{read_value, write}
-use Rattle.ec_core.specs.Laws.{IsMade, Step, takes_work, reads_port, writes_port, changes_group, reads_leaf, writes_leaf, begins_object}
+use Rattle.ec_core.specs.Laws.{IsMade, Step, takes_work, reads_port, writes_port, changes_group, binds_group, reads_leaf, writes_leaf, begins_object}
 use Rattle.ec_core.specs.Laws.{ends_object, ends_frame, Leads, here, onward, IsAtHome, RegistersAreSilent, RunsBySteps, EventsAreAtHome}
 use Rattle.ec_core.specs.Laws.{MoreTurnsOnlyAdd, WorkNeverFalls, AgreeOn, DependsOnBytesRead, IsLater, HasLaterParts, PartsOnlyAdd}
 use Rattle.ec_core.specs.Laws.{TurnsAreWork, left_of, IsTaken, BytesAreTakenInOrder}
 use Rattle.ec_core.specs.Meaning.{setting, initial_state, run, behaviour_of, state_of}
 use Rattle.ec_core.specs.Plain.{PlainStorage, static, local, param, register, PlainObject, PlainProgram}
 use Rattle.ec_core.specs.PortAccesses.{next_byte, byte_read, bytes_read, number_read, bytes_written, updated, no_value, port_accessed}
-use Rattle.ec_core.specs.PortAccesses.{is_open, within, opened, port_effect}
+use Rattle.ec_core.specs.PortAccesses.{is_open, within, opened, standing_port, accessed, port_effect}
 use Rattle.ec_core.specs.PortOperations.{PortAction, reads, writes, updates, port_operation}
 use Rattle.ec_core.specs.PortTable.{PlainPort, PlainTable}
 use Rattle.ec_core.specs.State.{Inputs, Setting, Event, In, Out, Read, Write, reads_of, told, State, with_event, worked, with_object}
@@ -305,10 +305,15 @@ module _ (program : PlainProgram) (table : PlainTable) (a b : Inputs) where
   opened_alike true op port i x s agree = within_alike (nat_lt i port.count) op port i x s agree
   opened_alike false op port i x s agree = refl
 
+  accesses_alike : (op : IoOp) (port : Option PlainPort) (i x : ℕ) (s : State)
+      → Agrees Value (accessed a op port i x s) (accessed b op port i x s)
+  accesses_alike op None i x s agree = refl
+  accesses_alike op (Some port) i x s agree = opened_alike (is_open port.group s) op port i x s agree
+
   effect_alike : (op : IoOp) (port : Option PlainPort) (i x : Value) (s : State)
-      → Agrees Value (port_effect a op port i x s) (port_effect b op port i x s)
+      → Agrees Value (port_effect a table op port i x s) (port_effect b table op port i x s)
   effect_alike op None i x s agree = refl
-  effect_alike op (Some port) i x s agree = opened_alike (is_open port.group s) op port _ _ s agree
+  effect_alike op (Some port) i x s agree = accesses_alike op (standing_port table port port.dynamic s) _ _ s agree
 
   turns_agree : (n : ℕ) (body other : State → Outcome Exit) (test probe : State → Outcome Bool)
       → ((s : State) → Both program table a b 0 Agrees s (body s) (other s))

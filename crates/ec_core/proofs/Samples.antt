@@ -81,7 +81,7 @@ abbrev program : List PlainObject → List PlainFunction → PlainProgram
 program objects functions = record { structs = []; objects = objects; functions = functions; main = 0 }
 
 abbrev no_ports : PlainTable
-no_ports = record { ports = []; groups = [] }
+no_ports = record { ports = []; groups = []; dynamics = [] }
 
 abbrev silent : ℕ → List ℕ
 silent port = []
@@ -241,7 +241,7 @@ doubling_saturates = refl
 -- ---- ports
 
 abbrev two_bytes : PlainTable
-two_bytes = record { ports = record { address = 0x84; width = 2; count = 1; group = None } ∷ []; groups = [] }
+two_bytes = record { ports = record { address = 0x84; width = 2; count = 1; group = None; dynamic = None } ∷ []; groups = []; dynamics = [] }
 
 abbrev some_bytes : ℕ → List ℕ
 some_bytes port = if port == 0x84 then 0x34 ∷ [] else (if port == 0x85 then 0x12 ∷ 1 ∷ [] else [])
@@ -263,8 +263,9 @@ porting_ends = refl
 
 abbrev grouped : PlainTable
 grouped = record {
-  ports = record { address = 0x84; width = 2; count = 1; group = Some 0 } ∷ [];
+  ports = record { address = 0x84; width = 2; count = 1; group = Some 0; dynamic = None } ∷ [];
   groups = record { acquire = []; release = [] } ∷ [];
+  dynamics = [];
 }
 
 porting_closed : source porting grouped some_bytes 0 ≡ Failed ClosedPort
@@ -272,8 +273,9 @@ porting_closed = refl
 
 abbrev open_group : PlainTable
 open_group = record {
-  ports = record { address = 0x79; width = 1; count = 2; group = Some 0 } ∷ [];
+  ports = record { address = 0x79; width = 1; count = 2; group = Some 0; dynamic = None } ∷ [];
   groups = record { acquire = record { port = 0x7A; byte = 0x80 } ∷ []; release = record { port = 0x7A; byte = 0 } ∷ [] } ∷ [];
+  dynamics = [];
 }
 
 -- int main(void) { iogroup_acquire(ADC); iordbuf(SAMPLE, i); iogroup_release(ADC); iordbuf(SAMPLE, i); }

@@ -6,11 +6,11 @@ use Rattle.std.specs.List.{AllByRecursion}
 use Rattle.ec_runs.specs.Behaviours.{BeginWith}
 use Rattle.ec_space.specs.Spaces.{holds}
 use Rattle.ec_core.specs.Accesses.{Access, begun, ended, frame_ended, recorded, with_leaf}
-use Rattle.ec_core.specs.Laws.{IsMade, Step, takes_work, reads_port, writes_port, changes_group, reads_leaf, writes_leaf, begins_object}
+use Rattle.ec_core.specs.Laws.{IsMade, Step, takes_work, reads_port, writes_port, changes_group, binds_group, reads_leaf, writes_leaf, begins_object}
 use Rattle.ec_core.specs.Laws.{ends_object, ends_frame, Leads, here, onward, IsAtHome}
 use Rattle.ec_core.specs.Plain.{PlainStorage, static, local, param, register, PlainObject, PlainProgram}
 use Rattle.ec_core.specs.PortAccesses.{byte_read}
-use Rattle.ec_core.specs.State.{Setting, Event, Out, State, with_event, worked, with_object, with_group}
+use Rattle.ec_core.specs.State.{Setting, Event, Out, State, with_event, worked, with_object, with_group, with_choice}
 use Rattle.ec_core.specs.Valid.{IsAddressable}
 
 -- ---- steps
@@ -58,6 +58,7 @@ step_adds w s t (takes_work words e) = subst (Added w s) (sym e) (none_added w s
 step_adds w s t (reads_port port e) = subst (Added w s) (sym e) (one_added w s (byte_read w.inputs port s) _ refl tt (omega arith))
 step_adds w s t (writes_port port byte e) = subst (Added w s) (sym e) (one_added w s (with_event (Out port byte) s) _ refl tt (omega arith))
 step_adds w s t (changes_group g acquired e) = subst (Added w s) (sym e) (none_added w s (with_group g acquired s) refl (omega arith))
+step_adds w s t (binds_group d choice e) = subst (Added w s) (sym e) (none_added w s (with_choice d choice s) refl (omega arith))
 step_adds w s t (reads_leaf a v m l e) =
     subst (Added w s) (sym e) (record_added w s a.declared.storage _ s refl (omega arith) (made_home w.program s a m))
 step_adds w s t (writes_leaf a v m e) = subst (Added w s) (sym e)

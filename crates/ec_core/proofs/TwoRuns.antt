@@ -12,7 +12,7 @@ use Rattle.ec_core.specs.Expressions.{option_value, values_of}
 use Rattle.ec_core.specs.Laws.{Leads}
 use Rattle.ec_core.specs.Meaning.{setting, state_of}
 use Rattle.ec_core.specs.Plain.{PlainType, PlainExpr, expression, PlainNode, number, null, load, address_of, unary, binary, convert, assign}
-use Rattle.ec_core.specs.Plain.{compound, step, logical_not, logical_and, logical_or, conditional, comma, call, io, group, PlainPlace}
+use Rattle.ec_core.specs.Plain.{compound, step, logical_not, logical_and, logical_or, conditional, comma, call, io, group, bind, dynamic_group, PlainPlace}
 use Rattle.ec_core.specs.Plain.{object, deref, member, OptionPlainExpr, no_expr, an_expr, PlainExprs, last_expr, next_expr, PlainStmt}
 use Rattle.ec_core.specs.Plain.{statement, PlainKind, empty, evaluate, block, declare, branch, while_loop, do_loop, for_loop, break_loop}
 use Rattle.ec_core.specs.Plain.{continue_loop, return_value, OptionPlainStmt, no_stmt, a_stmt, PlainStmts, last_stmt, next_stmt}
@@ -25,7 +25,7 @@ use Rattle.ec_core.specs.Statements.{declared_first, ending, test_of, evaluated,
 use Rattle.ec_core.specs.Statements.{option_effect, first_effect, effects_of, parameters_written, call_of}
 use Rattle.ec_core.specs.Typing.{int, type_of_expr}
 use Rattle.ec_core.proofs.Growth.{IsSpent, Grows, still, grown, grows_after, grows_next, grows_given, worked_leads, read_grows, write_grows}
-use Rattle.ec_core.proofs.Growth.{initialised_grows, port_effect_grows, group_effect_grows, pointed_to_grows, updated_place_grows}
+use Rattle.ec_core.proofs.Growth.{initialised_grows, port_effect_grows, group_effect_grows, bind_effect_grows, dynamic_effect_grows, pointed_to_grows, updated_place_grows}
 use Rattle.ec_core.proofs.Growth.{object_place_grows, all_ended_leads, begun_leads, result_grows, frame_ended_leads}
 
 -- a relation on outcomes, for runs of one program on two inputs
@@ -108,7 +108,7 @@ module _ (program : PlainProgram) (table : PlainTable) (left right : Inputs) (le
     -- ---- expressions
 
     module _ (ports : (op : IoOp) (port : Option PlainPort) (i x : Value) (s : State)
-        → E Value (port_effect left op port i x s) (port_effect right op port i x s)) (first second : Calls)
+        → E Value (port_effect left table op port i x s) (port_effect right table op port i x s)) (first second : Calls)
         (calls : (f : ℕ) (xs : List Value) (s : State) → Both s (first f xs s) (second f xs s)) where
       mutual
         pub values_both : (e : PlainExpr) (s : State) → Both s (value_of w first e s) (value_of v second e s)
@@ -151,6 +151,9 @@ module _ (program : PlainProgram) (table : PlainTable) (left right : Inputs) (le
               second = port_effect_grows v least op _ i x u;
             }))
         nodes_both ty mode (group acquire g) s = alike (group_effect_grows w least acquire g _ s) (group_effect_grows v least acquire g _ s)
+        nodes_both ty mode (bind d choice) s = alike (bind_effect_grows w least d choice s) (bind_effect_grows v least d choice s)
+        nodes_both ty mode (dynamic_group acquire d) s =
+            alike (dynamic_effect_grows w least acquire d s) (dynamic_effect_grows v least acquire d s)
 
         pub places_both : (p : PlainPlace) (s : State) → Both s (place_of w first p s) (place_of v second p s)
         places_both (object o) s = alike (object_place_grows w least _ s) (object_place_grows v least _ s)

@@ -9,7 +9,10 @@ use Rattle.std.proofs.lemmas.Option.{slice_get-map, slice_get_within, get_or_fro
 use Rattle.std.proofs.Math.Nat.{pow-suc}
 use Rattle.ec_fx.specs.declared.numbers.Mode.{Mode}
 use Rattle.ec_iohw.specs.declared.operations.IoOp.{IoOp}
+use Rattle.ec_iohw.specs.declared.table.Choice.{Choice}
+use Rattle.ec_iohw.specs.declared.table.Dynamic.{Dynamic}
 use Rattle.ec_iohw.specs.declared.table.IoTable.{IoTable}
+use Rattle.ec_iohw.specs.Valid.{IsDynamic}
 use Rattle.ec_iohw.specs.declared.table.Pair.{Pair}
 use Rattle.ec_iohw.specs.declared.table.Port.{Port}
 use Rattle.ec_iohw.specs.Valid.{IsPort}
@@ -21,6 +24,7 @@ use Rattle.ec_core.specs.declared.programs.LeafInit.TheVariants.{Number as TheNu
 use Rattle.ec_core.specs.declared.values.ObjectPointer.{ObjectPointer}
 use Rattle.ec_core.specs.declared.values.Undefined.{Undefined}
 use Rattle.ec_core.specs.declared.values.Undefined.TheVariants.{ClosedPort, BufferIndex, NoResult, Invalid}
+use Rattle.ec_core.specs.declared.values.Undefined.TheVariants.{UnboundGroup}
 use Rattle.ec_core.specs.declared.values.Value.{Value}
 use Rattle.ec_core.specs.declared.values.Value.TheVariants.{Number, Pointer}
 use Rattle.ec_core.specs.Accesses.{pointer_to, referent_of, operand_of, member_offset, begun, all_ended, frame_ended, leaf_count}
@@ -34,7 +38,7 @@ use Rattle.ec_core.specs.Meaning.{setting, run, initial_value, initial_object, i
 use Rattle.ec_core.specs.Operators.{truth_result, unary_result, binary_result, conversion_result, compound_result, step_operator}
 use Rattle.ec_core.specs.Plain.{PlainType, void, integer, fixed, pointer, array, struct, PlainExpr, expression, PlainNode, number, null}
 use Rattle.ec_core.specs.Plain.{load, address_of, unary, binary, convert, assign, compound, step, logical_not, logical_and, logical_or}
-use Rattle.ec_core.specs.Plain.{conditional, comma, call, io, group, PlainPlace, object, deref, member, OptionPlainExpr, no_expr, an_expr}
+use Rattle.ec_core.specs.Plain.{conditional, comma, call, io, group, bind, dynamic_group, PlainPlace, object, deref, member, OptionPlainExpr, no_expr, an_expr}
 use Rattle.ec_core.specs.Plain.{PlainExprs, last_expr, next_expr, PlainStmt, statement, PlainKind, empty, evaluate, block, declare, branch}
 use Rattle.ec_core.specs.Plain.{while_loop, do_loop, for_loop, break_loop, continue_loop, return_value, OptionPlainStmt, no_stmt, a_stmt}
 use Rattle.ec_core.specs.Plain.{PlainStmts, last_stmt, next_stmt, PlainStorage, static, local, param, register, PlainObject, PlainFunction}
@@ -42,8 +46,12 @@ use Rattle.ec_core.specs.Plain.{PlainProgram}
 use Rattle.ec_core.specs.Pointers.{Pointer as PointerValue, moved}
 use Rattle.ec_core.specs.PortAccesses.{next_byte, byte_read, bytes_read, number_read, bytes_written, no_value as void_value, port_accessed}
 use Rattle.ec_core.specs.PortAccesses.{is_open, within, opened, port_effect, pairs_written, pairs_of, group_effect}
+use Rattle.ec_core.specs.PortAccesses.{bound, bound_port, standing_port, accessed, bind_effect, choice_effect}
+use Rattle.ec_core.specs.PortAccesses.{dynamic_effect}
 use Rattle.ec_core.specs.PortOperations.{PortAction, reads, writes, updates, port_operation}
 use Rattle.ec_core.specs.PortTable.{PlainPort, PlainGroup, plain_port, plain_group, plain_table}
+use Rattle.ec_core.specs.State.{chosen}
+use Rattle.ec_core.specs.PortTable.{PlainDynamic, plain_dynamic, choices_of}
 use Rattle.ec_core.specs.State.{Inputs, Setting, ObjectState, State, worked, Outcome, got, given}
 use Rattle.ec_core.specs.Statements.{Exit, at_end, by_break, by_continue, by_return, in_order, again, tested, turns, declared}
 use Rattle.ec_core.specs.Statements.{declared_first, ending, test_of, evaluated, returned, going_on, initialising, effect_of, kind_effect}
@@ -336,10 +344,55 @@ module _ (program : PlainProgram) (invalid : Type 0) (io_table : IoTable) (valid
   group_sound acquire g None s c h = let e : None ≡ Some c.0 = c.1 in cc
   group_sound acquire g (Some x) s c h = sound program invalid void_value _ tt (pairs_typed (pairs_of acquire x) s h)
 
+  bind_sound : (d choice : ℕ) (s : State) → IsTypedState program s
+      → IsSound program invalid (HasType program void) (bind_effect d choice s)
+  bind_sound d choice s h = sound program invalid void_value _ tt h
+
   group_at : (g : ℕ) → g < length io_table.groups.items → (y : PlainGroup) × (slice_get (map plain_group io_table.groups.items) g ≡ Some y)
   group_at g l =
       let x = item_at io_table.groups.items g l in
       (plain_group x.0, slice_get-map plain_group io_table.groups.items g ∙ ap (option_map plain_group) x.1)
+
+  -- the group of a choice is in the table
+  choice_within : (d k : ℕ) (c : Choice) → slice_get (choices_of (plain_table io_table) d) k ≡ Some c
+      → c.group < length io_table.groups.items
+  choice_within d k c e = by_dynamic (slice_get io_table.dynamics.items d) refl
+    where
+      by_dynamic : (x : Option Dynamic) → slice_get io_table.dynamics.items d ≡ x → c.group < length io_table.groups.items
+      by_dynamic None q =
+          let none : choices_of (plain_table io_table) d ≡ [] =
+          ap (λ (z : Option PlainDynamic). unwrap_or (option_map (λ x. x.choices) z) [])
+          (slice_get-map plain_dynamic io_table.dynamics.items d ∙ ap (option_map plain_dynamic) q) in
+          let no : None ≡ Some c = sym (ap (λ (z : List Choice). slice_get z k) none) ∙ e in
+          cc
+      by_dynamic (Some x) q =
+          let some : choices_of (plain_table io_table) d ≡ x.choices.items =
+          ap (λ (z : Option PlainDynamic). unwrap_or (option_map (λ x. x.choices) z) [])
+          (slice_get-map plain_dynamic io_table.dynamics.items d ∙ ap (option_map plain_dynamic) q) in
+          let at : slice_get x.choices.items k ≡ Some c = sym (ap (λ (z : List Choice). slice_get z k) some) ∙ e in
+          let is : IsDynamic (length io_table.groups.items) x =
+          subst (IsDynamic (length io_table.groups.items)) (get_or_from_slice_get io_table.dynamics.items d x x q)
+          (valid.ports.each_dynamic d x (slice_get_within io_table.dynamics.items d x q)) in
+          subst (λ (z : Choice). z.group < length io_table.groups.items) (get_or_from_slice_get x.choices.items k c c at)
+          (is.within k c (slice_get_within x.choices.items k c at))
+
+  choice_sound : (acquire : Bool) (c : Option Choice) (s : State)
+      → ((x : Choice) → c ≡ Some x → x.group < length io_table.groups.items) → IsTypedState program s
+      → IsSound program invalid (HasType program void) (choice_effect acquire (plain_table io_table) c s)
+  choice_sound acquire None s f h = no_value program invalid UnboundGroup s tt
+  choice_sound acquire (Some c) s f h = group_sound acquire c.group _ s (group_at c.group (f c refl)) h
+
+  dynamic_sound : (acquire : Bool) (d : ℕ) (s : State) → IsTypedState program s
+      → IsSound program invalid (HasType program void) (dynamic_effect acquire (plain_table io_table) d s)
+  dynamic_sound acquire d s h = choice_sound acquire (bound (plain_table io_table) d s) s by_choice h
+    where
+      by_choice : (x : Choice) → bound (plain_table io_table) d s ≡ Some x → x.group < length io_table.groups.items
+      by_choice x e = at (chosen d s) e
+        where
+          at : (k : Option ℕ) → option_and_then (λ n. slice_get (choices_of (plain_table io_table) d) n) k ≡ Some x
+              → x.group < length io_table.groups.items
+          at None q = let no : None ≡ Some x = q in cc
+          at (Some n) q = choice_within d n x q
 
   -- a number of so many bytes is one of the type of the operation's values
   port_number : (long : Bool) (width m : ℕ) → ((width ≡ 1) ⊎ ((width ≡ 2) ⊎ (width ≡ 4))) → (width ≡ 4 → IsTrue long) → m < 256 ^ width
@@ -384,21 +437,35 @@ module _ (program : PlainProgram) (invalid : Type 0) (io_table : IoTable) (valid
   opened_sound true op port i v s c l h = within_sound (nat_lt i port.count) op port i v s c l h
   opened_sound false op port i v s c l h = no_value program invalid ClosedPort s tt
 
-  port_at : (n : ℕ) (p : Port) → slice_get io_table.ports.items n ≡ Some p → IsPort (length io_table.groups.items) p
-  port_at n p e = subst (IsPort (length io_table.groups.items)) (get_or_from_slice_get io_table.ports.items n p p e)
+  port_at : (n : ℕ) (p : Port) → slice_get io_table.ports.items n ≡ Some p → IsPort (length io_table.groups.items) io_table.dynamics.items p
+  port_at n p e = subst (IsPort (length io_table.groups.items) io_table.dynamics.items) (get_or_from_slice_get io_table.ports.items n p p e)
       (valid.ports.each n p (slice_get_within io_table.ports.items n p e))
+
+  accessed_port_sound : (op : IoOp) (port : PlainPort) (dynamic : Option ℕ) (i v : ℕ) (s : State)
+      → ((port.width ≡ 1) ⊎ ((port.width ≡ 2) ⊎ (port.width ≡ 4)))
+      → (port.width ≡ 4 → IsTrue (port_operation op).long) → IsTypedState program s → IsSound program invalid
+      (HasType program (port_result (port_operation op).action (port_value (port_operation op))))
+      (accessed inputs op (standing_port (plain_table io_table) port dynamic s) i v s)
+  accessed_port_sound op port None i v s c l h = opened_sound (is_open port.group s) op port i v s c l h
+  accessed_port_sound op port (Some d) i v s c l h = by_choice (bound (plain_table io_table) d s)
+    where
+      by_choice : (x : Option Choice) → IsSound program invalid
+          (HasType program (port_result (port_operation op).action (port_value (port_operation op))))
+          (accessed inputs op (option_map (bound_port port) x) i v s)
+      by_choice None = no_value program invalid UnboundGroup s tt
+      by_choice (Some x) = opened_sound (is_open (Some x.group) s) op (bound_port port x) i v s c l h
 
   port_sound : (op : IoOp) (n : ℕ) (i v : Value) (s : State)
       → IsSomeAnd (slice_get io_table.ports.items n) (λ p. (p.width ≡ 4) → IsTrue (port_operation op).long) → IsTypedState program s
       → IsSound program invalid (HasType program (port_result (port_operation op).action (port_value (port_operation op))))
-      (port_effect inputs op (slice_get (map plain_port io_table.ports.items) n) i v s)
+      (port_effect inputs (plain_table io_table) op (slice_get (map plain_port io_table.ports.items) n) i v s)
   port_sound op n i v s t h =
       let p = some_and (slice_get io_table.ports.items n) _ t in
       let e : slice_get (map plain_port io_table.ports.items) n ≡ Some (plain_port p.0) =
       slice_get-map plain_port io_table.ports.items n ∙ ap (option_map plain_port) p.1 in
       subst (λ (z : Option PlainPort). IsSound program invalid
-      (HasType program (port_result (port_operation op).action (port_value (port_operation op)))) (port_effect inputs op z i v s)) (sym e)
-      (opened_sound (is_open p.0.group s) op (plain_port p.0) _ _ s (port_at n p.0 p.1).width p.2 h)
+      (HasType program (port_result (port_operation op).action (port_value (port_operation op)))) (port_effect inputs (plain_table io_table) op z i v s)) (sym e)
+      (accessed_port_sound op (plain_port p.0) p.0.dynamic _ _ s (port_at n p.0 p.1).width p.2 h)
 
   -- ---- expressions
 
@@ -488,6 +555,9 @@ module _ (program : PlainProgram) (invalid : Type 0) (io_table : IoTable) (valid
           (λ i u q k. sound_next program invalid (options_sound value u v.1 o.1 k) (λ x r l m. port_sound op port i x r t.port m)))
       nodes_sound ty mode (group acquire g) s t v o h =
           as_type program invalid void ty (sym t.1) (group_sound acquire g _ s (group_at g t.0) h)
+      nodes_sound ty mode (bind d choice) s t v o h = as_type program invalid void ty (sym t.1) (bind_sound d choice s h)
+      nodes_sound ty mode (dynamic_group acquire d) s t v o h =
+          as_type program invalid void ty (sym t.1) (dynamic_sound acquire d s h)
 
       places_sound : (p : PlainPlace) (s : State) → ValidPlace program io_table f p
           → PlaceCalls May p → HasSome program invalid (place_type program p) → IsTypedState program s

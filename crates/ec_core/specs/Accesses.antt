@@ -99,7 +99,7 @@ abbrev pub frame_ended : PlainProgram → ℕ → State → State
 frame_ended program f s =
     record {
       objects = frame_ended_in f program.objects s.objects;
-      acquired = s.acquired;
+      groups = s.groups;
       events = s.events;
       work = s.work;
     }

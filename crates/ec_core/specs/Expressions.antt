@@ -12,10 +12,10 @@ use Rattle.ec_core.specs.Operators.{unary_result, binary_result, conversion_resu
 use Rattle.ec_core.specs.Operators.{step_operator}
 use Rattle.ec_core.specs.Plain.{PlainType, void, PlainExpr, expression, PlainNode, number, null, load, address_of}
 use Rattle.ec_core.specs.Plain.{unary, binary, convert, assign, compound, step, logical_not, logical_and, logical_or}
-use Rattle.ec_core.specs.Plain.{conditional, comma, call, io, group, PlainPlace, object, deref, member, OptionPlainExpr}
+use Rattle.ec_core.specs.Plain.{conditional, comma, call, io, group, bind, dynamic_group, PlainPlace, object, deref, member, OptionPlainExpr}
 use Rattle.ec_core.specs.Plain.{no_expr, an_expr, PlainExprs, last_expr, next_expr}
 use Rattle.ec_core.specs.Pointers.{Pointer as PointerValue, moved}
-use Rattle.ec_core.specs.PortAccesses.{no_value, port_effect, group_effect}
+use Rattle.ec_core.specs.PortAccesses.{no_value, port_effect, group_effect, bind_effect, dynamic_effect}
 use Rattle.ec_core.specs.State.{Setting, State, worked, Outcome, got, undefined, next, given, choose}
 use Rattle.ec_core.specs.Typing.{int, type_of_expr, place_type, place_space}
 use Rattle.ec_core.specs.Words.{node_words, member_words}
@@ -127,8 +127,10 @@ module _ (w : Setting) (calls : Calls) where
     -- index and operand before any byte of the port (TR 18037, 6.2)
     node_value ty mode (io op port index value) s =
         next (option_value index s) (λ i s1.
-        next (option_value value s1) (λ v s2. port_effect w.inputs op (slice_get w.table.ports port) i v s2))
+        next (option_value value s1) (λ v s2. port_effect w.inputs w.table op (slice_get w.table.ports port) i v s2))
     node_value ty mode (group acquire g) s = group_effect acquire g (slice_get w.table.groups g) s
+    node_value ty mode (bind d choice) s = bind_effect d choice s
+    node_value ty mode (dynamic_group acquire d) s = dynamic_effect acquire w.table d s
 
     -- the place of an object is that of its newest instance; a member is reached by pointer arithmetic (6.5.2.3)
     pub place_of : PlainPlace → State → Outcome PointerValue

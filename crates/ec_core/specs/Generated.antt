@@ -9,7 +9,7 @@ pub use Rattle.ec_core.specs.declared.expressions.Node.{Node, Number, Null, Load
 pub use Rattle.ec_core.specs.declared.expressions.Node.{Binary' as Binary, Convert' as Convert, Assign' as Assign}
 pub use Rattle.ec_core.specs.declared.expressions.Node.{Compound' as Compound, Step, Not' as Not, And' as And}
 pub use Rattle.ec_core.specs.declared.expressions.Node.{Or' as Or, Cond' as Cond, Comma' as Comma, Call' as Call}
-pub use Rattle.ec_core.specs.declared.expressions.Node.{Io' as Io, Group}
+pub use Rattle.ec_core.specs.declared.expressions.Node.{Io' as Io, Group, Bind, DynGroup}
 pub use Rattle.ec_core.specs.declared.expressions.Node.{Held-Node-Io-2 as OptionExpr, None' as NoExpr, Some' as AnExpr}
 pub use Rattle.ec_core.specs.declared.expressions.Node.{Row_of-Expr as ExprRow, end_of-Expr as LastExpr}
 pub use Rattle.ec_core.specs.declared.expressions.Node.{more_of-Expr as NextExpr, items-the_row-Expr as row_exprs}

@@ -14,7 +14,7 @@ use Rattle.ec_core.specs.Plain.{PlainProgram}
 use Rattle.ec_core.specs.PortAccesses.{next_byte, byte_read}
 use Rattle.ec_core.specs.PortTable.{PlainTable}
 use Rattle.ec_core.specs.State.{Inputs, Setting, Event, In, Out, Read, Write, told, reads_of, State, with_event, worked}
-use Rattle.ec_core.specs.State.{with_object, with_group, Outcome, more}
+use Rattle.ec_core.specs.State.{with_object, with_group, with_choice, Outcome, more}
 use Rattle.ec_core.specs.Statements.{effect_of, first_effect, calls_within}
 use Rattle.ec_core.specs.Valid.{IsAddressable}
 use Rattle.ec_core.specs.Words.{loop_words}
@@ -29,13 +29,14 @@ pub record IsMade (program : PlainProgram) (s : State) (a : Access) : Type 0 whe
   pub home : IsTrue (holds a.space a.declared.home)
 
 -- From one state to the next a run takes up work, reads the next byte of a port or writes one, acquires or releases a
--- group, reads or writes a leaf by an access that can be made, begins a new instance of an object, or ends one, or
+-- group, binds a dynamic group, reads or writes a leaf by an access that can be made, begins a new instance of an object, or ends one, or
 -- those of a function
 pub data Step (w : Setting) (s t : State) : Type 0 where
   takes_work : (words : ℕ) → t ≡ worked words s → Step w s t
   reads_port : (port : ℕ) → t ≡ byte_read w.inputs port s → Step w s t
   writes_port : (port byte : ℕ) → t ≡ with_event (Out port byte) s → Step w s t
   changes_group : (g : ℕ) (acquired : Bool) → t ≡ with_group g acquired s → Step w s t
+  binds_group : (d choice : ℕ) → t ≡ with_choice d choice s → Step w s t
   reads_leaf : (a : Access) (v : Value) → IsMade w.program s a → leaf_of a.state a.leaf ≡ Some v
       → t ≡ recorded a.declared.storage (Read a.object a.leaf a.space (told v)) s → Step w s t
   writes_leaf : (a : Access) (v : Value) → IsMade w.program s a → t ≡ stored a v s → Step w s t

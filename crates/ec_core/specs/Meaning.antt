@@ -7,7 +7,7 @@ use Rattle.ec_core.specs.declared.values.Undefined.{Undefined}
 use Rattle.ec_core.specs.declared.values.Undefined.TheVariants.{ZeroDivisor, ShiftCount, FixedOverflow, WholePart}
 use Rattle.ec_core.specs.declared.values.Undefined.TheVariants.{Access, Unset, ConstWrite, Narrowing, Unrelated}
 use Rattle.ec_core.specs.declared.values.Undefined.TheVariants.{PointerUse, PointerRange, ClosedPort, BufferIndex}
-use Rattle.ec_core.specs.declared.values.Undefined.TheVariants.{NoResult, Invalid}
+use Rattle.ec_core.specs.declared.values.Undefined.TheVariants.{NoResult, UnboundGroup, Invalid}
 use Rattle.ec_core.specs.declared.values.Value.{Value}
 use Rattle.ec_core.specs.declared.values.Value.TheVariants.{Number, Pointer}
 use Rattle.ec_core.specs.Accesses.{leaf_count}
@@ -37,7 +37,7 @@ initial_object leaves (register r) = record { serial = 0; live = true; leaves = 
 abbrev pub initial_state : PlainProgram → PlainTable → State
 initial_state program table = record {
   objects = map (λ o. initial_object (leaf_count program o.ty) o.storage) program.objects;
-  acquired = map (λ g. false) table.groups;
+  groups = record { acquired = map (λ g. false) table.groups; choices = map (λ d. None) table.dynamics };
   events = [];
   work = program_words;
 }
@@ -69,7 +69,8 @@ number_of_point PointerRange = 11
 number_of_point ClosedPort = 12
 number_of_point BufferIndex = 13
 number_of_point NoResult = 14
-number_of_point Invalid = 15
+number_of_point UnboundGroup = 15
+number_of_point Invalid = 16
 
 -- main gives an int
 abbrev pub number_of : Value → ℤ

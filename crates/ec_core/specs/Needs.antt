@@ -2,7 +2,7 @@
 use Rattle.std.specs.Prelude.{ℕ, ◌+◌, max, if◌then◌else◌, List, [], ◌∷◌, Option, Some, None}
 use Rattle.ec_core.specs.Plain.{PlainExpr, expression, PlainNode, number, null, load, address_of, unary, binary}
 use Rattle.ec_core.specs.Plain.{convert, assign, compound, step, logical_not, logical_and, logical_or, conditional}
-use Rattle.ec_core.specs.Plain.{comma, call, io, group, PlainPlace, object, deref, member, OptionPlainExpr, no_expr}
+use Rattle.ec_core.specs.Plain.{comma, call, io, group, bind, dynamic_group, PlainPlace, object, deref, member, OptionPlainExpr, no_expr}
 use Rattle.ec_core.specs.Plain.{an_expr, PlainExprs, last_expr, next_expr, PlainStmt, statement, PlainKind, empty}
 use Rattle.ec_core.specs.Plain.{evaluate, block, declare, branch, while_loop, do_loop, for_loop, break_loop}
 use Rattle.ec_core.specs.Plain.{continue_loop, return_value, OptionPlainStmt, no_stmt, a_stmt, PlainStmts, last_stmt}
@@ -47,6 +47,9 @@ abbrev mutual
   operand_needs (io op port index value) =
       option_needs index (option_needs value (if is_update (port_operation op).action then 1 ∷ [] else []))
   operand_needs (group acquire g) = []
+  operand_needs (bind d choice) = []
+  -- what the group is bound to, and a base that it is compared with
+  operand_needs (dynamic_group acquire d) = 1 ∷ 1 ∷ []
 
   -- the needs of a place, before those of what follows
   pub place_needs : PlainPlace → List ℕ → List ℕ
@@ -122,6 +125,8 @@ abbrev mutual
   node_calls (call f args) rest = f ∷ exprs_calls args rest
   node_calls (io op port index value) rest = option_calls index (option_calls value rest)
   node_calls (group acquire g) rest = rest
+  node_calls (bind d choice) rest = rest
+  node_calls (dynamic_group acquire d) rest = rest
 
   pub place_calls : PlainPlace → List ℕ → List ℕ
   place_calls (object o) rest = rest

@@ -18,7 +18,7 @@ use Rattle.ec_core.specs.declared.types.Member.{Member}
 use Rattle.ec_core.specs.declared.types.StructDef.{StructDef}
 use Rattle.ec_core.specs.Generated.{CType, Void, Int, Fx, Ptr, Array, Struct, Expr, PlaceExpr, Object, Deref, MemberOf}
 use Rattle.ec_core.specs.Generated.{Node, Number, Null, Load, AddressOf, Unary, Binary, Convert, Assign, Compound, Step}
-use Rattle.ec_core.specs.Generated.{Not, And, Or, Cond, Comma, Call, Io, Group, OptionExpr, NoExpr, AnExpr, ExprRow}
+use Rattle.ec_core.specs.Generated.{Not, And, Or, Cond, Comma, Call, Io, Group, Bind, DynGroup, OptionExpr, NoExpr, AnExpr, ExprRow}
 use Rattle.ec_core.specs.Generated.{LastExpr, NextExpr, Stmt, StmtKind, Empty, Do1, Block, Local, If, While, DoWhile}
 use Rattle.ec_core.specs.Generated.{For, Break, Continue, Return, OptionStmt, NoStmt, AStmt, StmtRow, LastStmt}
 use Rattle.ec_core.specs.Generated.{NextStmt}
@@ -80,6 +80,8 @@ mutual
     call : (function : ℕ) → PlainExprs → PlainNode
     io : IoOp → (port : ℕ) (index : OptionPlainExpr) (value : OptionPlainExpr) → PlainNode
     group : (acquire : Bool) (index : ℕ) → PlainNode
+    bind : (dynamic choice : ℕ) → PlainNode
+    dynamic_group : (acquire : Bool) (dynamic : ℕ) → PlainNode
 
   pub data PlainPlace : Type 0 where
     object : (index : ℕ) → PlainPlace
@@ -121,6 +123,8 @@ abbrev mutual
   plain_node (Call f shape args) = call f (plain_expr_row args)
   plain_node (Io op port index value) = io op port (plain_option_expr index) (plain_option_expr value)
   plain_node (Group acquire g) = group acquire g
+  plain_node (Bind d c) = bind d c
+  plain_node (DynGroup acquire d) = dynamic_group acquire d
 
   pub plain_place : PlaceExpr → PlainPlace
   plain_place (Object o) = object o

@@ -1,6 +1,6 @@
 -- What a run has at each moment, and what comes of a part of it.
 use Rattle.std.specs.Prelude.{ℕ, zero, suc, ◌+◌, ◌==◌, if◌then◌else◌, Bool, true, false, List, [], ◌∷◌, ◌++◌, Option}
-use Rattle.std.specs.Prelude.{Some, None, Result, Ok, Err}
+use Rattle.std.specs.Prelude.{Some, None, unwrap_or, slice_get, Result, Ok, Err}
 use Rattle.ec_space.specs.declared.space.SpaceId.{SpaceId}
 use Rattle.ec_core.specs.declared.programs.LeafInit.{LeafInit}
 use Rattle.ec_core.specs.declared.programs.LeafInit.TheVariants.{Number as TheNumber, Null as TheNull, Address}
@@ -54,20 +54,24 @@ pub record ObjectState : Type 0 where
   pub live : Bool
   pub leaves : List (Option Value)
 
--- the objects in the program's order, which groups of ports are acquired, the events so far, and the work so far in
--- words
+-- which groups of ports are acquired, and for each dynamic group its choice, or none
+pub record GroupStates : Type 0 where
+  pub acquired : List Bool
+  pub choices : List (Option ℕ)
+
+-- the objects in the program's order, the groups of ports, the events so far, and the work so far in words
 pub record State : Type 0 where
   pub objects : List ObjectState
-  pub acquired : List Bool
+  pub groups : GroupStates
   pub events : List Event
   pub work : ℕ
 
 abbrev pub with_event : Event → State → State
-with_event e s = record { objects = s.objects; acquired = s.acquired; events = s.events ++ e ∷ []; work = s.work }
+with_event e s = record { objects = s.objects; groups = s.groups; events = s.events ++ e ∷ []; work = s.work }
 
 -- so many words more of work
 abbrev pub worked : ℕ → State → State
-worked words s = record { objects = s.objects; acquired = s.acquired; events = s.events; work = s.work + words }
+worked words s = record { objects = s.objects; groups = s.groups; events = s.events; work = s.work + words }
 
 -- a list with its item at a place changed
 abbrev pub changed_at : {A : Type 0} → ℕ → (A → A) → List A → List A
@@ -77,16 +81,36 @@ changed_at (suc n) f (x ∷ xs) = x ∷ changed_at n f xs
 
 abbrev pub with_object : ℕ → (ObjectState → ObjectState) → State → State
 with_object o f s =
-    record { objects = changed_at o f s.objects; acquired = s.acquired; events = s.events; work = s.work }
+    record { objects = changed_at o f s.objects; groups = s.groups; events = s.events; work = s.work }
 
 abbrev pub with_group : ℕ → Bool → State → State
 with_group g acquired s =
     record {
       objects = s.objects;
-      acquired = changed_at g (λ was. acquired) s.acquired;
+      groups = record {
+        acquired = changed_at g (λ was. acquired) s.groups.acquired;
+        choices = s.groups.choices;
+      };
       events = s.events;
       work = s.work;
     }
+
+-- a dynamic group gets a choice
+abbrev pub with_choice : (dynamic choice : ℕ) → State → State
+with_choice d choice s =
+    record {
+      objects = s.objects;
+      groups = record {
+        acquired = s.groups.acquired;
+        choices = changed_at d (λ was. Some choice) s.groups.choices;
+      };
+      events = s.events;
+      work = s.work;
+    }
+
+-- the choice of a dynamic group, if it is bound
+abbrev pub chosen : (dynamic : ℕ) → State → Option ℕ
+chosen d s = unwrap_or (slice_get s.groups.choices d) None
 
 -- ---- outcomes
 

@@ -19,7 +19,7 @@ use Rattle.ec_core.specs.Layout.{IsScalar}
 use Rattle.ec_core.specs.Plain.{PlainType, void, integer, fixed, pointer, array, struct, PlainStruct, PlainObject}
 use Rattle.ec_core.specs.Plain.{PlainExpr, expression, PlainNode, number, null, load, address_of, unary, binary}
 use Rattle.ec_core.specs.Plain.{convert, assign, compound, step, logical_not, logical_and, logical_or, conditional}
-use Rattle.ec_core.specs.Plain.{comma, call, io, group, PlainPlace, object, deref, member, OptionPlainExpr, no_expr}
+use Rattle.ec_core.specs.Plain.{comma, call, io, group, bind, dynamic_group, PlainPlace, object, deref, member, OptionPlainExpr, no_expr}
 use Rattle.ec_core.specs.Plain.{an_expr, PlainExprs, last_expr, next_expr, PlainProgram}
 use Rattle.ec_core.specs.PortOperations.{PortAction, reads, writes, updates, PortOperation, port_operation, takes_value}
 
@@ -314,3 +314,6 @@ IsTyped p table ty (call f args) =
     IsSomeAnd (slice_get p.functions f) (λ g. (ty ≡ g.returns) × AreArguments p g.params args)
 IsTyped p table ty (io op port index value) = IsPortOperation table ty (port_operation op) port index value
 IsTyped p table ty (group acquire g) = (g < length table.groups.items) × (ty ≡ void)
+IsTyped p table ty (bind d choice) =
+    IsSomeAnd (slice_get table.dynamics.items d) (λ x. choice < length x.choices.items) × (ty ≡ void)
+IsTyped p table ty (dynamic_group acquire d) = (d < length table.dynamics.items) × (ty ≡ void)

@@ -17,6 +17,7 @@ use Rattle.ec_core.specs.Needs.{stmt_need, stmt_calls}
 use Rattle.ec_core.specs.Plain.{PlainType, void, integer, fixed, pointer, array, struct, PlainExpr, expression}
 use Rattle.ec_core.specs.Plain.{PlainNode, number, null, load, address_of, unary, binary, convert, assign, compound}
 use Rattle.ec_core.specs.Plain.{step, logical_not, logical_and, logical_or, conditional, comma, call, io, group}
+use Rattle.ec_core.specs.Plain.{bind, dynamic_group}
 use Rattle.ec_core.specs.Plain.{PlainPlace, object, deref, member, OptionPlainExpr, no_expr, an_expr, PlainExprs}
 use Rattle.ec_core.specs.Plain.{last_expr, next_expr, PlainStmt, statement, PlainKind, empty, evaluate, block, declare}
 use Rattle.ec_core.specs.Plain.{branch, while_loop, do_loop, for_loop, break_loop, continue_loop, return_value}
@@ -145,6 +146,8 @@ module _ (p : PlainProgram) (table : IoTable) (f : ℕ) where
     ValidParts (call g args) = ValidExprs args
     ValidParts (io op port index value) = ValidOption index × ValidOption value
     ValidParts (group acquire g) = ⊤
+    ValidParts (bind d choice) = ⊤
+    ValidParts (dynamic_group acquire d) = ⊤
 
     pub ValidPlace : PlainPlace → Type 0
     ValidPlace (object o) = IsSomeAnd (slice_get p.objects o) (λ x. IsNamedIn f x.storage)

@@ -5,7 +5,7 @@ use Rattle.ec_space.specs.declared.space.Home.{Home}
 use Rattle.ec_space.specs.declared.space.Home.TheVariants.{Data, Flash, Far}
 use Rattle.ec_core.specs.Plain.{PlainExpr, expression, PlainNode, number, null, load, address_of, unary, binary}
 use Rattle.ec_core.specs.Plain.{convert, assign, compound, step, logical_not, logical_and, logical_or, conditional}
-use Rattle.ec_core.specs.Plain.{comma, call, io, group, PlainPlace, object, deref, member, OptionPlainExpr, no_expr}
+use Rattle.ec_core.specs.Plain.{comma, call, io, group, bind, dynamic_group, PlainPlace, object, deref, member, OptionPlainExpr, no_expr}
 use Rattle.ec_core.specs.Plain.{an_expr, PlainExprs, last_expr, next_expr, PlainStmt, statement, PlainKind, empty}
 use Rattle.ec_core.specs.Plain.{evaluate, block, declare, branch, while_loop, do_loop, for_loop, break_loop}
 use Rattle.ec_core.specs.Plain.{continue_loop, return_value, OptionPlainStmt, no_stmt, a_stmt, PlainStmts, last_stmt}
@@ -42,6 +42,8 @@ module _ (table : PlainTable) where
     parts_weight (call f args) = exprs_weight args
     parts_weight (io op port index value) = option_weight index + option_weight value
     parts_weight (group acquire g) = 0
+    parts_weight (bind d choice) = 0
+    parts_weight (dynamic_group acquire d) = 0
 
     pub place_weight : PlainPlace → ℕ
     place_weight (object o) = 0

@@ -1,14 +1,16 @@
 -- The work of a program's parts in words (our own profile): a bound on the code of each part, and with the number of
 -- times that a run comes to it, on the steps of the run.
-use Rattle.std.specs.Prelude.{ℕ, ◌+◌, ◌*◌, max, List, [], ◌∷◌, length, Option, Some, None, option_map, unwrap_or}
+use Rattle.std.specs.Prelude.{ℕ, ◌+◌, ◌*◌, max, Bool, List, [], ◌∷◌, length, Option, Some, None, option_map, unwrap_or}
 use Rattle.std.specs.Prelude.{slice_get}
+use Rattle.ec_iohw.specs.declared.table.Choice.{Choice}
 use Rattle.ec_core.specs.Layout.{scalar_size}
 use Rattle.ec_core.specs.Plain.{PlainType, PlainExpr, PlainNode, number, null, load, address_of, unary, binary, convert}
 use Rattle.ec_core.specs.Plain.{assign, compound, step, logical_not, logical_and, logical_or, conditional, comma, call}
-use Rattle.ec_core.specs.Plain.{io, group, PlainPlace, object, deref, member, PlainExprs, last_expr, next_expr}
+use Rattle.ec_core.specs.Plain.{io, group, bind, dynamic_group, PlainPlace, object, deref, member, PlainExprs}
+use Rattle.ec_core.specs.Plain.{last_expr, next_expr}
 use Rattle.ec_core.specs.PortAccesses.{pairs_of}
 use Rattle.ec_core.specs.PortOperations.{PortAction, reads, writes, updates, port_operation}
-use Rattle.ec_core.specs.PortTable.{PlainTable}
+use Rattle.ec_core.specs.PortTable.{PlainTable, choices_of}
 use Rattle.ec_core.specs.Typing.{type_of_expr}
 
 -- ---- sizes
@@ -74,6 +76,18 @@ port_words updates width = 160 + 80 * width
 abbrev pub group_words : ℕ → ℕ
 group_words pairs = 20 + 10 * pairs
 
+-- the bytes that an acquire or release of a group of the table writes
+abbrev pub pair_count : PlainTable → Bool → (group : ℕ) → ℕ
+pair_count table acquire g = unwrap_or (option_map (λ x. length (pairs_of acquire x)) (slice_get table.groups g)) 0
+
+abbrev pub bind_words : ℕ
+bind_words = 20
+
+-- an acquire or release of a dynamic group compares what it is bound to with each of its choices
+abbrev pub dynamic_words : PlainTable → Bool → List Choice → ℕ
+dynamic_words table acquire [] = 0
+dynamic_words table acquire (c ∷ cs) = 40 + 10 * pair_count table acquire c.group + dynamic_words table acquire cs
+
 -- ---- nodes: b is the greatest number of bytes of the types of a node, of its operands and of the pointers in its
 -- place
 
@@ -98,8 +112,9 @@ node_words table ty (comma a b) = 0
 node_words table ty (call f args) = 60 + 10 * (total_size args + scalar_size ty)
 node_words table ty (io op port index value) =
     port_words (port_operation op).action (unwrap_or (option_map (λ p. p.width) (slice_get table.ports port)) 0)
-node_words table ty (group acquire g) =
-    group_words (unwrap_or (option_map (λ x. length (pairs_of acquire x)) (slice_get table.groups g)) 0)
+node_words table ty (group acquire g) = group_words (pair_count table acquire g)
+node_words table ty (bind d choice) = bind_words
+node_words table ty (dynamic_group acquire d) = dynamic_words table acquire (choices_of table d)
 
 -- a return with a value or without one
 abbrev pub return_of : Option PlainExpr → ℕ

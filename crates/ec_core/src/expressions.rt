@@ -111,6 +111,16 @@ pub enum Node {
         acquire: bool,
         group: u16,
     },
+    /// `iogroup_map`: a dynamic group of the table is bound to one of its choices.
+    Bind {
+        dynamic: u16,
+        choice: u16,
+    },
+    /// `iogroup_acquire` or `iogroup_release` of the group of a dynamic group's choice.
+    DynGroup {
+        acquire: bool,
+        dynamic: u16,
+    },
 }
 
 /// A place: an object or a part of one. A subscript is a `Deref` of a sum.

@@ -31,12 +31,14 @@ pub enum Undefined {
     PointerUse,
     /// Pointer arithmetic that leaves the object, or starts from null.
     PointerRange,
-    /// An access of a port whose group is not acquired.
+    /// An access of a port whose group is not acquired, or whose dynamic group is bound to one that is not.
     ClosedPort,
     /// A buffer index not below the port's count.
     BufferIndex,
     /// The end of a function with a result, other than `main`.
     NoResult,
+    /// An access of a port of a dynamic group that is not bound, or an acquire or release of such a group.
+    UnboundGroup,
     /// What no valid program has: operands that do not suit their operator, a number without an object,
     /// port or function, an argument too few, calls nested deeper than there are functions.
     Invalid,

@@ -15,7 +15,7 @@ use Rattle.ec_core.specs.Meaning.{setting, initial_state, run, behaviour_of, sta
 use Rattle.ec_core.specs.Plain.{PlainType, void, integer, fixed, pointer, array, struct, PlainStorage, static, local}
 use Rattle.ec_core.specs.Plain.{param, register, PlainExpr, expression, PlainNode, number, null, load, address_of}
 use Rattle.ec_core.specs.Plain.{unary, binary, convert, assign, compound, step, logical_not, logical_and, logical_or}
-use Rattle.ec_core.specs.Plain.{conditional, comma, call, io, group, PlainPlace, object, deref, member}
+use Rattle.ec_core.specs.Plain.{conditional, comma, call, io, group, bind, dynamic_group, PlainPlace, object, deref, member}
 use Rattle.ec_core.specs.Plain.{OptionPlainExpr, no_expr, an_expr, PlainExprs, last_expr, next_expr, PlainStmt}
 use Rattle.ec_core.specs.Plain.{statement, PlainKind, empty, evaluate, block, declare, branch, while_loop, do_loop}
 use Rattle.ec_core.specs.Plain.{for_loop, break_loop, continue_loop, return_value, OptionPlainStmt, no_stmt, a_stmt}
@@ -29,7 +29,7 @@ use Rattle.ec_core.specs.Statements.{initialising, effect_of, kind_effect, optio
 use Rattle.ec_core.specs.Statements.{parameters_written, unreturned, call_result, call_of, calls_within}
 use Rattle.ec_core.specs.Typing.{int, type_of_expr}
 use Rattle.ec_core_accesses.specs.Ports.{AccessesPorts, ShowsPorts, RunsAccessPorts, SourcesAccessPorts}
-use Rattle.ec_core_accesses.proofs.Bytes.{all_added, OnPorts, Keeps, port_bytes, group_bytes}
+use Rattle.ec_core_accesses.proofs.Bytes.{all_added, OnPorts, Keeps, port_bytes, group_bytes, binding_bytes, dynamic_bytes}
 
 module _ (w : Setting) where
   -- ---- parts of outcomes
@@ -180,6 +180,8 @@ module _ (w : Setting) where
       nodes ty mode (io op port index value) s =
           onward (options index s) (λ i t. onward (options value t) (λ v u. port_bytes w port _ op i v u refl))
       nodes ty mode (group acquire g) s = group_bytes w acquire g _ s refl
+      nodes ty mode (bind d choice) s = binding_bytes w d choice s
+      nodes ty mode (dynamic_group acquire d) s = dynamic_bytes w acquire d s
 
       places : (p : PlainPlace) (s : State) → Keeps w s (place_of w calls p s)
       places (object o) s = object_place_kept _ s

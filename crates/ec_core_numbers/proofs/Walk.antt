@@ -5,6 +5,7 @@ use Rattle.std.specs.Prelude.{◌==◌, IsSomeAnd, slice_get, length}
 use Rattle.std.specs.List.{AllByRecursion}
 use Rattle.ec_fx.specs.declared.numbers.Mode.{Mode}
 use Rattle.ec_iohw.specs.declared.operations.IoOp.{IoOp}
+use Rattle.ec_iohw.specs.declared.table.Choice.{Choice}
 use Rattle.ec_iohw.specs.declared.table.IoTable.{IoTable}
 use Rattle.ec_iohw.specs.declared.table.Pair.{Pair}
 use Rattle.ec_core.specs.declared.values.Undefined.{Undefined}
@@ -18,14 +19,15 @@ use Rattle.ec_core.specs.Meaning.{setting, initial_state, run}
 use Rattle.ec_core.specs.Operators.{compound_result, truth_result, step_operator}
 use Rattle.ec_core.specs.Plain.{PlainType, void, integer, fixed, pointer, array, struct, PlainStorage, param, PlainExpr, expression}
 use Rattle.ec_core.specs.Plain.{PlainNode, number, null, load, address_of, unary, binary, convert, assign, compound, step, logical_not}
-use Rattle.ec_core.specs.Plain.{logical_and, logical_or, conditional, comma, call, io, group, PlainPlace, object, deref, member}
-use Rattle.ec_core.specs.Plain.{OptionPlainExpr, no_expr, an_expr, PlainExprs, last_expr, next_expr, PlainStmt, statement, PlainKind}
-use Rattle.ec_core.specs.Plain.{empty, evaluate, block, declare, branch, while_loop, do_loop, for_loop, break_loop, continue_loop}
-use Rattle.ec_core.specs.Plain.{return_value, OptionPlainStmt, no_stmt, a_stmt, PlainStmts, last_stmt, next_stmt, PlainObject}
-use Rattle.ec_core.specs.Plain.{PlainFunction, PlainProgram}
+use Rattle.ec_core.specs.Plain.{logical_and, logical_or, conditional, comma, call, io, group, bind, dynamic_group, PlainPlace, object}
+use Rattle.ec_core.specs.Plain.{deref, member, OptionPlainExpr, no_expr, an_expr, PlainExprs, last_expr, next_expr, PlainStmt, statement}
+use Rattle.ec_core.specs.Plain.{PlainKind, empty, evaluate, block, declare, branch, while_loop, do_loop, for_loop, break_loop}
+use Rattle.ec_core.specs.Plain.{continue_loop, return_value, OptionPlainStmt, no_stmt, a_stmt, PlainStmts, last_stmt, next_stmt}
+use Rattle.ec_core.specs.Plain.{PlainObject, PlainFunction, PlainProgram}
 use Rattle.ec_core.specs.Pointers.{Pointer as PointerValue}
 use Rattle.ec_core.specs.PortAccesses.{bytes_read, bytes_written, port_accessed, is_open, within, opened, port_effect, pairs_written}
-use Rattle.ec_core.specs.PortAccesses.{pairs_of, group_effect, byte_read}
+use Rattle.ec_core.specs.PortAccesses.{pairs_of, group_effect, byte_read, bound, standing_port, accessed as port_at}
+use Rattle.ec_core.specs.PortAccesses.{bind_effect, choice_effect}
 use Rattle.ec_core.specs.PortOperations.{PortAction, reads, writes, updates, port_operation}
 use Rattle.ec_core.specs.PortTable.{PlainPort, PlainGroup, plain_table}
 use Rattle.ec_core.specs.State.{Inputs, Setting, Event, Out, State, with_event, worked, Outcome, got, more, undefined, next, given}
@@ -89,9 +91,14 @@ module _ (program : PlainProgram) (table : IoTable) (inputs : Inputs) (valid : V
   opened_bytes port true op i v s = within_bytes port _ op i v s
   opened_bytes port false op i v s = still program (λ h. h)
 
-  port_bytes : (port : Option PlainPort) (op : IoOp) (i v : Value) (s : State) → Keeps program s (port_effect inputs op port i v s)
+  standing_bytes : (port : Option PlainPort) (op : IoOp) (i v : ℕ) (s : State) → Keeps program s (port_at inputs op port i v s)
+  standing_bytes None op i v s = still program (λ h. h)
+  standing_bytes (Some port) op i v s = opened_bytes port (is_open port.group s) op i v s
+
+  port_bytes : (port : Option PlainPort) (op : IoOp) (i v : Value) (s : State)
+      → Keeps program s (port_effect inputs (plain_table table) op port i v s)
   port_bytes None op i v s = still program (λ h. h)
-  port_bytes (Some port) op i v s = opened_bytes port (is_open port.group s) op _ _ s
+  port_bytes (Some port) op i v s = standing_bytes (standing_port (plain_table table) port port.dynamic s) op _ _ s
 
   written_pairs : (pairs : List Pair) (s : State) → Fine s → Fine (pairs_written pairs s)
   written_pairs [] s h = h
@@ -101,6 +108,13 @@ module _ (program : PlainProgram) (table : IoTable) (inputs : Inputs) (valid : V
   group_bytes : (acquire : Bool) (g : ℕ) (x : Option PlainGroup) (s : State) → Keeps program s (group_effect acquire g x s)
   group_bytes acquire g None s = still program (λ h. h)
   group_bytes acquire g (Some x) s = still program (written_pairs (pairs_of acquire x) s)
+
+  binding_bytes : (d choice : ℕ) (s : State) → Keeps program s (bind_effect d choice s)
+  binding_bytes d choice s = still program (λ h. h)
+
+  choice_bytes : (acquire : Bool) (c : Option Choice) (s : State) → Keeps program s (choice_effect acquire (plain_table table) c s)
+  choice_bytes acquire None s = still program (λ h. h)
+  choice_bytes acquire (Some c) s = group_bytes acquire c.group _ s
 
   -- ---- parts of expressions and statements
 
@@ -313,6 +327,8 @@ module _ (program : PlainProgram) (table : IoTable) (inputs : Inputs) (valid : V
           onward program {P = IsAny} (options_sound index s v.0 h) (options index s v.0 h)
           (λ i u a k. onward program {P = IsAny} (options_sound value u v.1 k) (options value u v.1 k) (λ y r b l. port_bytes _ op i y r))
       nodes ty mode (group acquire g) s x t v h q = group_bytes acquire g _ s
+      nodes ty mode (bind d choice) s x t v h q = binding_bytes d choice s
+      nodes ty mode (dynamic_group acquire d) s x t v h q = choice_bytes acquire (bound (plain_table table) d s) s
 
       places : (p : PlainPlace) (s : State) → ValidPlace program table f p → Typed s → Keeps program s (place_of w calls p s)
       places (object o) s v h = object_place_kept _ s

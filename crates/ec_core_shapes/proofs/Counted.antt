@@ -1,11 +1,11 @@
 -- The weight is the sum of the words of the parts.
 use Rattle.std.proofs.Common.{◌≡◌, ℕ, ◌+◌, ◌*◌, ◌≤◌, List, [], ◌∷◌, Option, Some, None, refl, arith}
 use Rattle.ec_fx.specs.declared.numbers.Mode.{Mode}
-use Rattle.ec_core.specs.Plain.{PlainType, PlainExpr, expression, PlainNode, number, null, load, address_of, unary, binary, convert}
-use Rattle.ec_core.specs.Plain.{assign, compound, step, logical_not, logical_and, logical_or, conditional, comma, call, io, group}
-use Rattle.ec_core.specs.Plain.{PlainPlace, object, deref, member, OptionPlainExpr, no_expr, an_expr, PlainExprs, last_expr, next_expr}
-use Rattle.ec_core.specs.Plain.{PlainStmt, statement, PlainKind, empty, evaluate, block, declare, branch, while_loop, do_loop, for_loop}
-use Rattle.ec_core.specs.Plain.{break_loop, continue_loop, return_value, OptionPlainStmt, no_stmt, a_stmt, PlainStmts, last_stmt}
+use Rattle.ec_core.specs.Plain.{PlainType, PlainExpr, expression, PlainNode, number, null, load, address_of, unary, binary, convert, assign}
+use Rattle.ec_core.specs.Plain.{compound, step, logical_not, logical_and, logical_or, conditional, comma, call, io, group, bind}
+use Rattle.ec_core.specs.Plain.{dynamic_group, PlainPlace, object, deref, member, OptionPlainExpr, no_expr, an_expr, PlainExprs, last_expr}
+use Rattle.ec_core.specs.Plain.{next_expr, PlainStmt, statement, PlainKind, empty, evaluate, block, declare, branch, while_loop, do_loop}
+use Rattle.ec_core.specs.Plain.{for_loop, break_loop, continue_loop, return_value, OptionPlainStmt, no_stmt, a_stmt, PlainStmts, last_stmt}
 use Rattle.ec_core.specs.Plain.{next_stmt, PlainFunction}
 use Rattle.ec_core.specs.PortTable.{PlainTable}
 use Rattle.ec_core.specs.Weight.{expr_weight, parts_weight, place_weight, option_weight, exprs_weight, optional_weight, leaves_weight}
@@ -44,6 +44,8 @@ module _ (table : PlainTable) where
   node_counts ty mode (call f args) = refl
   node_counts ty mode (io op port index value) = refl
   node_counts ty mode (group acquire g) = refl
+  node_counts ty mode (bind d choice) = refl
+  node_counts ty mode (dynamic_group acquire d) = refl
 
   mutual
     expr_counts : (e : PlainExpr) (rest : List Part) → words (expr_parts table e rest) ≡ expr_weight table e + words rest
@@ -78,6 +80,8 @@ module _ (table : PlainTable) where
     inner_counts (io op port index value) rest =
         let x = option_counts index (option_parts table value rest) in let y = option_counts value rest in omega (arith, x, y)
     inner_counts (group acquire g) rest = omega arith
+    inner_counts (bind d choice) rest = omega arith
+    inner_counts (dynamic_group acquire d) rest = omega arith
 
     place_counts : (p : PlainPlace) (rest : List Part) → words (place_parts table p rest) ≡ place_weight table p + words rest
     place_counts (object o) rest = omega arith

@@ -62,7 +62,7 @@ quotients n = record {
 }
 
 abbrev no_ports : PlainTable
-no_ports = record { ports = []; groups = [] }
+no_ports = record { ports = []; groups = []; dynamics = [] }
 
 -- sixteen quotients of one shape count as one and sixteen calls, and so do their conversions
 sixteen_quotients : weight (quotients 16) no_ports ≡ 34_900

@@ -3,11 +3,11 @@ use Rattle.std.specs.Prelude.{ℕ, List, [], ◌∷◌, Option, Some, None}
 use Rattle.ec_fx.specs.declared.numbers.Mode.{Mode}
 use Rattle.ec_core.specs.Plain.{PlainType, PlainExpr, expression, PlainNode, number, null, load, address_of, unary}
 use Rattle.ec_core.specs.Plain.{binary, convert, assign, compound, step, logical_not, logical_and, logical_or}
-use Rattle.ec_core.specs.Plain.{conditional, comma, call, io, group, PlainPlace, object, deref, member, OptionPlainExpr}
-use Rattle.ec_core.specs.Plain.{no_expr, an_expr, PlainExprs, last_expr, next_expr, PlainStmt, statement, PlainKind}
-use Rattle.ec_core.specs.Plain.{empty, evaluate, block, declare, branch, while_loop, do_loop, for_loop, break_loop}
-use Rattle.ec_core.specs.Plain.{continue_loop, return_value, OptionPlainStmt, no_stmt, a_stmt, PlainStmts, last_stmt}
-use Rattle.ec_core.specs.Plain.{next_stmt, PlainFunction}
+use Rattle.ec_core.specs.Plain.{conditional, comma, call, io, group, bind, dynamic_group, PlainPlace, object, deref}
+use Rattle.ec_core.specs.Plain.{member, OptionPlainExpr, no_expr, an_expr, PlainExprs, last_expr, next_expr, PlainStmt}
+use Rattle.ec_core.specs.Plain.{statement, PlainKind, empty, evaluate, block, declare, branch, while_loop, do_loop}
+use Rattle.ec_core.specs.Plain.{for_loop, break_loop, continue_loop, return_value, OptionPlainStmt, no_stmt, a_stmt}
+use Rattle.ec_core.specs.Plain.{PlainStmts, last_stmt, next_stmt, PlainFunction}
 use Rattle.ec_core.specs.PortTable.{PlainTable}
 use Rattle.ec_core.specs.Typing.{type_of_expr}
 use Rattle.ec_core.specs.Words.{widest, pointer_types, function_words, member_words, branch_words, loop_words}
@@ -54,6 +54,8 @@ module _ (table : PlainTable) where
     inner_parts (call f args) rest = exprs_parts args rest
     inner_parts (io op port index value) rest = option_parts index (option_parts value rest)
     inner_parts (group acquire g) rest = rest
+    inner_parts (bind d choice) rest = rest
+    inner_parts (dynamic_group acquire d) rest = rest
 
     pub place_parts : PlainPlace → List Part → List Part
     place_parts (object o) rest = rest

@@ -4,6 +4,7 @@ use Rattle.std.proofs.Common.{refl, sym, subst, ap, ◌∙◌, arith}
 use Rattle.std.specs.Prelude.{⊤, if◌then◌else◌, slice_get, nat_lt}
 use Rattle.std.specs.List.{AllByRecursion}
 use Rattle.ec_iohw.specs.declared.operations.IoOp.{IoOp}
+use Rattle.ec_iohw.specs.declared.table.Choice.{Choice}
 use Rattle.ec_iohw.specs.declared.table.Pair.{Pair}
 use Rattle.ec_space.specs.declared.space.SpaceId.{SpaceId}
 use Rattle.ec_space.specs.Spaces.{holds}
@@ -17,9 +18,10 @@ use Rattle.ec_core.specs.Accesses.{own_access, first_write, initialised}
 use Rattle.ec_core.specs.Plain.{PlainType, PlainObject, PlainProgram}
 use Rattle.ec_core.specs.Pointers.{Pointer as PointerValue}
 use Rattle.ec_core.specs.PortAccesses.{byte_read, bytes_read, bytes_written, port_accessed, is_open, within, opened, port_effect}
-use Rattle.ec_core.specs.PortAccesses.{pairs_written, pairs_of, group_effect}
+use Rattle.ec_core.specs.PortAccesses.{pairs_written, pairs_of, group_effect, standing_port, accessed, bound, bind_effect, choice_effect}
+use Rattle.ec_core.specs.PortAccesses.{dynamic_effect}
 use Rattle.ec_core.specs.PortOperations.{PortAction, reads, writes, updates, port_operation}
-use Rattle.ec_core.specs.PortTable.{PlainPort, PlainGroup}
+use Rattle.ec_core.specs.PortTable.{PlainPort, PlainGroup, PlainTable}
 use Rattle.ec_core.specs.State.{Inputs, Out, Read, told, ObjectState, State, with_event, with_object, got, undefined}
 use Rattle.ec_core.proofs.Growth.{some_if, some_then, some_map}
 use Rattle.ec_core_steps.proofs.Relation.{all_at, all_changed, all_replicate, IsValue, IsLeaf, IsObjectWell, IsWell}
@@ -216,10 +218,15 @@ module _ (p : PlainProgram) where
     opened_holds true op port i v s well = within_holds (nat_lt i port.count) op port i v s well
     opened_holds false op port i v s well = stops p _ s
 
-    pub port_holds : {K : ℕ → Type 0} (op : IoOp) (port : Option PlainPort) (i v : Value) (s : State) → IsWell p s
-        → Holds p IsVal 0 K s (port_effect inputs op port i v s)
-    port_holds op None i v s well = stops p _ s
-    port_holds op (Some port) i v s well = opened_holds (is_open port.group s) op port _ _ s well
+    standing_holds : {K : ℕ → Type 0} (op : IoOp) (port : Option PlainPort) (i v : ℕ) (s : State) → IsWell p s
+        → Holds p IsVal 0 K s (accessed inputs op port i v s)
+    standing_holds op None i v s well = stops p _ s
+    standing_holds op (Some port) i v s well = opened_holds (is_open port.group s) op port i v s well
+
+    pub port_holds : {K : ℕ → Type 0} (table : PlainTable) (op : IoOp) (port : Option PlainPort) (i v : Value) (s : State) → IsWell p s
+        → Holds p IsVal 0 K s (port_effect inputs table op port i v s)
+    port_holds table op None i v s well = stops p _ s
+    port_holds table op (Some port) i v s well = standing_holds op (standing_port table port port.dynamic s) _ _ s well
 
   pairs_objects : (pairs : List Pair) (s : State) → (pairs_written pairs s).objects ≡ s.objects
   pairs_objects [] s = refl
@@ -236,3 +243,15 @@ module _ (p : PlainProgram) where
       let e = pairs_objects (pairs_of acquire x) s in
       let w = pairs_work (pairs_of acquire x) s in
       record { is = (tt, unchanged p e (omega (arith, w)) well) }
+
+  pub bind_holds : {K : ℕ → Type 0} (d choice : ℕ) (s : State) → IsWell p s → Holds p IsVal 0 K s (bind_effect d choice s)
+  bind_holds d choice s well = record { is = (tt, unchanged p refl (omega arith) well) }
+
+  module _ (table : PlainTable) (acquire : Bool) where
+    choice_holds : {K : ℕ → Type 0} (c : Option Choice) (s : State) → IsWell p s
+        → Holds p IsVal 0 K s (choice_effect acquire table c s)
+    choice_holds None s well = stops p _ s
+    choice_holds (Some c) s well = group_holds acquire c.group (slice_get table.groups c.group) s well
+
+    pub dynamic_holds : {K : ℕ → Type 0} (d : ℕ) (s : State) → IsWell p s → Holds p IsVal 0 K s (dynamic_effect acquire table d s)
+    dynamic_holds d s well = choice_holds (bound table d s) s well

@@ -1,23 +1,21 @@
 -- The costs of parts are their most work, where 64 bits hold it.
 use Rattle.std.proofs.Common.{◌≡◌, ◌≤◌, ◌<◌, ◌+◌, ◌-◌, ◌*◌, ◌^◌, ℕ, zero, suc, List, [], ◌∷◌, Option, Some, None, refl, sym, ◌∙◌, ap, arith, inl, inr}
-use Rattle.std.specs.Prelude.{max, nat_le, false, unwrap_or, slice_get, slice_index_or}
+use Rattle.std.specs.Prelude.{max, nat_le, false, unwrap_or, slice_get}
 use Rattle.std.proofs.lemmas.Bool.{cases_lt}
-use Rattle.ec_core.specs.Plain.{PlainExpr, expression, PlainNode, number, null, load, address_of, unary, binary}
-use Rattle.ec_core.specs.Plain.{convert, assign, compound, step, logical_not, logical_and, logical_or, conditional}
-use Rattle.ec_core.specs.Plain.{comma, call, io, group, PlainPlace, object, deref, member, OptionPlainExpr, no_expr}
-use Rattle.ec_core.specs.Plain.{an_expr, PlainExprs, last_expr, next_expr, PlainStmt, statement, PlainKind, empty}
-use Rattle.ec_core.specs.Plain.{evaluate, block, declare, branch, while_loop, do_loop, for_loop, break_loop}
-use Rattle.ec_core.specs.Plain.{continue_loop, return_value, OptionPlainStmt, no_stmt, a_stmt, PlainStmts, last_stmt}
-use Rattle.ec_core.specs.Plain.{next_stmt, PlainFunction, PlainProgram}
+use Rattle.ec_core.specs.Plain.{PlainExpr, expression, PlainNode, number, null, load, address_of, unary, binary, convert, assign, compound}
+use Rattle.ec_core.specs.Plain.{step, logical_not, logical_and, logical_or, conditional, comma, call, io, group, bind, dynamic_group}
+use Rattle.ec_core.specs.Plain.{PlainPlace, object, deref, member, OptionPlainExpr, no_expr, an_expr, PlainExprs, last_expr, next_expr}
+use Rattle.ec_core.specs.Plain.{PlainStmt, statement, PlainKind, empty, evaluate, block, declare, branch, while_loop, do_loop, for_loop}
+use Rattle.ec_core.specs.Plain.{break_loop, continue_loop, return_value, OptionPlainStmt, no_stmt, a_stmt, PlainStmts, last_stmt, next_stmt}
+use Rattle.ec_core.specs.Plain.{PlainFunction, PlainProgram}
 use Rattle.ec_core.specs.PortTable.{PlainTable}
 use Rattle.ec_core.specs.Words.{function_words, member_words, branch_words, loop_words, node_words, return_of, leaf_words}
 use Rattle.ec_core_steps.specs.Counted.{turns_of}
 use Rattle.ec_core_steps.specs.Costs.{capped, sum_of, times, call_cost, expr_cost, node_cost, place_cost, option_cost}
-use Rattle.ec_core_steps.specs.Costs.{exprs_cost, optional_cost, leaf_cost, leaves_cost, loop_cost, stmt_cost, kind_cost}
+use Rattle.ec_core_steps.specs.Costs.{exprs_cost, optional_cost, leaves_cost, loop_cost, stmt_cost, kind_cost}
 use Rattle.ec_core_steps.specs.Costs.{option_stmt_cost, stmts_cost, costs_from, costs_within, held}
 use Rattle.ec_core_steps.specs.Work.{expr_most, node_most, place_most, option_most, exprs_most, optional_most, leaves_most}
 use Rattle.ec_core_steps.specs.Work.{loop_most, stmt_most, kind_most, option_stmt_most, stmts_most, call_most, function_most}
-use Rattle.ec_core_steps.specs.Work.{max_work}
 
 -- ---- numbers
 
@@ -67,6 +65,8 @@ module _ (table : PlainTable) (costs : List ℕ) (most : ℕ → ℕ) (calls : (
     node_is (io op port index value) =
         sum_is _ _ (option_most table most index) (option_most table most value) (option_is index) (option_is value)
     node_is (group acquire g) = refl
+    node_is (bind d choice) = refl
+    node_is (dynamic_group acquire d) = refl
 
     place_is : (p : PlainPlace) → place_cost table costs p ≡ capped (place_most table most p)
     place_is (object o) = refl

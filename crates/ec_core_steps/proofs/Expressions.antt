@@ -16,10 +16,9 @@ use Rattle.ec_core.specs.Meaning.{setting}
 use Rattle.ec_core.specs.Needs.{expr_calls, node_calls, place_calls, option_calls, exprs_calls, stmt_calls}
 use Rattle.ec_core.specs.Operators.{truth_result, compound_result}
 use Rattle.ec_core.specs.Plain.{PlainType, PlainExpr, expression, PlainNode, number, null, load, address_of, unary, binary, convert, assign}
-use Rattle.ec_core.specs.Plain.{compound, step, logical_not, logical_and, logical_or, conditional, comma, call, io, group, PlainPlace}
-use Rattle.ec_core.specs.Plain.{object}
-use Rattle.ec_core.specs.Plain.{deref, member, OptionPlainExpr, no_expr, an_expr, PlainExprs, last_expr, next_expr, PlainStmt, PlainObject}
-use Rattle.ec_core.specs.Plain.{PlainProgram}
+use Rattle.ec_core.specs.Plain.{compound, step, logical_not, logical_and, logical_or, conditional, comma, call, io, group, bind as binding}
+use Rattle.ec_core.specs.Plain.{dynamic_group, PlainPlace, object, deref, member, OptionPlainExpr, no_expr, an_expr, PlainExprs, last_expr}
+use Rattle.ec_core.specs.Plain.{next_expr, PlainStmt, PlainObject, PlainProgram}
 use Rattle.ec_core.specs.Pointers.{Pointer as PointerValue}
 use Rattle.ec_core.specs.PortAccesses.{no_value}
 use Rattle.ec_core.specs.PortTable.{plain_table}
@@ -34,7 +33,7 @@ use Rattle.ec_core_steps.specs.Work.{expr_most, node_most, place_most, option_mo
 use Rattle.ec_core_steps.proofs.Relation.{or_left, or_right, true_false, IsFree, Free, IsPointer, IsValue, IsWell, Holds, bind, here, stops}
 use Rattle.ec_core_steps.proofs.Relation.{began, of_result, choosing, OnOk}
 use Rattle.ec_core_steps.proofs.Values.{OnObject, moved_in, unary_ok, binary_ok, conversion_ok, compound_ok}
-use Rattle.ec_core_steps.proofs.Accesses.{IsVal, IsApart, read_holds, write_holds, port_holds, group_holds}
+use Rattle.ec_core_steps.proofs.Accesses.{IsVal, IsApart, read_holds, write_holds, port_holds, group_holds, bind_holds, dynamic_holds}
 use Rattle.ec_core_steps.proofs.Tails.{expr_tail, place_tail, option_tail}
 
 abbrev pub IsAny : {X : Type 0} → X → State → Type 0
@@ -230,8 +229,10 @@ module _ (p : PlainProgram) (table : IoTable) (inputs : Inputs) where
             bind p _ _ (option_holds K out index s (option_calls value rest) v.0 (λ t o k. or_left _ _ (u t o k)) c well)
             (λ i t h d. bind p {m = option_most (plain_table table) most value} _ _
             (option_holds K out value t rest v.1 (λ t o k. or_right _ _ (u t o k)) (option_tail May index _ c) d.well)
-            (λ x r g d2. port_holds p inputs op _ i x r d2.well) (omega arith)) (omega arith)
+            (λ x r g d2. port_holds p inputs (plain_table table) op _ i x r d2.well) (omega arith)) (omega arith)
         node_holds K out ty mode (group acquire g) s rest v u c well = group_holds p acquire g _ s well
+        node_holds K out ty mode (binding d choice) s rest v u c well = bind_holds p d choice s well
+        node_holds K out ty mode (dynamic_group acquire d) s rest v u c well = dynamic_holds p (plain_table table) acquire d s well
 
         place_holds : (K : ℕ → Type 0) (out : (o : ℕ) → K o → Outer o) (q : PlainPlace) (s : State) (rest : List ℕ)
             → ValidPlace p table f q → Spared K (λ t o. place_touches t o q) → AllByRecursion May (place_calls q rest) → IsWell p s

@@ -4,10 +4,10 @@ use Rattle.std.specs.List.{AllByRecursion}
 use Rattle.ec_core.specs.Needs.{expr_calls, node_calls, place_calls, option_calls, exprs_calls, optional_calls, stmt_calls, kind_calls}
 use Rattle.ec_core.specs.Needs.{option_stmt_calls, stmts_calls}
 use Rattle.ec_core.specs.Plain.{PlainExpr, expression, PlainNode, number, null, load, address_of, unary, binary, convert, assign, compound}
-use Rattle.ec_core.specs.Plain.{step, logical_not, logical_and, logical_or, conditional, comma, call, io, group, PlainPlace, object, deref}
-use Rattle.ec_core.specs.Plain.{member, OptionPlainExpr, no_expr, an_expr, PlainExprs, last_expr, next_expr, PlainStmt, statement}
-use Rattle.ec_core.specs.Plain.{PlainKind, empty, evaluate, block, declare, branch, while_loop, do_loop, for_loop, break_loop}
-use Rattle.ec_core.specs.Plain.{continue_loop, return_value, OptionPlainStmt, no_stmt, a_stmt, PlainStmts, last_stmt, next_stmt}
+use Rattle.ec_core.specs.Plain.{step, logical_not, logical_and, logical_or, conditional, comma, call, io, group, bind, dynamic_group}
+use Rattle.ec_core.specs.Plain.{PlainPlace, object, deref, member, OptionPlainExpr, no_expr, an_expr, PlainExprs, last_expr, next_expr}
+use Rattle.ec_core.specs.Plain.{PlainStmt, statement, PlainKind, empty, evaluate, block, declare, branch, while_loop, do_loop, for_loop}
+use Rattle.ec_core.specs.Plain.{break_loop, continue_loop, return_value, OptionPlainStmt, no_stmt, a_stmt, PlainStmts, last_stmt, next_stmt}
 
 module _ (May : ℕ → Type 0) where
   abbrev All : List ℕ → Type 0
@@ -36,6 +36,8 @@ module _ (May : ℕ → Type 0) where
     node_tail (call f args) rest h = row_tail args rest h.1
     node_tail (io op port index value) rest h = option_tail value rest (option_tail index _ h)
     node_tail (group acquire g) rest h = h
+    node_tail (bind d choice) rest h = h
+    node_tail (dynamic_group acquire d) rest h = h
 
     pub place_tail : (p : PlainPlace) (rest : List ℕ) → All (place_calls p rest) → All rest
     place_tail (object o) rest h = h

@@ -5,11 +5,11 @@ use Rattle.std.specs.Prelude.{slice_index_or}
 use Rattle.ec_core.specs.Layout.{scalar_size}
 use Rattle.ec_core.specs.Plain.{PlainExpr, expression, PlainNode, number, null, load, address_of, unary, binary}
 use Rattle.ec_core.specs.Plain.{convert, assign, compound, step, logical_not, logical_and, logical_or, conditional}
-use Rattle.ec_core.specs.Plain.{comma, call, io, group, PlainPlace, object, deref, member, OptionPlainExpr, no_expr}
-use Rattle.ec_core.specs.Plain.{an_expr, PlainExprs, last_expr, next_expr, PlainStmt, statement, PlainKind, empty}
-use Rattle.ec_core.specs.Plain.{evaluate, block, declare, branch, while_loop, do_loop, for_loop, break_loop}
-use Rattle.ec_core.specs.Plain.{continue_loop, return_value, OptionPlainStmt, no_stmt, a_stmt, PlainStmts, last_stmt}
-use Rattle.ec_core.specs.Plain.{next_stmt, PlainFunction, PlainProgram}
+use Rattle.ec_core.specs.Plain.{comma, call, io, group, bind, dynamic_group, PlainPlace, object, deref, member}
+use Rattle.ec_core.specs.Plain.{OptionPlainExpr, no_expr, an_expr, PlainExprs, last_expr, next_expr, PlainStmt}
+use Rattle.ec_core.specs.Plain.{statement, PlainKind, empty, evaluate, block, declare, branch, while_loop, do_loop}
+use Rattle.ec_core.specs.Plain.{for_loop, break_loop, continue_loop, return_value, OptionPlainStmt, no_stmt, a_stmt}
+use Rattle.ec_core.specs.Plain.{PlainStmts, last_stmt, next_stmt, PlainFunction, PlainProgram}
 use Rattle.ec_core.specs.PortTable.{PlainTable}
 use Rattle.ec_core.specs.Typing.{type_of_expr}
 use Rattle.ec_core.specs.Words.{function_words, member_words, branch_words, loop_words, jump_words}
@@ -72,6 +72,8 @@ module _ (table : PlainTable) (costs : List ℕ) where
     node_cost (call f args) = sum_of (exprs_cost args) (call_cost costs f)
     node_cost (io op port index value) = sum_of (option_cost index) (option_cost value)
     node_cost (group acquire g) = 0
+    node_cost (bind d choice) = 0
+    node_cost (dynamic_group acquire d) = 0
 
     pub place_cost : PlainPlace → ℕ
     place_cost (object o) = 0

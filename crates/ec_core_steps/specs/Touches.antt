@@ -3,11 +3,11 @@
 use Rattle.std.specs.Prelude.{ℕ, ◌==◌, Bool, true, false, ◌&&◌, ◌||◌, Option, Some, None}
 use Rattle.ec_core.specs.Plain.{PlainExpr, expression, PlainNode, number, null, load, address_of, unary, binary}
 use Rattle.ec_core.specs.Plain.{convert, assign, compound, step, logical_not, logical_and, logical_or, conditional}
-use Rattle.ec_core.specs.Plain.{comma, call, io, group, PlainPlace, object, deref, member, OptionPlainExpr, no_expr}
-use Rattle.ec_core.specs.Plain.{an_expr, PlainExprs, last_expr, next_expr, PlainStmt, statement, PlainKind, empty}
-use Rattle.ec_core.specs.Plain.{evaluate, block, declare, branch, while_loop, do_loop, for_loop, break_loop}
-use Rattle.ec_core.specs.Plain.{continue_loop, return_value, OptionPlainStmt, no_stmt, a_stmt, PlainStmts, last_stmt}
-use Rattle.ec_core.specs.Plain.{next_stmt}
+use Rattle.ec_core.specs.Plain.{comma, call, io, group, bind, dynamic_group, PlainPlace, object, deref, member}
+use Rattle.ec_core.specs.Plain.{OptionPlainExpr, no_expr, an_expr, PlainExprs, last_expr, next_expr, PlainStmt}
+use Rattle.ec_core.specs.Plain.{statement, PlainKind, empty, evaluate, block, declare, branch, while_loop, do_loop}
+use Rattle.ec_core.specs.Plain.{for_loop, break_loop, continue_loop, return_value, OptionPlainStmt, no_stmt, a_stmt}
+use Rattle.ec_core.specs.Plain.{PlainStmts, last_stmt, next_stmt}
 use Rattle.ec_core_steps.specs.declared.touches.Touch.{Touch}
 use Rattle.ec_core_steps.specs.declared.touches.Touch.TheVariants.{Address, Change}
 
@@ -50,6 +50,8 @@ module _ (t : Touch) (o : ℕ) where
     node_touches (call f args) = exprs_touch args
     node_touches (io op port index value) = option_touches index || option_touches value
     node_touches (group acquire g) = false
+    node_touches (bind d choice) = false
+    node_touches (dynamic_group acquire d) = false
 
     pub place_touches : PlainPlace → Bool
     place_touches (object q) = false

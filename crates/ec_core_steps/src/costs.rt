@@ -80,6 +80,8 @@ fn node_cost(rates: &Rates, node: &Node) -> u64
             option_cost(rates, index).saturating_add(option_cost(rates, value))
         }
         Node::Group { .. } => 0,
+        Node::Bind { .. } => 0,
+        Node::DynGroup { .. } => 0,
     }
 }
 

@@ -94,6 +94,8 @@ fn in_node(touch: Touch, object: u16, node: &Node) -> bool
             in_option(touch, object, index) || in_option(touch, object, value)
         }
         Node::Group { .. } => false,
+        Node::Bind { .. } => false,
+        Node::DynGroup { .. } => false,
     }
 }
 

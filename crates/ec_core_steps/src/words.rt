@@ -4,13 +4,14 @@ ghost use Rattle.ec_core.specs.Layout.{scalar_size};
 ghost use Rattle.ec_core.specs.Plain.{plain_type, plain_node, plain_place, plain_expr, plain_exprs};
 ghost use Rattle.ec_core.specs.PortAccesses.{pairs_of};
 ghost use Rattle.ec_core.specs.PortOperations.{port_operation};
-ghost use Rattle.ec_core.specs.PortTable.{plain_table, plain_port, plain_group};
+ghost use Rattle.ec_core.specs.PortTable.{plain_table, plain_port, plain_group, choices_of};
 ghost use Rattle.ec_core.specs.Words.{simple_words, operation_words, update_words, choice_words, return_words};
-ghost use Rattle.ec_core.specs.Words.{port_words, group_words, node_words, total_size, return_of, leaf_words};
+ghost use Rattle.ec_core.specs.Words.{port_words, group_words, dynamic_words, node_words, total_size};
+ghost use Rattle.ec_core.specs.Words.{return_of, leaf_words};
 ghost use Rattle.ec_core_steps.specs.Costs.{widest_from};
 
 use ec_core::{CType, Expr, Node, PlaceExpr};
-use ec_iohw::{IoOp, IoTable};
+use ec_iohw::{Choice, IoOp, IoTable, Pair, PortGroup};
 use ec_space::SpaceId;
 
 // ---- bytes of types
@@ -114,18 +115,43 @@ fn port_width(io: &IoTable, port: u16) -> u8
     }
 }
 
+fn pairs_of(group: &PortGroup, acquire: bool) -> &[Pair]
+    ensures { result.now ≡ pairs_of acquire (plain_group group.now) }
+{
+    if acquire {
+        group.acquire.as_slice()
+    } else {
+        group.release.as_slice()
+    }
+}
+
 fn pair_count(io: &IoTable, acquire: bool, group: u16) -> usize
-    ensures { result ≡ unwrap_or (option_map (λ x. length (pairs_of acquire x))
+    ensures value { result ≡ unwrap_or (option_map (λ x. length (pairs_of acquire x))
         (slice_get (map plain_group io.now.groups.items) group)) 0 }
+    ensures few { result < 2 ^ 62 }
 {
     match io.groups.as_slice().get(group as usize) {
-        Some(group) => {
-            if acquire {
-                group.acquire.len()
-            } else {
-                group.release.len()
-            }
-        }
+        Some(group) => pairs_of(group, acquire).len(),
+        None => 0,
+    }
+}
+
+/// The work of an acquire or release of a dynamic group with these choices.
+fn choices_words(io: &IoTable, acquire: bool, choices: &[Choice]) -> u128
+    ensures { result ≡ dynamic_words (plain_table io.now) acquire choices.now }
+{
+    let mut words = 0;
+    for choice in choices {
+        words += 40 + 10 * pair_count(io, acquire, choice.group) as u128;
+    }
+    words
+}
+
+fn dynamic_words(io: &IoTable, acquire: bool, dynamic: u16) -> u128
+    ensures { result ≡ dynamic_words (plain_table io.now) acquire (choices_of (plain_table io.now) dynamic) }
+{
+    match io.dynamics.as_slice().get(dynamic as usize) {
+        Some(dynamic) => choices_words(io, acquire, dynamic.choices.as_slice()),
         None => 0,
     }
 }
@@ -158,6 +184,8 @@ pub(crate) fn node_words(io: &IoTable, ty: &CType, node: &Node) -> u128
         Node::Call(_, args) => call_words(args.as_slice(), ty),
         Node::Io { op, port, .. } => port_words(*op, port_width(io, *port)),
         Node::Group { acquire, group } => 20 + 10 * pair_count(io, *acquire, *group) as u128,
+        Node::Bind { .. } => 20,
+        Node::DynGroup { acquire, dynamic } => dynamic_words(io, *acquire, *dynamic),
     }
 }
 

@@ -5,4 +5,4 @@ mod operations;
 mod table;
 
 pub use operations::IoOp;
-pub use table::{Designator, IoTable, Pair, Port, PortGroup};
+pub use table::{Choice, Designator, Dynamic, IoTable, Pair, Port, PortGroup};

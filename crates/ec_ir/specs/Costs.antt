@@ -11,7 +11,8 @@ use Rattle.ec_core.specs.Plain.{PlainType, integer}
 use Rattle.ec_core.specs.Words.{widest, simple_words, operation_words, member_words}
 use Rattle.ec_ir.specs.Operations.{PlainIr, constant, copy, address, field, load_at, store_at, load_object}
 use Rattle.ec_ir.specs.Operations.{store_object, binary_op, unary_op, conversion, label, jump, branch_zero}
-use Rattle.ec_ir.specs.Operations.{call_function, return_from, port_in, port_out, PlainIrFunction}
+use Rattle.ec_ir.specs.Operations.{call_function, return_from, port_in, port_out, load_cell, store_cell, cell_port}
+use Rattle.ec_ir.specs.Operations.{PlainIrFunction}
 use Rattle.ec_ir.specs.declared.operations.Temp.{Temp}
 
 -- ---- rows
@@ -60,6 +61,10 @@ abbrev pub index_words : Option Temp → ℕ
 index_words None = 0
 index_words (Some t) = 40
 
+-- the address of a port in Z, from a cell and maybe an index, and so many bytes read or written there
+abbrev pub cell_port_words : (width bytes : ℕ) → ℕ
+cell_port_words width bytes = 40 + 10 * width + 5 * bytes
+
 abbrev pub temp_bytes : Option Temp → ℕ
 temp_bytes None = 0
 temp_bytes (Some t) = t.bytes
@@ -85,6 +90,9 @@ op_words (call_function f to) = 60 + 5 * temp_bytes to
 op_words (return_from from) = 40 + 5 * temp_bytes from
 op_words (port_in to port index width) = index_words index + 10 * width + 5 * to.bytes
 op_words (port_out from port index width) = index_words index + 5 * width
+op_words (load_cell to cell) = copy_words to.bytes
+op_words (store_cell cell from) = copy_words from.bytes
+op_words (cell_port read t cell offset index width) = cell_port_words width t.bytes
 
 -- the steps that it takes at most
 abbrev pub op_steps : PlainIr → ℕ

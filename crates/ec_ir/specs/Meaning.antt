@@ -3,7 +3,7 @@
 -- while it is active: main is, and each function that was called and has not returned. All other objects live
 -- throughout. Where an operation fails, the run has no meaning.
 use Rattle.std.specs.Prelude.{ℕ, zero, suc, ◌+◌, ◌*◌, ◌==◌, nat_le, Bool, true, false, ◌&&◌, ◌||◌, if◌then◌else◌, ℤ, pos}
-use Rattle.std.specs.Prelude.{List, [], ◌∷◌, map}
+use Rattle.std.specs.Prelude.{List, [], ◌∷◌, map, replicate}
 use Rattle.std.specs.Prelude.{Option, Some, None, option_map, option_and_then, unwrap_or, slice_get}
 use Rattle.std.specs.List.{position_from}
 use Rattle.ec_runs.specs.Behaviours.{Behaviour}
@@ -11,6 +11,7 @@ use Rattle.ec_space.specs.declared.space.SpaceId.{SpaceId}
 use Rattle.ec_space.specs.Spaces.{holds}
 use Rattle.ec_core.specs.declared.values.Undefined.{Undefined}
 use Rattle.ec_core.specs.declared.values.Undefined.TheVariants.{Access as NoAccess, BufferIndex, ConstWrite, NoResult}
+use Rattle.ec_core.specs.declared.values.Undefined.TheVariants.{Unset}
 use Rattle.ec_core.specs.declared.values.Value.{Value}
 use Rattle.ec_core.specs.declared.values.Value.TheVariants.{Number, Pointer}
 use Rattle.ec_core.specs.Accesses.{referent_of, operand_of, leaf_count, Access, read, first_write, is_read_only}
@@ -21,12 +22,14 @@ use Rattle.ec_core.specs.Plain.{PlainType, void, PlainStorage, static, local, pa
 use Rattle.ec_core.specs.Plain.{PlainProgram}
 use Rattle.ec_core.specs.Pointers.{Pointer as PointerValue, moved}
 use Rattle.ec_core.specs.PortAccesses.{number_read, bytes_read, bytes_written}
-use Rattle.ec_core.specs.State.{Inputs, Event, ObjectState, State, worked, Outcome, got, more, undefined, next, given}
+use Rattle.ec_core.specs.State.{Inputs, Event, ObjectState, State, worked, with_choice, chosen, Outcome, got}
+use Rattle.ec_core.specs.State.{more, undefined, next, given}
 use Rattle.ec_core.specs.Typing.{int}
 use Rattle.ec_ir.specs.Costs.{op_steps}
 use Rattle.ec_ir.specs.Operations.{PlainIr, constant, copy, address, field, load_at, store_at, load_object}
 use Rattle.ec_ir.specs.Operations.{store_object, binary_op, unary_op, conversion, label, jump, branch_zero}
-use Rattle.ec_ir.specs.Operations.{call_function, return_from, port_in, port_out, PlainIrFunction, PlainIrProgram}
+use Rattle.ec_ir.specs.Operations.{call_function, return_from, port_in, port_out, load_cell, store_cell, cell_port}
+use Rattle.ec_ir.specs.Operations.{PlainIrFunction, PlainIrProgram}
 use Rattle.ec_ir.specs.Operations.{data_of}
 use Rattle.ec_ir.specs.Temporaries.{Content, bits, points, value_in, value_of_type, is_zero, Held, Temps, no_temps}
 use Rattle.ec_ir.specs.Temporaries.{with_held, with_content, with_temp, held}
@@ -92,7 +95,7 @@ kept_in fs (o ∷ os) (x ∷ xs) = (if is_kept fs o.storage then standing x else
 abbrev pub kept_for : PlainProgram → List ℕ → State → State
 kept_for program fs s = record {
   objects = kept_in fs program.objects s.objects;
-  acquired = s.acquired;
+  groups = s.groups;
   events = s.events;
   work = s.work;
 }
@@ -230,6 +233,18 @@ element_of_port port width None m = got port m.state
 element_of_port port width (Some t) m =
     next (held_number t m.temps m.state) (λ i s. got (port + i * width) s)
 
+-- the cell of a dynamic group, one byte, holds the base of its choice: that is what the state of operations has for the
+-- choice. A cell without a base holds nothing
+abbrev pub based : Option ℕ → State → Outcome ℕ
+based None s = undefined Unset s
+based (Some base) s = got base s
+
+-- the first address of a port, or of its element with an index, that is so far behind what a cell holds
+abbrev pub element_of_cell : (cell offset width : ℕ) → Option Temp → Mach → Outcome ℕ
+element_of_cell cell offset width index m =
+    next (based (chosen cell m.state) m.state)
+    (λ base s. element_of_port (base + offset) width index (machine m.temps s))
+
 -- so many bytes from an address on are port addresses
 abbrev pub in_ports : ℕ → ℕ → (State → Outcome Value) → State → Outcome Value
 in_ports port width go s = if nat_le (port + width) 256 then go s else undefined BufferIndex s
@@ -307,6 +322,21 @@ module _ (functions : List PlainIrFunction) (program : PlainProgram) (inputs : I
       (λ at s1. next (held_number from temps s1)
       (λ low s2. next (port_written at width low s2)
       (λ v s3. go (place code stack rest) (machine temps s3))))
+  perform (load_cell to cell) on go code stack rest temps s =
+      next (based (chosen cell s) s)
+      (λ base s1. go (place code stack rest) (machine (with_temp to (Number (pos base)) temps) s1))
+  perform (store_cell cell from) on go code stack rest temps s =
+      next (held_number from temps s)
+      (λ low s1. go (place code stack rest) (machine temps (with_choice cell low s1)))
+  perform (cell_port true to cell offset index width) on go code stack rest temps s =
+      next (element_of_cell cell offset width index (machine temps s))
+      (λ at s1. next (port_read inputs at width s1)
+      (λ v s2. go (place code stack rest) (machine (with_temp to v temps) s2)))
+  perform (cell_port false from cell offset index width) on go code stack rest temps s =
+      next (element_of_cell cell offset width index (machine temps s))
+      (λ at s1. next (held_number from temps s1)
+      (λ low s2. next (port_written at width low s2)
+      (λ v s3. go (place code stack rest) (machine temps s3))))
 
   -- at most n operations that count, from some operations of a function on
   abbrev pub exec_from : ℕ → List PlainIr → List Frame → List PlainIr → Mach → Outcome Value
@@ -325,7 +355,7 @@ module _ (functions : List PlainIrFunction) (program : PlainProgram) (inputs : I
 abbrev pub start_state : PlainProgram → State
 start_state program = record {
   objects = map (λ o. standing (initial_object (leaf_count program o.ty) o.storage)) program.objects;
-  acquired = [];
+  groups = record { acquired = []; choices = replicate 256 None };
   events = [];
   work = 0;
 }

@@ -1,5 +1,5 @@
 -- Intermediate programs as plain lists, without the pointers and the spare room of the types that hold them.
-use Rattle.std.specs.Prelude.{ℕ, ℤ, List, [], map, Option}
+use Rattle.std.specs.Prelude.{ℕ, ℤ, Bool, List, [], map, Option}
 use Rattle.ec_fx.specs.declared.numbers.Mode.{Mode}
 use Rattle.ec_space.specs.declared.space.SpaceId.{SpaceId}
 use Rattle.ec_core.specs.declared.expressions.BinOp.{BinOp}
@@ -9,7 +9,7 @@ use Rattle.ec_core.specs.Plain.{statement, empty, PlainFunction, PlainProgram}
 use Rattle.ec_ir.specs.declared.operations.Ir.{Ir}
 use Rattle.ec_ir.specs.declared.operations.Ir.TheVariants.{Const, Copy, Addr, Field, Load, Store, LoadObj, StoreObj}
 use Rattle.ec_ir.specs.declared.operations.Ir.TheVariants.{Bin, Un, Conv, Label, Jump, BranchZero, Call, Return, PortIn}
-use Rattle.ec_ir.specs.declared.operations.Ir.TheVariants.{PortOut}
+use Rattle.ec_ir.specs.declared.operations.Ir.TheVariants.{PortOut, LoadCell, StoreCell, CellPort}
 use Rattle.ec_ir.specs.declared.operations.IrFunc.{IrFunc}
 use Rattle.ec_ir.specs.declared.operations.IrProgram.{IrProgram}
 use Rattle.ec_ir.specs.declared.operations.Temp.{Temp}
@@ -35,6 +35,9 @@ pub data PlainIr : Type 0 where
   return_from : (from : Option Temp) → PlainIr
   port_in : (to : Temp) → (port : ℕ) (index : Option Temp) (width : ℕ) → PlainIr
   port_out : (from : Temp) → (port : ℕ) (index : Option Temp) (width : ℕ) → PlainIr
+  load_cell : (to : Temp) → (cell : ℕ) → PlainIr
+  store_cell : (cell : ℕ) → (from : Temp) → PlainIr
+  cell_port : (read : Bool) → (t : Temp) → (cell offset : ℕ) (index : Option Temp) (width : ℕ) → PlainIr
 
 abbrev pub plain_ir : Ir → PlainIr
 plain_ir (Const t n) = constant t n
@@ -55,6 +58,9 @@ plain_ir (Call f to) = call_function f to
 plain_ir (Return from) = return_from from
 plain_ir (PortIn to port index width) = port_in to port index width
 plain_ir (PortOut from port index width) = port_out from port index width
+plain_ir (LoadCell to cell) = load_cell to cell
+plain_ir (StoreCell cell from) = store_cell cell from
+plain_ir (CellPort read t cell offset index width) = cell_port read t cell offset index width
 
 -- ---- programs
 

@@ -14,9 +14,11 @@ use Rattle.ec_core.specs.Plain.{PlainType, PlainStorage, param, PlainObject, Pla
 use Rattle.ec_core.specs.Typing.{IsIntegerKind, IsPromoted, HaveUnaryTypes, HaveBinaryTypes, AreConvertible}
 use Rattle.ec_core.specs.Valid.{EachFrom, IsObject, ShareNoRegister, HaveOwnNames, IsNamedIn, IsAddressable}
 use Rattle.ec_core.specs.Valid.{IsExprType}
+use Rattle.ec_ir.specs.Costs.{is_bitwise}
 use Rattle.ec_ir.specs.Operations.{PlainIr, constant, copy, address, field, load_at, store_at, load_object}
 use Rattle.ec_ir.specs.Operations.{store_object, binary_op, unary_op, conversion, label, jump, branch_zero}
-use Rattle.ec_ir.specs.Operations.{call_function, return_from, port_in, port_out, PlainIrFunction, PlainIrProgram}
+use Rattle.ec_ir.specs.Operations.{call_function, return_from, port_in, port_out, load_cell, store_cell, cell_port}
+use Rattle.ec_ir.specs.Operations.{PlainIrFunction, PlainIrProgram}
 use Rattle.ec_ir.specs.Operations.{data_of}
 use Rattle.ec_ir.specs.declared.operations.Temp.{Temp}
 
@@ -48,9 +50,16 @@ pub record HaveCountTypes (op : BinOp) (ty a b : PlainType) : Type 0 where
   pub left : IsSomeAnd (arithmetic_of a) IsPromoted
   pub count : IsSomeAnd (arithmetic_of b) IsIntegerKind
 
+-- `&`, `|` and `^` may be of one integer type, promoted or not
+pub record HaveBitTypes (op : BinOp) (ty a b : PlainType) : Type 0 where
+  pub bitwise : IsTrue (is_bitwise op)
+  pub integer : IsSomeAnd (arithmetic_of ty) IsIntegerKind
+  pub left : ty ≡ a
+  pub right : ty ≡ b
+
 -- the types of the result and the operands of an operation
 abbrev pub HaveOperationTypes : BinOp → PlainType → PlainType → PlainType → Type 0
-HaveOperationTypes op ty a b = HaveBinaryTypes op ty a b ⊎ HaveCountTypes op ty a b
+HaveOperationTypes op ty a b = HaveBinaryTypes op ty a b ⊎ (HaveCountTypes op ty a b ⊎ HaveBitTypes op ty a b)
 
 -- ---- temporaries
 
@@ -88,6 +97,12 @@ pub record IsPortWidth (slots : ℕ) (t : Temp) (bytes : ℕ) : Type 0 where
   pub width : (bytes ≡ 1) ⊎ ((bytes ≡ 2) ⊎ (bytes ≡ 4))
   pub within : bytes ≤ t.bytes
 
+-- a cell among so many, and the temporary of one byte that it is read to or written from
+pub record IsCell (cells slots : ℕ) (cell : ℕ) (t : Temp) : Type 0 where
+  pub within : cell < cells
+  pub temp : IsTemp slots t
+  pub byte : t.bytes ≡ 1
+
 -- ---- objects
 
 -- a leaf of so many bytes begins at an offset in an object
@@ -117,7 +132,7 @@ abbrev pub Results : Type 0
 Results = ℕ → ℕ
 
 -- the operations of the function with number f, all of which are the list `code`
-module _ (p : PlainIrProgram) (results : Results) (f : ℕ) (slots : ℕ) (code : List PlainIr) where
+module _ (cells : ℕ) (p : PlainIrProgram) (results : Results) (f : ℕ) (slots : ℕ) (code : List PlainIr) where
   abbrev pub IsResult : ℕ → Option Temp → Type 0
   IsResult g None = ⊤
   IsResult g (Some t) = IsTemp slots t × (t.bytes ≡ results g)
@@ -155,12 +170,16 @@ module _ (p : PlainIrProgram) (results : Results) (f : ℕ) (slots : ℕ) (code 
   ValidOperation (return_from from) = IsResult f from
   ValidOperation (port_in to port index width) = IsPortWidth slots to width × IsIndex slots index
   ValidOperation (port_out from port index width) = IsPortWidth slots from width × IsIndex slots index
+  ValidOperation (load_cell to cell) = IsCell cells slots cell to
+  ValidOperation (store_cell cell from) = IsCell cells slots cell from
+  ValidOperation (cell_port read t cell offset index width) =
+      (cell < cells) × IsPortWidth slots t width × IsIndex slots index
 
 -- ---- programs
 
-pub record ValidIrFunction (p : PlainIrProgram) (results : Results) (f : ℕ) (g : PlainIrFunction) : Type 0 where
+pub record ValidIrFunction (cells : ℕ) (p : PlainIrProgram) (results : Results) (f : ℕ) (g : PlainIrFunction) : Type 0 where
   pub slots : g.slots ≤ 65_535
-  pub code : AllByRecursion (ValidOperation p results f g.slots g.code) g.code
+  pub code : AllByRecursion (ValidOperation cells p results f g.slots g.code) g.code
 
 -- the function f calls g, itself or through others
 pub data CallsTo (p : PlainIrProgram) (g : ℕ) : ℕ → Type 0 where
@@ -169,14 +188,15 @@ pub data CallsTo (p : PlainIrProgram) (g : ℕ) : ℕ → Type 0 where
   calls_through : (f h : ℕ) (function : PlainIrFunction) → slice_get p.functions f ≡ Some function
       → Contains (called_in function.code) h → CallsTo p g h → CallsTo p g f
 
-pub record ValidIr (p : PlainIrProgram) : Type 0 where
+-- a program with so many cells, one for each dynamic group of its table
+pub record ValidIr (cells : ℕ) (p : PlainIrProgram) : Type 0 where
   pub structs : AreStructs p.structs
   pub objects : AllByRecursion (IsObject (data_of p)) p.objects
   pub registers : AllPairs (ShareNoRegister (data_of p)) p.objects
   pub externals : AllPairs HaveOwnNames p.objects
   -- the bytes of the results of all functions, with which they return and are called
   pub results : Results
-  pub functions : EachFrom 0 (ValidIrFunction p results) p.functions
+  pub functions : EachFrom 0 (ValidIrFunction cells p results) p.functions
   pub main : p.main < length p.functions
   pub main_result : results p.main ≡ 2
   pub no_recursion : (f : ℕ) → ¬ CallsTo p f f

@@ -146,6 +146,8 @@ pub fn op_words(i: &Ir) -> u32
             ..
         } => index_words(*index) + 10 * *width as u32 + 5 * to.bytes as u32,
         Ir::PortOut { index, width, .. } => index_words(*index) + 5 * *width as u32,
+        Ir::LoadCell(t, _) | Ir::StoreCell(_, t) => 5 * t.bytes as u32,
+        Ir::CellPort { temp, width, .. } => 40 + 10 * *width as u32 + 5 * temp.bytes as u32,
     }
 }
 

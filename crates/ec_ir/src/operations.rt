@@ -92,6 +92,19 @@ pub enum Ir {
         index: Option<Temp>,
         width: u8,
     },
+    /// What a cell holds is read: the base to which a dynamic group is bound.
+    LoadCell(Temp, u8),
+    /// A cell gets what a temporary holds.
+    StoreCell(u8, Temp),
+    /// As `PortIn` where `read` holds, and else as `PortOut`, from an address that is `offset` behind what a cell holds.
+    CellPort {
+        read: bool,
+        temp: Temp,
+        cell: u8,
+        offset: u8,
+        index: Option<Temp>,
+        width: u8,
+    },
 }
 
 /// The operations of a function, and how many places its temporaries take.

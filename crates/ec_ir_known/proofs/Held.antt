@@ -12,16 +12,18 @@ use Rattle.ec_core.specs.Accesses.{referent_of, operand_of, read}
 use Rattle.ec_core.specs.Operators.{unary_result, binary_result, conversion_result}
 use Rattle.ec_core.specs.Plain.{PlainProgram}
 use Rattle.ec_core.specs.Pointers.{moved}
-use Rattle.ec_core.specs.State.{Inputs, State, worked, Outcome, got, more, undefined, next, given}
+use Rattle.ec_core.specs.State.{Inputs, State, worked, with_choice, chosen, Outcome, got, more, undefined, next, given}
 use Rattle.ec_ir.specs.declared.operations.Temp.{Temp}
 use Rattle.ec_ir.specs.Costs.{op_steps}
 use Rattle.ec_ir.specs.Meaning.{Mach, machine, held_as, held_pointer, held_number, object_access, pointer_access, put}
 use Rattle.ec_ir.specs.Meaning.{put_object, kept_for, active, Frame, Place, place, find, Go, jump_to, enter, returned}
-use Rattle.ec_ir.specs.Meaning.{resulted, leave, element_of_port, port_read, port_written, perform, exec_from, exec}
+use Rattle.ec_ir.specs.Meaning.{resulted, leave, element_of_port, element_of_cell, based, port_read, port_written, perform}
+use Rattle.ec_ir.specs.Meaning.{exec_from, exec}
 use Rattle.ec_ir.specs.Meaning.{pointer_at, start}
 use Rattle.ec_ir.specs.Operations.{PlainIr, constant, copy, address, field, load_at, store_at, load_object}
 use Rattle.ec_ir.specs.Operations.{store_object, binary_op, unary_op, conversion, label, jump, branch_zero}
-use Rattle.ec_ir.specs.Operations.{call_function, return_from, port_in, port_out, PlainIrFunction}
+use Rattle.ec_ir.specs.Operations.{call_function, return_from, port_in, port_out, load_cell, store_cell, cell_port}
+use Rattle.ec_ir.specs.Operations.{PlainIrFunction}
 use Rattle.ec_ir.specs.Operations.{data_of}
 use Rattle.ec_ir.specs.Temporaries.{Content, bits, low_bytes, Held, Temps, no_temps, content_of, value_of_type, is_zero, with_held}
 use Rattle.ec_ir.specs.Temporaries.{with_content, with_temp, read_held, held}
@@ -303,6 +305,27 @@ module _ (functions : List PlainIrFunction) (program : PlainProgram) (inputs : I
     perform_same (port_out from port index width) on to_on code stack rest temps s g h =
         let i = port_out from port index width in
         next_same (element_of_port port width index (machine temps s)) _ _
+        (λ at s1. next_same (held_number from temps s1) _ _
+        (λ low s2. next_same (port_written at width low s2) _ _
+        (λ v s3. goes_on on to_on code stack i rest temps g h temps s3 g.knows)))
+    perform_same (load_cell to cell) on to_on code stack rest temps s g h =
+        let i = load_cell to cell in
+        next_same (based (chosen cell s) s) _ _
+        (λ base s1. goes_on on to_on code stack i rest temps g h (with_temp to (Number (pos base)) temps) s1
+        (leaves on to_on code stack i rest temps g h to (Number (pos base))))
+    perform_same (store_cell cell from) on to_on code stack rest temps s g h =
+        let i = store_cell cell from in
+        next_same (held_number from temps s) _ _
+        (λ low s1. goes_on on to_on code stack i rest temps g h temps (with_choice cell low s1) g.knows)
+    perform_same (cell_port true to cell offset index width) on to_on code stack rest temps s g h =
+        let i = cell_port true to cell offset index width in
+        next_same (element_of_cell cell offset width index (machine temps s)) _ _
+        (λ at s1. next_same (port_read inputs at width s1) _ _
+        (λ v s2. goes_on on to_on code stack i rest temps g h (with_temp to v temps) s2
+        (leaves on to_on code stack i rest temps g h to v)))
+    perform_same (cell_port false from cell offset index width) on to_on code stack rest temps s g h =
+        let i = cell_port false from cell offset index width in
+        next_same (element_of_cell cell offset width index (machine temps s)) _ _
         (λ at s1. next_same (held_number from temps s1) _ _
         (λ low s2. next_same (port_written at width low s2) _ _
         (λ v s3. goes_on on to_on code stack i rest temps g h temps s3 g.knows)))

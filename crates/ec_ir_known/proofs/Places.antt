@@ -1,5 +1,5 @@
 -- Where operations are left of the code of a function, and what is known there.
-use Rattle.std.proofs.Common.{◌≡◌, ℕ, zero, suc, ◌+◌, ◌-◌, ◌<◌, ◌≤◌, Bool, true, false, List, []}
+use Rattle.std.proofs.Common.{◌≡◌, ℕ, zero, suc, ◌-◌, ◌<◌, ◌≤◌, Bool, true, false, List, []}
 use Rattle.std.proofs.Common.{◌∷◌, ◌++◌, Option, Some, ℤ, pos, negsuc, subst}
 use Rattle.std.proofs.Common.{None, refl, sym, ap, ◌∙◌, arith, length, take, drop, reverse}
 use Rattle.std.specs.Prelude.{◌==◌, if◌then◌else◌, nat_lt}
@@ -9,7 +9,7 @@ use Rattle.ec_ir.specs.declared.operations.Temp.{Temp}
 use Rattle.ec_ir.specs.Meaning.{find}
 use Rattle.ec_ir.specs.Operations.{PlainIr, constant, copy, address, field, load_at, store_at, load_object}
 use Rattle.ec_ir.specs.Operations.{store_object, binary_op, unary_op, conversion, label, jump, branch_zero}
-use Rattle.ec_ir.specs.Operations.{call_function, return_from, port_in, port_out}
+use Rattle.ec_ir.specs.Operations.{call_function, return_from, port_in, port_out, load_cell, store_cell, cell_port}
 use Rattle.ec_core.specs.declared.values.Value.{Value}
 use Rattle.ec_core.specs.declared.values.Value.TheVariants.{Number, Pointer}
 use Rattle.ec_ir.specs.Temporaries.{Content, bits, Held, Temps, low_bytes, content_of, with_content}
@@ -198,3 +198,7 @@ found l (return_from from ∷ code) rest e = found_later l (return_from from) co
 found l (port_in to port index width ∷ code) rest e = found_later l (port_in to port index width) code rest (found l code rest e)
 found l (port_out from port index width ∷ code) rest e =
     found_later l (port_out from port index width) code rest (found l code rest e)
+found l (load_cell to cell ∷ code) rest e = found_later l (load_cell to cell) code rest (found l code rest e)
+found l (store_cell cell from ∷ code) rest e = found_later l (store_cell cell from) code rest (found l code rest e)
+found l (cell_port read t cell offset index width ∷ code) rest e =
+    found_later l (cell_port read t cell offset index width) code rest (found l code rest e)

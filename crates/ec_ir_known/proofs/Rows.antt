@@ -8,7 +8,7 @@ use Rattle.ec_core.specs.Plain.{PlainType, void, integer, fixed, pointer, array,
 use Rattle.ec_ir.specs.declared.operations.Temp.{Temp}
 use Rattle.ec_ir.specs.Operations.{PlainIr, constant, copy, address, field, load_at, store_at, load_object}
 use Rattle.ec_ir.specs.Operations.{store_object, binary_op, unary_op, conversion, label, jump, branch_zero}
-use Rattle.ec_ir.specs.Operations.{call_function, return_from, port_in, port_out}
+use Rattle.ec_ir.specs.Operations.{call_function, return_from, port_in, port_out, load_cell, store_cell, cell_port}
 use Rattle.ec_ir_known.specs.declared.known.KnownNumber.{KnownNumber}
 use Rattle.ec_ir_known.specs.declared.known.RightNumber.{RightNumber}
 use Rattle.ec_ir_known.specs.Known.{Known, is_set, of_bytes, converted, operand_number, known_after, right_number, right_of}
@@ -79,6 +79,12 @@ after_same (return_from from) a b h place = h place
 after_same (port_in to port index width) a b h place =
     set_same (Some to) (byte_left to) (byte_left to) a b refl h place
 after_same (port_out from port index width) a b h place = h place
+after_same (load_cell to cell) a b h place =
+    set_same (Some to) (byte_left to) (byte_left to) a b refl h place
+after_same (store_cell cell from) a b h place = h place
+after_same (cell_port true to cell offset index width) a b h place =
+    set_same (Some to) (byte_left to) (byte_left to) a b refl h place
+after_same (cell_port false from cell offset index width) a b h place = h place
 
 right_same : (i : PlainIr) (a b : Known) → AreSame a b → right_number a i ≡ right_number b i
 right_same (binary_op op ty mode to c aty d bty) a b h =
@@ -101,6 +107,9 @@ right_same (call_function f to) a b h = refl
 right_same (return_from from) a b h = refl
 right_same (port_in to port index width) a b h = refl
 right_same (port_out from port index width) a b h = refl
+right_same (load_cell to cell) a b h = refl
+right_same (store_cell cell from) a b h = refl
+right_same (cell_port read t cell offset index width) a b h = refl
 
 pub numbers_same : (code : List PlainIr) (a b : Known) → AreSame a b → numbers_from a code ≡ numbers_from b code
 numbers_same [] a b h = refl

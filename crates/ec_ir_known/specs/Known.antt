@@ -11,7 +11,7 @@ use Rattle.ec_core.specs.Plain.{PlainType, integer}
 use Rattle.ec_ir.specs.declared.operations.Temp.{Temp}
 use Rattle.ec_ir.specs.Operations.{PlainIr, constant, copy, address, field, load_at, load_object}
 use Rattle.ec_ir.specs.Operations.{binary_op, unary_op, conversion, label}
-use Rattle.ec_ir.specs.Operations.{call_function, port_in}
+use Rattle.ec_ir.specs.Operations.{call_function, port_in, load_cell, cell_port}
 use Rattle.ec_ir_known.specs.declared.known.KnownNumber.{KnownNumber}
 use Rattle.ec_ir_known.specs.declared.known.RightNumber.{RightNumber}
 
@@ -37,6 +37,8 @@ result_of (unary_op op ty mode to a) = Some to
 result_of (conversion to ty mode a aty) = Some to
 result_of (call_function f to) = to
 result_of (port_in to port index width) = Some to
+result_of (load_cell to cell) = Some to
+result_of (cell_port true to cell offset index width) = Some to
 result_of i = None
 
 abbrev pub is_set : Option Temp → ℕ → Bool
@@ -117,6 +119,8 @@ number_left (load_object t o offset) known = byte_left t
 number_left (binary_op op ty mode to a aty b bty) known = byte_left to
 number_left (unary_op op ty mode to a) known = byte_left to
 number_left (port_in to port index width) known = byte_left to
+number_left (load_cell to cell) known = byte_left to
+number_left (cell_port true to cell offset index width) known = byte_left to
 number_left i known = None
 
 abbrev pub known_after : PlainIr → Known → Known

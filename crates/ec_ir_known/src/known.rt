@@ -174,7 +174,13 @@ fn result_of(i: &Ir) -> Option<Temp>
         | Ir::Bin { to, .. }
         | Ir::Un { to, .. }
         | Ir::Conv { to, .. }
-        | Ir::PortIn { to, .. } => Some(*to),
+        | Ir::PortIn { to, .. }
+        | Ir::LoadCell(to, _)
+        | Ir::CellPort {
+            read: true,
+            temp: to,
+            ..
+        } => Some(*to),
         Ir::Call(_, to) => *to,
         _ => None,
     }
@@ -258,7 +264,13 @@ impl KnownNumbers {
             | Ir::Load { to, .. }
             | Ir::Bin { to, .. }
             | Ir::Un { to, .. }
-            | Ir::PortIn { to, .. } => byte_left(*to),
+            | Ir::PortIn { to, .. }
+            | Ir::LoadCell(to, _)
+            | Ir::CellPort {
+                read: true,
+                temp: to,
+                ..
+            } => byte_left(*to),
             _ => None,
         }
     }
