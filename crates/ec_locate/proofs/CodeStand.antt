@@ -14,6 +14,7 @@ use Rattle.ec_asm.specs.declared.items.AsmItem.{AsmItem}
 use Rattle.ec_asm.specs.declared.items.AsmItem.TheVariants.{Plain, Label, JumpTo, CallTo, BranchTo, LoadPart, LoadObj, StoreObj}
 use Rattle.ec_map.specs.declared.map.Map.{Map}
 use Rattle.ec_map.specs.declared.region.Region.{Region}
+use Rattle.ec_locate.specs.Entries.{work_size}
 use Rattle.ec_locate.specs.Code.{label_word, resolved, has_words, overwritten}
 use Rattle.ec_locate.specs.Image.{with_objects, blank}
 use Rattle.ec_locate.specs.Needs.{told, shortage_of, or_else, first_shortage}
@@ -138,12 +139,12 @@ code-stands p m asm l kind table valid asm_valid located =
     let y = layout_by p m asm in
     let last = last_of m in
     let e = environment p m asm l kind table in
-    let room = (all_fit m (needs p (entries_by m p) asm.frames.items items) located.fits).code in
+    let room = (all_fit m (needs p m.io (entries_by m p) asm.frames.items items) located.fits).code in
     let short = code_is_short m valid in
     let ends = valid.regions_valid.code.ends in
     let small : code_words items ≤ 32767 = omega (arith, room, short) in
     let within : 2 * code_words items ≤ flash_size m.core = omega (arith, room, valid.regions_valid.start, ends) in
-    let sizes = sizes_of (object_sizes p) asm.frames.items 64 in
+    let sizes = sizes_of (object_sizes p) asm.frames.items (work_size m.io) in
     let words = all_have (is_valid_item sizes) has_words (valid_words sizes) items asm_valid.items in
     let placed : AsmItem → Bool = λ i. is_placed items (used_label i) in
     let objects = with_objects p.structs y 0 p.objects (blank m.core) in

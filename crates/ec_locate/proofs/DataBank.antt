@@ -22,7 +22,7 @@ use Rattle.ec_overlay.proofs.Objects.{ends_in_need}
 use Rattle.ec_locate.specs.declared.stop.RegionName.TheVariants as regions
 use Rattle.ec_locate.specs.Apart.{AreFree}
 use Rattle.ec_locate.specs.DataBank.{IsOwnedBy, IsLocalOf, CanBeLive}
-use Rattle.ec_locate.specs.Entries.{kept_by, data_size, data_sizes, frame_of, frame_size, owned_of, scratch_size, data_need}
+use Rattle.ec_locate.specs.Entries.{kept_by, data_size, data_sizes, frame_of, frame_size, owned_of, scratch_size, data_need, work_size}
 use Rattle.ec_locate.specs.Fixed.{blocks, name_where_met, region_of_bank}
 use Rattle.ec_locate.specs.Layout.{local_area, scratch_area, work_area, local_at}
 use Rattle.ec_locate.proofs.Objects.{is_object_at}
@@ -39,6 +39,9 @@ module _ (p : PlainProgram) (m : Map) (asm : AsmProgram) where
 
   abbrev pub rows : List (List ℕ)
   rows = rows_of_program p
+
+  abbrev pub work_bytes : ℕ
+  work_bytes = work_size m.io
 
   -- where each area of region `data` begins
   abbrev pub locals_from : ℕ
@@ -58,7 +61,7 @@ module _ (p : PlainProgram) (m : Map) (asm : AsmProgram) where
         → at ≡ local_at m rows (es p m) f n → Inside n at (size p m o)
     of_scratch : (n at f frame : ℕ) → n ≡ 1024 + f → slice_get frames f ≡ Some frame → f < length p.functions
         → at ≡ scratch_from + begin_of rows (scratch_size frames) f → Inside n at (frame_size frame)
-    last : (n at : ℕ) → n ≡ 1280 → at ≡ work_from → Inside n at 64
+    last : (n at : ℕ) → n ≡ 1280 → at ≡ work_from → Inside n at work_bytes
 
   -- or where the map puts it, or in registers
   pub data Standing : ℕ → ℕ → ℕ → Type 0 where
@@ -114,7 +117,7 @@ module _ (p : PlainProgram) (m : Map) (asm : AsmProgram) where
         let s = scratch_there f frame q in
         record { low = omega (arith, e); high = omega (arith, e, w, s) }
 
-    last_in : (at : ℕ) → at ≡ work_from → Within work_from (work_from + 64) at 64
+    last_in : (at : ℕ) → at ≡ work_from → Within work_from (work_from + work_bytes) at work_bytes
     last_in at e = record { low = omega (arith, e); high = omega (arith, e) }
 
     behind : (a b c d at s to t : ℕ) → b ≤ c → Within a b at s → Within c d to t → Clear at s to t
@@ -161,7 +164,7 @@ module _ (p : PlainProgram) (m : Map) (asm : AsmProgram) where
         behind m.vars.first locals_from scratch_from work_from at (size p m o) to (frame_size fr)
         (omega arith) (packed_in n at o q a e) (scratch_in to g fr r l u)
     inside_apart n k at to s t d live (packed _ _ o q a e) (last _ _ b u) =
-        behind m.vars.first locals_from work_from (work_from + 64) at (size p m o) to 64
+        behind m.vars.first locals_from work_from (work_from + work_bytes) at (size p m o) to work_bytes
         (omega arith) (packed_in n at o q a e) (last_in to u)
     inside_apart n k at to s t d live (of_frame _ _ g x r h l u) (packed _ _ o q a e) =
         turned to (size p m o) at (size p m x)
@@ -173,7 +176,7 @@ module _ (p : PlainProgram) (m : Map) (asm : AsmProgram) where
         behind locals_from scratch_from scratch_from work_from at (size p m o) to (frame_size fr)
         (omega arith) (frame_in n at f o q h l e) (scratch_in to g fr r j u)
     inside_apart n k at to s t d live (of_frame _ _ f o q h l e) (last _ _ b u) =
-        behind locals_from scratch_from work_from (work_from + 64) at (size p m o) to 64
+        behind locals_from scratch_from work_from (work_from + work_bytes) at (size p m o) to work_bytes
         (omega arith) (frame_in n at f o q h l e) (last_in to u)
     inside_apart n k at to s t d live (of_scratch _ _ g fr b r l u) (packed _ _ o q a e) =
         turned to (size p m o) at (frame_size fr)
@@ -186,25 +189,25 @@ module _ (p : PlainProgram) (m : Map) (asm : AsmProgram) where
     inside_apart n k at to s t d live (of_scratch _ _ f fr a q l e) (of_scratch _ _ g hr b r j u) =
         both_scratch n k at to f g fr hr d live a q l e b r j u
     inside_apart n k at to s t d live (of_scratch _ _ g fr b r j u) (last _ _ c e) =
-        behind scratch_from work_from work_from (work_from + 64) at (frame_size fr) to 64
+        behind scratch_from work_from work_from (work_from + work_bytes) at (frame_size fr) to work_bytes
         (omega arith) (scratch_in at g fr r j u) (last_in to e)
     inside_apart n k at to s t d live (last _ _ b u) (packed _ _ o q a e) =
-        turned to (size p m o) at 64
-        (behind m.vars.first locals_from work_from (work_from + 64) to (size p m o) at 64
+        turned to (size p m o) at work_bytes
+        (behind m.vars.first locals_from work_from (work_from + work_bytes) to (size p m o) at work_bytes
         (omega arith) (packed_in k to o q a e) (last_in at u))
     inside_apart n k at to s t d live (last _ _ b u) (of_frame _ _ f o q h l e) =
-        turned to (size p m o) at 64
-        (behind locals_from scratch_from work_from (work_from + 64) to (size p m o) at 64
+        turned to (size p m o) at work_bytes
+        (behind locals_from scratch_from work_from (work_from + work_bytes) to (size p m o) at work_bytes
         (omega arith) (frame_in k to f o q h l e) (last_in at u))
     inside_apart n k at to s t d live (last _ _ c e) (of_scratch _ _ g fr b r j u) =
-        turned to (frame_size fr) at 64
-        (behind scratch_from work_from work_from (work_from + 64) to (frame_size fr) at 64
+        turned to (frame_size fr) at work_bytes
+        (behind scratch_from work_from work_from (work_from + work_bytes) to (frame_size fr) at work_bytes
         (omega arith) (scratch_in to g fr r j u) (last_in at e))
     inside_apart n k at to s t d live (last _ _ b f) (last _ _ c e) = absurd (d (b ∙ sym c))
 
   module _ (valid : Valid p m.io) (map_valid : ValidMap m) (over : AreOverlaid rows (scratch_size frames))
       (locals : ObjectsAreOverlaid rows (map owned_of (es p m)))
-      (room : data_need 64 rows (es p m) frames ≤ m.vars.size) (free : AreFree m (blocks (es p m) p.objects m.places.items)) where
+      (room : data_need work_bytes rows (es p m) frames ≤ m.vars.size) (free : AreFree m (blocks (es p m) p.objects m.places.items)) where
     -- ---- each in its part of the memory
 
     pub record InVars (at size : ℕ) : Type 0 where
@@ -226,7 +229,7 @@ module _ (p : PlainProgram) (m : Map) (asm : AsmProgram) where
         (omega arith) (omega (arith, room)) (frame_in n at f o q h l e)
     in_vars n at _ (of_scratch _ _ f fr b q l e) =
         vars_of scratch_from work_from at (frame_size fr) (omega arith) (omega (arith, room)) (scratch_in over locals at f fr q l e)
-    in_vars n at _ (last _ _ b e) = vars_of work_from (work_from + 64) at 64 (omega arith) (omega (arith, room)) (last_in over locals at e)
+    in_vars n at _ (last _ _ b e) = vars_of work_from (work_from + work_bytes) at work_bytes (omega arith) (omega (arith, room)) (last_in over locals at e)
 
     pub record Outside (at size : ℕ) : Type 0 where
       pub from_there : 256 ≤ at

@@ -30,7 +30,7 @@ use Rattle.ec_locate.specs.Apart.{AreFree}
 use Rattle.ec_locate.specs.Code.{address_of, start_of}
 use Rattle.ec_locate.specs.DataBank.{IsOwnedBy, Names, an_object, scratch, work, IsInMemory, StandsIn, DataStands, DataStandsApart}
 use Rattle.ec_locate.specs.Entries.{fixed_place, is_static, data_sizes, flash_sizes, far_sizes, frame_size, owned_of}
-use Rattle.ec_locate.specs.Entries.{scratch_size, data_need}
+use Rattle.ec_locate.specs.Entries.{scratch_size, data_need, work_size}
 use Rattle.ec_locate.specs.Fixed.{blocks}
 use Rattle.ec_locate.specs.Layout.{LayoutView, place_by, local_at}
 use Rattle.ec_locate.specs.Placing.{IsLocated, layout_by, last_of, needs, scratch_needs}
@@ -70,8 +70,8 @@ module _ (laws : OverlayLaws) (p : PlainProgram) (m : Map) (asm : AsmProgram) (l
   locals : ObjectsAreOverlaid rows (map owned_of (es p m))
   locals = laws.objects rows (map owned_of (es p m)) never (λ i f o is own. kept_known p m valid i f o is own)
 
-  room : data_need 64 rows (es p m) asm.frames.items ≤ m.vars.size
-  room = (all_fit m (needs p (es p m) asm.frames.items asm.items.items) located.fits).vars
+  room : data_need (work_size m.io) rows (es p m) asm.frames.items ≤ m.vars.size
+  room = (all_fit m (needs p m.io (es p m) asm.frames.items asm.items.items) located.fits).vars
 
   free : AreFree m (blocks (es p m) p.objects m.places.items)
   free = places_free m 0 (blocks (es p m) p.objects m.places.items) located.free
@@ -139,7 +139,7 @@ module _ (laws : OverlayLaws) (p : PlainProgram) (m : Map) (asm : AsmProgram) (l
       let long : length (scratch_needs p) ≡ length p.functions = length-map p.functions _ in
       omega (arith, within, same, long)
 
-  standing : (n at s : ℕ) → Names p asm l n at s → Standing p m asm n at s
+  standing : (n at s : ℕ) → Names p m asm l n at s → Standing p m asm n at s
   standing n _ _ (an_object _ o q is home at) = object_standing n o q is home at
   standing _ at _ (scratch f fr _ q r) =
       let begin = begin_of rows (scratch_size asm.frames.items) in
@@ -147,7 +147,7 @@ module _ (laws : OverlayLaws) (p : PlainProgram) (m : Map) (asm : AsmProgram) (l
       let same = same_number (slice_get y.frames f) at (scratch_from p m asm + begin f)
       (subst (λ fs. slice_get fs f ≡ Some at) located.frames r) here in
       in_area (1024 + f) at (frame_size fr) (of_scratch (1024 + f) at f fr refl q (functions_there f fr q) same)
-  standing _ _ _ work = in_area 1280 l.work 64 (last 1280 l.work refl located.work)
+  standing _ _ _ work = in_area 1280 l.work (work_size m.io) (last 1280 l.work refl located.work)
 
   -- ---- in memory
 
@@ -217,7 +217,7 @@ module _ (laws : OverlayLaws) (p : PlainProgram) (m : Map) (asm : AsmProgram) (l
 
   -- ---- addresses
 
-  start_is : (n at s : ℕ) → Names p asm l n at s → start_of y (last_of m) n ≡ at
+  start_is : (n at s : ℕ) → Names p m asm l n at s → start_of y (last_of m) n ≡ at
   start_is n _ _ (an_object _ o q is home at) = object_start p m asm l valid located (last_of m) n o q is at
   start_is _ at _ (scratch f fr _ q r) =
       let within = slice_get_within asm.frames.items f fr q in
@@ -229,7 +229,7 @@ module _ (laws : OverlayLaws) (p : PlainProgram) (m : Map) (asm : AsmProgram) (l
       rw (low, high, back) there
   start_is _ _ _ work = sym located.work
 
-  address : (n at s i : ℕ) → Names p asm l n at s → i ≤ s → address_of y (last_of m) n i ≡ at + i
+  address : (n at s i : ℕ) → Names p m asm l n at s → i ≤ s → address_of y (last_of m) n i ≡ at + i
   address n at s i h small =
       let low = below n at s (standing n at s h) in
       let most = data_low m.core in
@@ -246,7 +246,7 @@ module _ (laws : OverlayLaws) (p : PlainProgram) (m : Map) (asm : AsmProgram) (l
         memory_unless (1024 + f) at (frame_size fr) s
         (λ o first is t. let less = few_objects p m.io valid (1024 + f) o is in absurd (omega (arith, less)));
     work =
-        memory_unless 1280 l.work 64 (standing 1280 l.work 64 work)
+        memory_unless 1280 l.work (work_size m.io) (standing 1280 l.work (work_size m.io) work)
         (λ o first is t. let less = few_objects p m.io valid 1280 o is in absurd (omega (arith, less)));
     address = address;
   }

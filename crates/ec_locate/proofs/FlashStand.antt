@@ -28,8 +28,8 @@ use Rattle.ec_locate.proofs.Spots.{values_in_flash, Spot, spot, spots_apart, Roo
 
 module _ (p : PlainProgram) (m : Map) (asm : AsmProgram) (l : Located) (valid : Valid p m.io) (map_valid : ValidMap m)
     (located : IsLocated p m asm l) where
-  fit : AllFit m (needs p (es p m) asm.frames.items asm.items.items)
-  fit = all_fit m (needs p (es p m) asm.frames.items asm.items.items) located.fits
+  fit : AllFit m (needs p m.io (es p m) asm.frames.items asm.items.items)
+  fit = all_fit m (needs p m.io (es p m) asm.frames.items asm.items.items) located.fits
 
   room : flash_sizes (es p m) + initial_sizes (es p m) ≤ m.tables.size
   room = fit.tables

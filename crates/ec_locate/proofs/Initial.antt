@@ -86,8 +86,8 @@ module _ (p : PlainProgram) (m : Map) (asm : AsmProgram) (l : Located) (laws : L
 
   -- ---- the spots
 
-  fit : AllFit m (needs p (entries_by m p) asm.frames.items asm.items.items)
-  fit = all_fit m (needs p (entries_by m p) asm.frames.items asm.items.items) located.fits
+  fit : AllFit m (needs p m.io (entries_by m p) asm.frames.items asm.items.items)
+  fit = all_fit m (needs p m.io (entries_by m p) asm.frames.items asm.items.items) located.fits
 
   room : flash_sizes (entries_by m p) + initial_sizes (entries_by m p) ≤ m.tables.size
   room = fit.tables

@@ -41,8 +41,8 @@ pub known_entries : (p : PlainProgram) (m : Map) → Valid p m.io → All (λ e.
 known_entries p m valid = all_below p m.places.items p.objects valid.objects
 
 fit : (p : PlainProgram) (m : Map) (asm : AsmProgram) → shortage p m asm ≡ None
-    → AllFit m (needs p (entries_by m p) asm.frames.items asm.items.items)
-fit p m asm fits = all_fit m (needs p (entries_by m p) asm.frames.items asm.items.items) fits
+    → AllFit m (needs p m.io (entries_by m p) asm.frames.items asm.items.items)
+fit p m asm fits = all_fit m (needs p m.io (entries_by m p) asm.frames.items asm.items.items) fits
 
 pub flash_room : (p : PlainProgram) (m : Map) (asm : AsmProgram) → ValidMap m → shortage p m asm ≡ None
     → m.tables.first + flash_sizes (entries_by m p) + initial_sizes (entries_by m p) < 4294967296
@@ -71,9 +71,9 @@ ram_room p m asm valid fits =
     omega (arith, need, ends, low)
 
 pub shortage_is : (p : PlainProgram) (m : Map) (asm : AsmProgram) (es : List Entry) (n : Needs) → es ≡ entries_by m p
-    → n ≡ needs p es asm.frames.items asm.items.items → first_shortage m n ≡ shortage p m asm
+    → n ≡ needs p m.io es asm.frames.items asm.items.items → first_shortage m n ≡ shortage p m asm
 shortage_is p m asm es n same is =
-    ap (first_shortage m) (is ∙ ap (λ xs. needs p xs asm.frames.items asm.items.items) same)
+    ap (first_shortage m) (is ∙ ap (λ xs. needs p m.io xs asm.frames.items asm.items.items) same)
 
 pub code_room : (p : PlainProgram) (m : Map) (asm : AsmProgram) → ValidMap m → shortage p m asm ≡ None
     → code_words asm.items.items < 65536

@@ -14,7 +14,7 @@ use Rattle.ec_overlay.specs.Frames.{need_of}
 use Rattle.ec_map.specs.Maps.{ValidMap}
 use Rattle.ec_map.specs.Regions.{end_of}
 use Rattle.ec_map.specs.declared.map.Map.{Map}
-use Rattle.ec_locate.specs.Entries.{local_size, scratch_size}
+use Rattle.ec_locate.specs.Entries.{local_size, scratch_size, work_size}
 use Rattle.ec_locate.specs.Fixed.{blocks, is_in_bank, region_met, overlaps}
 use Rattle.ec_locate.specs.Layout.{local_area, scratch_area}
 use Rattle.ec_locate.specs.Placing.{IsLocated, entries_by, layout_by}
@@ -74,7 +74,7 @@ area_spans p m asm l =
       from = scratch_area m (rows_of_program p) (entries_by m p);
       size = need_of (rows_of_program p) (scratch_size asm.frames.items);
     }
-    ∷ record { from = l.work; size = 64 } ∷ []
+    ∷ record { from = l.work; size = work_size m.io } ∷ []
 
 -- ---- what stands at fixed addresses: in its bank, outside the regions, and clear of later ones
 abbrev pub AreFree : Map → List Block → Type 0

@@ -1,12 +1,13 @@
 -- What is asked of the objects of a program to place them, and how many bytes of the regions they need.
 use Rattle.std.specs.Prelude.{ℕ, ◌+◌, ◌*◌, Bool, true, false, if◌then◌else◌, List, map, Option, Some, None}
-use Rattle.std.specs.Prelude.{option_map, sum_by, slice_index}
+use Rattle.std.specs.Prelude.{length, option_map, sum_by, slice_index}
 use Rattle.std.specs.List.{find}
 use Rattle.std.specs.Str.{bytes_eq}
 use Rattle.ec_space.specs.declared.space.Home.{Home}
 use Rattle.ec_space.specs.declared.space.Home.TheVariants.{Flash, Far, Data}
 use Rattle.ec_core.specs.Layout.{size_of_type}
 use Rattle.ec_core.specs.Plain.{PlainStruct, PlainStorage, static, local, param, register, PlainObject, PlainProgram}
+use Rattle.ec_iohw.specs.declared.table.IoTable.{IoTable}
 use Rattle.ec_map.specs.declared.map.Fixed1.{Fixed1}
 use Rattle.ec_overlay.specs.Frames.{need_of}
 use Rattle.ec_overlay.specs.Objects.{Owned, frame_bytes}
@@ -115,6 +116,12 @@ frame_size frame = 16 * frame
 
 abbrev pub scratch_size : (frames : List ℕ) → (f : ℕ) → ℕ
 scratch_size frames f = frame_size (slice_index frames f)
+
+-- ---- the work bytes
+
+-- 64, and behind them a byte for each dynamic group of the map
+abbrev pub work_size : IoTable → ℕ
+work_size io = 64 + length io.dynamics.items
 
 -- ---- needs
 

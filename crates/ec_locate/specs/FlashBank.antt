@@ -12,6 +12,7 @@ use Rattle.ec_map.specs.Cores.{home_end}
 use Rattle.ec_map.specs.Maps.{ValidMap}
 use Rattle.ec_map.specs.declared.map.Map.{Map}
 use Rattle.ec_locate.specs.Code.{address_of, far_of}
+use Rattle.ec_locate.specs.Entries.{work_size}
 use Rattle.ec_locate.specs.Placing.{IsLocated, object_sizes, layout_by, last_of}
 use Rattle.ec_locate.specs.declared.placing.Located.{Located}
 
@@ -36,4 +37,4 @@ pub record FlashStands (p : PlainProgram) (m : Map) (asm : AsmProgram) (l : Loca
 abbrev pub FlashStandsApart : Type 0
 FlashStandsApart =
     (p : PlainProgram) (m : Map) (asm : AsmProgram) (l : Located) → Valid p m.io → ValidMap m
-    → ValidAsm (object_sizes p) 64 asm → IsLocated p m asm l → FlashStands p m asm l
+    → ValidAsm (object_sizes p) (work_size m.io) asm → IsLocated p m asm l → FlashStands p m asm l

@@ -8,10 +8,11 @@ use Rattle.ec_check_recursion.specs.Rows.{rows_of_program}
 use Rattle.ec_core.specs.Layout.{size_of_type}
 use Rattle.ec_core.specs.Needs.{stmt_need}
 use Rattle.ec_core.specs.Plain.{PlainProgram}
+use Rattle.ec_iohw.specs.declared.table.IoTable.{IoTable}
 use Rattle.ec_map.specs.declared.map.Fixed1.{Fixed1}
 use Rattle.ec_map.specs.declared.map.Map.{Map}
 use Rattle.ec_locate.specs.Calls.{call_depth}
-use Rattle.ec_locate.specs.Entries.{entries, table_need, far_need, data_need}
+use Rattle.ec_locate.specs.Entries.{entries, table_need, far_need, data_need, work_size}
 use Rattle.ec_locate.specs.Fixed.{missing, blocks, first_clash, place_name, neighbour_name}
 use Rattle.ec_locate.specs.Image.{flash_of, image}
 use Rattle.ec_locate.specs.Layout.{LayoutView, layout}
@@ -34,11 +35,11 @@ scratch_needs p = map (λ f. stmt_need f.body) p.functions
 
 -- ---- what is judged
 
-abbrev pub needs : PlainProgram → List Entry → (frames : List ℕ) → List AsmItem → Needs
-needs p es frames items = record {
+abbrev pub needs : PlainProgram → IoTable → List Entry → (frames : List ℕ) → List AsmItem → Needs
+needs p io es frames items = record {
   tables = table_need es;
   far = far_need es;
-  vars = data_need 64 (rows_of_program p) es frames;
+  vars = data_need (work_size io) (rows_of_program p) es frames;
   stack = stack_need (call_depth p);
   code = 2 * code_words items;
 }
@@ -48,7 +49,7 @@ entries_by m p = entries m.places.items p
 
 -- the first region that is too small
 abbrev pub shortage : PlainProgram → Map → AsmProgram → Option Shortage
-shortage p m asm = first_shortage m (needs p (entries_by m p) asm.frames.items asm.items.items)
+shortage p m asm = first_shortage m (needs p m.io (entries_by m p) asm.frames.items asm.items.items)
 
 -- the first place without an object
 abbrev pub without_object : PlainProgram → Map → Option Fixed1

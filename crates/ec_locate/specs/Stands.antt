@@ -9,6 +9,7 @@ use Rattle.ec_core.specs.Plain.{PlainProgram}
 use Rattle.ec_map.specs.Maps.{ValidMap}
 use Rattle.ec_map.specs.declared.map.Map.{Map}
 use Rattle.ec_locate.specs.Code.{label_word, address_of, far_of}
+use Rattle.ec_locate.specs.Entries.{work_size}
 use Rattle.ec_locate.specs.Placing.{IsLocated, object_sizes, layout_by, last_of}
 use Rattle.ec_locate.specs.declared.placing.Located.{Located}
 
@@ -34,5 +35,5 @@ environment p m asm l kind table = record {
 abbrev pub CodeStands : Type 0
 CodeStands =
     (p : PlainProgram) (m : Map) (asm : AsmProgram) (l : Located) (kind table : ℕ → Kind) → ValidMap m
-    → ValidAsm (object_sizes p) 64 asm → IsLocated p m asm l
+    → ValidAsm (object_sizes p) (work_size m.io) asm → IsLocated p m asm l
     → IsPlaced (environment p m asm l kind table) asm.items.items 0

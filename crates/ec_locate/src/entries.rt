@@ -1,13 +1,14 @@
 //! What is asked of the objects of a program to place them.
-ghost use Rattle.std.specs.Prelude.{◌≡◌, ◌<◌, ◌^◌, All, IfOk, map, length, sum_by};
+ghost use Rattle.std.specs.Prelude.{◌≡◌, ◌<◌, ◌≤◌, ◌^◌, All, IfOk, map, length, sum_by};
 ghost use Rattle.std.specs.List.{AllByRecursion};
 ghost use Rattle.ec_core.specs.Layout.{AreStructs, IsObjectType};
 ghost use Rattle.ec_core.specs.Plain.{plain_struct, plain_type, plain_object, plain_storage, plain_program};
 ghost use Rattle.ec_core.specs.Valid.{IsObject};
 ghost use Rattle.ec_locate.specs.Entries.{fixed_place, kept_by, is_static, entry_of, entries, flash_size, far_size, data_size};
-ghost use Rattle.ec_locate.specs.Entries.{initial_size, flash_sizes, far_sizes, data_sizes, initial_sizes};
+ghost use Rattle.ec_locate.specs.Entries.{initial_size, flash_sizes, far_sizes, data_sizes, initial_sizes, work_size};
 
 use ec_core::{Obj, Program, Storage, StructDef, size_of};
+use ec_iohw::IoTable;
 use ec_map::Fixed1;
 use ec_space::{Home, NoMemory, Seq};
 use std::alloc::Global;
@@ -203,4 +204,12 @@ pub(crate) fn initial_sizes(entries: &[Entry]) -> u64
         sum += u64::from(initial_size(*entry));
     }
     sum
+}
+
+/// How many work bytes there are: 64, and behind them one for each dynamic group.
+pub(crate) fn work_size(io: &IoTable) -> u64
+    requires { length io.now.dynamics.items ≤ 8 }
+    ensures { result ≡ work_size io.now }
+{
+    64 + io.dynamics.len() as u64
 }

@@ -57,7 +57,8 @@ pub fn chains_are_counted()
 {}
 
 /// The need of region `data` is the sum of the sizes of free static data objects, the greatest sum of parameter and local
-/// bytes over any chain of calls, the greatest sum of scratch bytes over any chain, and 64.
+/// bytes over any chain of calls, the greatest sum of scratch bytes over any chain, and the work bytes: 64 and one for each
+/// dynamic group.
 pub fn data_need_is_of_chains()
     ensures { DataNeedIsOfChains }
 {

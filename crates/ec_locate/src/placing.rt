@@ -13,7 +13,7 @@ ghost use Rattle.ec_overlay.specs.Chains.{NothingRecurs};
 ghost use Rattle.ec_locate.specs.Areas.{IsKeptBelow, AreAreas};
 ghost use Rattle.ec_locate.specs.Calls.{call_depth};
 ghost use Rattle.ec_locate.specs.Code.{has_words};
-ghost use Rattle.ec_locate.specs.Entries.{flash_sizes, far_sizes, initial_sizes, entries};
+ghost use Rattle.ec_locate.specs.Entries.{flash_sizes, far_sizes, initial_sizes, entries, work_size};
 ghost use Rattle.ec_locate.specs.Fixed.{missing, blocks, first_clash};
 ghost use Rattle.ec_locate.specs.Image.{flash_of, image};
 ghost use Rattle.ec_locate.specs.Layout.{work_area, layout};
@@ -22,7 +22,9 @@ ghost use Rattle.ec_locate.specs.Placing.{object_sizes, scratch_needs, needs, Is
 ghost use Rattle.ec_locate.specs.Placing.{IsStop, IsLocated, last_of};
 
 use crate::calls::call_depth;
-use crate::entries::{Entry, data_sizes, entries_of, far_sizes, flash_sizes, initial_sizes};
+use crate::entries::{
+    Entry, data_sizes, entries_of, far_sizes, flash_sizes, initial_sizes, work_size,
+};
 use crate::fixed::{Neighbour, blocks_of, first_clash, missing, named, neighbour_name, place_name};
 use crate::frames::{Areas, areas_of};
 use crate::image::image_from;
@@ -33,6 +35,7 @@ use ec_asm::{AsmProgram, code_words};
 use ec_avr::Image;
 use ec_check_recursion::rows_of;
 use ec_core::{Obj, Program};
+use ec_iohw::IoTable;
 use ec_map::{Fixed1, Map};
 use ec_space::{NoMemory, Place, Seq};
 use std::alloc::Global;
@@ -46,25 +49,26 @@ pub struct Located {
     pub places: Seq<Place>,
     /// The data address of the scratch memory of each function.
     pub frames: Seq<u32>,
-    /// The data address of the 64 work bytes.
+    /// The data address of the work bytes.
     pub work: u32,
     /// The bytes of the code.
     pub code_bytes: u32,
 }
 
 /// The bytes that the regions have to have, by the areas of frames and the longest chain of calls.
-fn needs_of(entries: &[Entry], asm: &AsmProgram, areas: &Areas, depth: u32) -> Needs
+fn needs_of(io: &IoTable, entries: &[Entry], asm: &AsmProgram, areas: &Areas, depth: u32) -> Needs
+    requires dynamics { length io.now.dynamics.items ≤ 8 }
     requires objects { length entries.now < 2 ^ 12 }
     requires items { length asm.now.items.items < 2 ^ 32 }
     requires locals { areas.now.locals.need ≤ 2 ^ 61 }
     requires scratch { areas.now.scratch.need ≤ 2 ^ 61 }
     ensures { (p : PlainProgram) → AreAreas (rows_of_program p) entries.now asm.now.frames.items areas.now
-        → depth ≡ call_depth p → result ≡ needs p entries.now asm.now.frames.items asm.now.items.items }
+        → depth ≡ call_depth p → result ≡ needs p io.now entries.now asm.now.frames.items asm.now.items.items }
 {
     Needs {
         tables: flash_sizes(entries) + initial_sizes(entries),
         far: far_sizes(entries),
-        vars: data_sizes(entries) + areas.locals.need + areas.scratch.need + 64,
+        vars: data_sizes(entries) + areas.locals.need + areas.scratch.need + work_size(io),
         stack: 16 + 2 * u64::from(depth),
         code: 2 * code_words(asm.items.as_slice()),
     }
@@ -201,7 +205,7 @@ pub fn place(
 ) -> Result<Located, PlaceStop>
     requires program { Valid (plain_program program.now) map.now.io }
     requires map { ValidMap map.now }
-    requires asm { ValidAsm (object_sizes (plain_program program.now)) 64 asm.now }
+    requires asm { ValidAsm (object_sizes (plain_program program.now)) (work_size map.now.io) asm.now }
     requires frames { asm.now.frames.items ≡ scratch_needs (plain_program program.now) }
     requires items { length asm.now.items.items < 2 ^ 32 }
     ensures located { IfOk result (IsLocated (plain_program program.now) map.now asm.now) }
@@ -213,7 +217,7 @@ pub fn place(
     let frames = asm.frames.as_slice();
     let areas = areas_of(alloc, rows.as_slice(), entries.as_slice(), frames)?;
     let depth = call_depth(alloc, rows.as_slice(), program.main)?;
-    let needs = needs_of(entries.as_slice(), asm, &areas, depth);
+    let needs = needs_of(&map.io, entries.as_slice(), asm, &areas, depth);
     refuse_short(map, needs)?;
     refuse_missing(alloc, objs, map.places.as_slice())?;
     refuse_clash(alloc, map, entries.as_slice(), objs)?;

@@ -10,7 +10,7 @@ use Rattle.toml.specs.View.{view, items_view, members_view}
 use Rattle.ec_space.specs.declared.Core.{Core}
 use Rattle.ec_map.specs.Values.{list_of, entries_of}
 use Rattle.ec_map.specs.Regions.{region_in}
-use Rattle.ec_map.specs.Rules.{are_two_integers, is_write_in}
+use Rattle.ec_map.specs.Rules.{are_two_integers, is_write_in, is_choice_in}
 
 pub list_of-view : (vs : List Value) → list_of (items_view vs) ≡ map view vs
 list_of-view [] = refl
@@ -56,6 +56,12 @@ no_write core [] h = refl
 no_write core (a ∷ []) h = refl
 no_write core (a ∷ b ∷ []) h = absurd (h refl)
 no_write core (a ∷ b ∷ c ∷ vs) h = refl
+
+pub no_choice : (groups : List Data) (vs : List Value) → length vs ≢ 2 → false ≡ is_choice_in groups (items_view vs)
+no_choice groups [] h = refl
+no_choice groups (a ∷ []) h = refl
+no_choice groups (a ∷ b ∷ []) h = absurd (h refl)
+no_choice groups (a ∷ b ∷ c ∷ vs) h = refl
 
 -- the values of a map of values
 pub values-viewed : (p : Data → Bool) (es : List (String Global × Value))

@@ -1,20 +1,23 @@
 -- The map that a table is, and what holds of every map that is read.
 use Rattle.std.specs.Prelude.{ℕ, ◌≡◌, ◌+◌, ◌*◌, ◌<◌, ◌≤◌, IsTrue, All, List, map, codes}
-use Rattle.std.specs.Prelude.{Option, Some, None, option_and_then, unwrap_or}
+use Rattle.std.specs.Prelude.{Option, Some, None, unwrap_or}
 use Rattle.std.specs.Ordering.{nat_cmp}
 use Rattle.std.specs.Cmp.Lexicographic.{slice_cmp}
 use Rattle.std.specs.List.Sorted.{IsStrictlySortedBy}
-use Rattle.toml.specs.Data.{Data, at}
+use Rattle.toml.specs.Data.{Data}
 use Rattle.ec_space.specs.declared.Core.{Core}
 use Rattle.ec_avr.specs.State.{is_port}
-use Rattle.ec_iohw.specs.Valid.{ValidIo}
+use Rattle.ec_iohw.specs.Valid.{ValidIo, bases_of}
+use Rattle.ec_iohw.specs.declared.table.Choice.{Choice}
+use Rattle.ec_iohw.specs.declared.table.Dynamic.{Dynamic}
 use Rattle.ec_iohw.specs.declared.table.Pair.{Pair}
 use Rattle.ec_iohw.specs.declared.table.Port.{Port}
 use Rattle.ec_iohw.specs.declared.table.PortGroup.{PortGroup}
-use Rattle.ec_map.specs.Values.{entries_at, values_at, number_of}
+use Rattle.ec_map.specs.Values.{entries_at, values_at, number_of, byte_in}
 use Rattle.ec_map.specs.Cores.{core_of, last_place}
 use Rattle.ec_map.specs.Regions.{regions_of, ValidRegions}
-use Rattle.ec_map.specs.Rules.{ports_of, groups_of, name_of, address_of, width_of, count_of, group_of, broken}
+use Rattle.ec_map.specs.Rules.{ports_of, groups_of, dynamics_of, name_of, address_of, width_of, count_of, group_of}
+use Rattle.ec_map.specs.Rules.{dynamic_of, group_in, base_in, choices_of, broken}
 use Rattle.ec_map.specs.declared.region.Regions.{Regions}
 use Rattle.ec_map.specs.declared.map.Fixed1.{Fixed1}
 use Rattle.ec_map.specs.declared.map.Map.{Map}
@@ -27,19 +30,17 @@ pub record PortView : Type 0 where
   pub width : ℕ
   pub count : ℕ
   pub group : Option ℕ
+  pub dynamic : Option ℕ
 
-abbrev pub port_of : (groups : List Data) → Data → PortView
-port_of groups d = record {
+abbrev pub port_of : (groups dynamics : List Data) → Data → PortView
+port_of groups dynamics d = record {
   name = name_of d;
   address = address_of d;
   width = width_of d;
   count = count_of d;
   group = group_of groups d;
+  dynamic = dynamic_of dynamics d;
 }
-
--- the value at an index of an array, as a byte
-abbrev pub byte_in : ℕ → Data → ℕ
-byte_in n d = unwrap_or (option_and_then (number_of 255) (at n d)) 0
 
 abbrev pub pair_of : Data → Pair
 pair_of d = record { port = byte_in 0 d; byte = byte_in 1 d }
@@ -56,6 +57,16 @@ port_group_of d = record {
   release = map pair_of (values_at (codes "release") d);
 }
 
+abbrev pub choice_of : (groups : List Data) → Data → Choice
+choice_of groups d = record { group = group_in groups d; base = base_in d }
+
+pub record DynamicView : Type 0 where
+  pub name : List ℕ
+  pub choices : List Choice
+
+abbrev pub dynamic_group_of : (groups : List Data) → Data → DynamicView
+dynamic_group_of groups d = record { name = name_of d; choices = map (choice_of groups) (choices_of d) }
+
 pub record PlaceView : Type 0 where
   pub name : List ℕ
   pub at : ℕ
@@ -66,10 +77,20 @@ place_of core e = record { name = e.0; at = unwrap_or (number_of (last_place cor
 -- ---- maps without the room of their lists
 
 abbrev pub port_view : Port → PortView
-port_view p = record { name = p.name.items; address = p.address; width = p.width; count = p.count; group = p.group }
+port_view p = record {
+  name = p.name.items;
+  address = p.address;
+  width = p.width;
+  count = p.count;
+  group = p.group;
+  dynamic = p.dynamic;
+}
 
 abbrev pub group_view : PortGroup → GroupView
 group_view g = record { name = g.name.items; acquire = g.acquire.items; release = g.release.items }
+
+abbrev pub dynamic_view : Dynamic → DynamicView
+dynamic_view d = record { name = d.name.items; choices = d.choices.items }
 
 abbrev pub place_view : Fixed1 → PlaceView
 place_view p = record { name = p.name.items; at = p.at }
@@ -81,8 +102,9 @@ regions m = record { code = m.code; tables = m.tables; far = m.far; vars = m.var
 pub record IsMapOf (d : Data) (m : Map) : Type 0 where
   pub core_told : m.core ≡ core_of d
   pub regions_told : regions_of (core_of d) d ≡ Some (regions m)
-  pub ports_told : map port_view m.io.ports.items ≡ map (port_of (groups_of d)) (ports_of d)
+  pub ports_told : map port_view m.io.ports.items ≡ map (port_of (groups_of d) (dynamics_of d)) (ports_of d)
   pub groups_told : map group_view m.io.groups.items ≡ map port_group_of (groups_of d)
+  pub dynamics_told : map dynamic_view m.io.dynamics.items ≡ map (dynamic_group_of (groups_of d)) (dynamics_of d)
   pub places_told : map place_view m.places.items ≡ map (place_of (core_of d)) (entries_at (codes "place") d)
 
 -- a map and the table that it is, which keeps all rules
@@ -92,9 +114,12 @@ pub record IsMap (m : Map) (d : Data) : Type 0 where
 
 -- ---- what holds of every map that is read
 
--- all bytes of a port, or of those that follow one another, are ports of the core
-abbrev pub HasPorts : Core → Port → Type 0
-HasPorts core p = (k : ℕ) → k < p.width * p.count → IsTrue (is_port core (p.address + k))
+-- all bytes of a port, or of those that follow one another, are ports of the core, from each base on that its address
+-- counts from
+abbrev pub HasPorts : Core → List Dynamic → Port → Type 0
+HasPorts core dynamics p =
+    All (λ base. (k : ℕ) → k < p.width * p.count → IsTrue (is_port core (base + p.address + k)))
+    (bases_of dynamics p.dynamic)
 
 abbrev pub WritesPorts : Core → List Pair → Type 0
 WritesPorts core pairs = All (λ pair. IsTrue (is_port core pair.port)) pairs
@@ -116,7 +141,7 @@ AreAscending names = IsStrictlySortedBy (slice_cmp nat_cmp) names
 pub record ValidMap (m : Map) : Type 0 where
   pub io : ValidIo m.io
   pub regions_valid : ValidRegions m.core (regions m)
-  pub ports : All (HasPorts m.core) m.io.ports.items
+  pub ports : All (HasPorts m.core m.io.dynamics.items) m.io.ports.items
   pub writes : All (HasWrites m.core) m.io.groups.items
   pub places : All (IsPlaced m.core) m.places.items
   pub ascending : AreAscending (names_of m.places.items)

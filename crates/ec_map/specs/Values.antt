@@ -3,7 +3,7 @@ use Rattle.std.specs.Prelude.{ℕ, ℤ, pos, negsuc, nat_le, if◌then◌else◌
 use Rattle.std.specs.Prelude.{Some, None, option_map, option_and_then, unwrap_or}
 use Rattle.std.specs.Option.{option_map_or}
 use Rattle.toml.specs.Data.{Data, table, Items, no_items, item, Members, no_members, member}
-use Rattle.toml.specs.Data.{get, as_str, as_integer, as_array, as_table}
+use Rattle.toml.specs.Data.{get, at, as_str, as_integer, as_array, as_table}
 use Rattle.toml.specs.Parse.{parse_document}
 
 -- the table that a text is read as, where it is a document
@@ -60,3 +60,7 @@ number_of limit d = option_and_then (bounded limit) (as_integer d)
 
 abbrev pub number_at : ℕ → List ℕ → Data → Option ℕ
 number_at limit key d = option_and_then (number_of limit) (get key d)
+
+-- the value at an index of an array, as a byte, and 0 where there is none
+abbrev pub byte_in : ℕ → Data → ℕ
+byte_in n d = unwrap_or (option_and_then (number_of 255) (at n d)) 0

@@ -6,8 +6,8 @@ ghost use Rattle.ec_map.specs.Values.{values_at};
 ghost use Rattle.ec_map.specs.Rules.{are_two_integers, is_pair, are_pairs, has_pairs, has_lists};
 ghost use Rattle.ec_map.specs.Rules.{is_write, is_write_in, is_port_pair, has_writes};
 
-use crate::ports::{byte_of, is_port};
-use crate::values::{array_at, values_at};
+use crate::ports::is_port;
+use crate::values::{array_at, byte_of, values_at};
 use ec_space::Core;
 use toml::Value;
 

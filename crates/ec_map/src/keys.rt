@@ -22,6 +22,8 @@ pub(crate) enum Kind {
     PortTable,
     /// One of `group`
     GroupTable,
+    /// One of `dynamic`
+    DynamicTable,
 }
 
 /// Whether a table of a kind can have a key.
@@ -30,7 +32,8 @@ fn is_key(kind: Kind, key: &str) -> bool
 {
     match kind {
         Kind::WholeMap => {
-            key == "core" || key == "region" || key == "port" || key == "group" || key == "place"
+            let needed = key == "core" || key == "region";
+            needed || key == "port" || key == "group" || key == "place" || key == "dynamic"
         }
         Kind::RegionTable => key == "code" || key == "tables" || key == "data" || key == "stack",
         Kind::FarRegionTable => {
@@ -42,6 +45,7 @@ fn is_key(kind: Kind, key: &str) -> bool
             needed || key == "count" || key == "group"
         }
         Kind::GroupTable => key == "name" || key == "acquire" || key == "release",
+        Kind::DynamicTable => key == "name" || key == "choices",
     }
 }
 
@@ -63,6 +67,7 @@ fn has_needed(kind: Kind, table: &Value) -> bool
             let named = table.get("name").is_some() && table.get("acquire").is_some();
             named && table.get("release").is_some()
         }
+        Kind::DynamicTable => table.get("name").is_some() && table.get("choices").is_some(),
     }
 }
 

@@ -2,6 +2,7 @@
 #![tactic(auto)]
 
 mod cores;
+mod dynamics;
 mod groups;
 mod keys;
 mod map;

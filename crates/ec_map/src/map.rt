@@ -2,18 +2,19 @@
 ghost use Rattle.std.specs.Prelude.{◌≡◌, ◌<◌, ◌^◌, map, length, codes, Some, None, IfOk};
 ghost use Rattle.toml.specs.View.{view, table_view};
 ghost use Rattle.ec_map.specs.Values.{values_at, entries, entries_at, entries_of};
-ghost use Rattle.ec_map.specs.Rules.{groups_of, ports_of, group_of, broken};
+ghost use Rattle.ec_map.specs.Rules.{groups_of, ports_of, dynamics_of, group_of, dynamic_of, broken};
 ghost use Rattle.ec_map.specs.Cores.{core_of};
 ghost use Rattle.ec_map.specs.Regions.{regions_of};
-ghost use Rattle.ec_map.specs.Maps.{byte_in, pair_of, port_of, port_group_of, place_of, port_view, group_view};
-ghost use Rattle.ec_map.specs.Maps.{place_view, names_of, AreAscending, IsMapOf};
+ghost use Rattle.ec_map.specs.Maps.{pair_of, choice_of, port_of, port_group_of, dynamic_group_of, place_of, port_view};
+ghost use Rattle.ec_map.specs.Maps.{group_view, dynamic_view, place_view, names_of, AreAscending, IsMapOf};
 
 use crate::cores::{core_of, last_place};
-use crate::ports::{address_of, byte_of, count_of, group_of, name_of, width_of};
+use crate::dynamics::{base_in, choices_of, dynamic_of, group_in};
+use crate::ports::{address_of, count_of, group_of, name_of, width_of};
 use crate::region::{Region, Regions, regions_of};
-use crate::rules::{groups_of, ports_of};
-use crate::values::{number_of, values_at};
-use ec_iohw::{IoTable, Pair, Port, PortGroup};
+use crate::rules::{dynamics_of, groups_of, ports_of};
+use crate::values::{byte_in, number_of, values_at};
+use ec_iohw::{Choice, Dynamic, IoTable, Pair, Port, PortGroup};
 use ec_space::{Core, Name, NoMemory, Seq};
 use std::alloc::Global;
 use toml::{Table, Value};
@@ -41,7 +42,7 @@ pub struct Map {
     pub vars: Region,
     /// The stack, in SRAM.
     pub stack: Region,
-    /// The ports and groups that programs can name.
+    /// The ports, groups and dynamic groups that programs can name.
     pub io: IoTable,
     /// Where external objects stand outside the regions, by rising bytes of their names.
     pub places: Seq<Fixed1>,
@@ -83,9 +84,26 @@ fn group_number(groups: &[Value], port: &Value) -> Option<u16>
     }
 }
 
-fn port_from(alloc: Global, port: &Value, groups: &[Value]) -> Result<Port, NoMemory>
-    requires { length groups.now < 2 ^ 16 }
-    ensures { IfOk result (λ p. port_view p ≡ port_of (map view groups.now) (view port.now)) }
+/// The place of a port's dynamic group among the dynamic groups.
+fn dynamic_number(dynamics: &[Value], port: &Value) -> Option<u16>
+    requires { length dynamics.now < 2 ^ 16 }
+    ensures { result ≡ dynamic_of (map view dynamics.now) (view port.now) }
+{
+    match dynamic_of(dynamics, port) {
+        Some(at) => Some(at as u16),
+        None => None,
+    }
+}
+
+fn port_from(
+    alloc: Global,
+    port: &Value,
+    groups: &[Value],
+    dynamics: &[Value],
+) -> Result<Port, NoMemory>
+    requires groups { length groups.now < 2 ^ 16 }
+    requires dynamics { length dynamics.now < 2 ^ 16 }
+    ensures { IfOk result (λ p. port_view p ≡ port_of (map view groups.now) (map view dynamics.now) (view port.now)) }
 {
     let name = name_from(alloc, name_of(port))?;
     Ok(Port {
@@ -94,29 +112,26 @@ fn port_from(alloc: Global, port: &Value, groups: &[Value]) -> Result<Port, NoMe
         width: width_of(port),
         count: count_of(port),
         group: group_number(groups, port),
+        dynamic: dynamic_number(dynamics, port),
     })
 }
 
-fn ports_from(alloc: Global, ports: &[Value], groups: &[Value]) -> Result<Seq<Port>, NoMemory>
-    requires { length groups.now < 2 ^ 16 }
+fn ports_from(
+    alloc: Global,
+    ports: &[Value],
+    groups: &[Value],
+    dynamics: &[Value],
+) -> Result<Seq<Port>, NoMemory>
+    requires groups { length groups.now < 2 ^ 16 }
+    requires dynamics { length dynamics.now < 2 ^ 16 }
     ensures { IfOk result (λ made. map port_view made.items
-        ≡ map (port_of (map view groups.now)) (map view ports.now)) }
+        ≡ map (port_of (map view groups.now) (map view dynamics.now)) (map view ports.now)) }
 {
     let mut made = Seq::new(alloc);
     for port in ports {
-        made.push(port_from(alloc, port, groups)?)?;
+        made.push(port_from(alloc, port, groups, dynamics)?)?;
     }
     Ok(made)
-}
-
-/// The value at an index of an array, as a byte.
-fn byte_in(index: usize, array: &Value) -> u8
-    ensures { result ≡ byte_in index (view array.now) }
-{
-    match array.get(index) {
-        Some(byte) => byte_of(byte).unwrap_or(0),
-        None => 0,
-    }
 }
 
 fn pair_from(array: &Value) -> Pair
@@ -161,6 +176,53 @@ fn groups_from(alloc: Global, groups: &[Value]) -> Result<Seq<PortGroup>, NoMemo
     let mut made = Seq::new(alloc);
     for group in groups {
         made.push(group_from(alloc, group)?)?;
+    }
+    Ok(made)
+}
+
+fn choice_from(groups: &[Value], choice: &Value) -> Choice
+    requires { length groups.now < 2 ^ 16 }
+    ensures { result ≡ choice_of (map view groups.now) (view choice.now) }
+{
+    Choice {
+        group: group_in(groups, choice) as u16,
+        base: base_in(choice),
+    }
+}
+
+fn choices_from(alloc: Global, groups: &[Value], choices: &[Value]) -> Result<Seq<Choice>, NoMemory>
+    requires { length groups.now < 2 ^ 16 }
+    ensures { IfOk result (λ made. made.items ≡ map (choice_of (map view groups.now)) (map view choices.now)) }
+{
+    let mut made = Seq::new(alloc);
+    for choice in choices {
+        made.push(choice_from(groups, choice))?;
+    }
+    Ok(made)
+}
+
+fn dynamic_from(alloc: Global, groups: &[Value], dynamic: &Value) -> Result<Dynamic, NoMemory>
+    requires { length groups.now < 2 ^ 16 }
+    ensures { IfOk result (λ made. dynamic_view made ≡ dynamic_group_of (map view groups.now) (view dynamic.now)) }
+{
+    Ok(Dynamic {
+        name: name_from(alloc, name_of(dynamic))?,
+        choices: choices_from(alloc, groups, choices_of(dynamic))?,
+    })
+}
+
+fn dynamics_from(
+    alloc: Global,
+    groups: &[Value],
+    dynamics: &[Value],
+) -> Result<Seq<Dynamic>, NoMemory>
+    requires { length groups.now < 2 ^ 16 }
+    ensures { IfOk result (λ made. map dynamic_view made.items
+        ≡ map (dynamic_group_of (map view groups.now)) (map view dynamics.now)) }
+{
+    let mut made = Seq::new(alloc);
+    for dynamic in dynamics {
+        made.push(dynamic_from(alloc, groups, dynamic)?)?;
     }
     Ok(made)
 }
@@ -215,15 +277,21 @@ fn places_from(alloc: Global, core: Core, root: &Value) -> Result<Seq<Fixed1>, N
 }
 
 fn io_from(alloc: Global, root: &Value) -> Result<IoTable, NoMemory>
-    requires { length (groups_of (view root.now)) < 2 ^ 16 }
+    requires groups { length (groups_of (view root.now)) < 2 ^ 16 }
+    requires dynamics { length (dynamics_of (view root.now)) < 2 ^ 16 }
     ensures ports { IfOk result (λ io. map port_view io.ports.items
-        ≡ map (port_of (groups_of (view root.now))) (ports_of (view root.now))) }
+        ≡ map (port_of (groups_of (view root.now)) (dynamics_of (view root.now))) (ports_of (view root.now))) }
     ensures groups { IfOk result (λ io. map group_view io.groups.items
         ≡ map port_group_of (groups_of (view root.now))) }
+    ensures dynamics { IfOk result (λ io. map dynamic_view io.dynamics.items
+        ≡ map (dynamic_group_of (groups_of (view root.now))) (dynamics_of (view root.now))) }
 {
+    let groups = groups_of(root);
+    let dynamics = dynamics_of(root);
     Ok(IoTable {
-        ports: ports_from(alloc, ports_of(root), groups_of(root))?,
-        groups: groups_from(alloc, groups_of(root))?,
+        ports: ports_from(alloc, ports_of(root), groups, dynamics)?,
+        groups: groups_from(alloc, groups)?,
+        dynamics: dynamics_from(alloc, groups, dynamics)?,
     })
 }
 

@@ -1,15 +1,16 @@
 //! Rules of the ports and groups of a map.
-ghost use Rattle.std.specs.Prelude.{◌≡◌, ◌≤◌, ◌<◌, ◌+◌, ◌*◌, ◌^◌, option_map, map, IfSome, length, position};
+ghost use Rattle.std.specs.Prelude.{◌≡◌, ◌≤◌, ◌<◌, ◌+◌, ◌*◌, ◌^◌, ◌++◌, ◌&&◌, not, option_map, map, IfSome, length, position};
 ghost use Rattle.std.specs.List.{list_all, list_any, range_with_len};
 ghost use Rattle.std.specs.Str.{bytes_eq};
 ghost use Rattle.toml.specs.View.{view, items_view};
 ghost use Rattle.ec_avr.specs.State.{is_port as is_port_at};
-ghost use Rattle.ec_map.specs.Values.{number_of};
-ghost use Rattle.ec_map.specs.Rules.{is_letter, is_word, is_identifier, are_distinct, name_of, has_name, are_named};
-ghost use Rattle.ec_map.specs.Rules.{width_of, count_of, address_of, has_size, are_ports, has_ports, group_named};
-ghost use Rattle.ec_map.specs.Rules.{byte_at, group_of, has_group};
+ghost use Rattle.ec_iohw.specs.Names.{is_letter, is_word, is_identifier};
+ghost use Rattle.ec_map.specs.Rules.{are_distinct, name_of, has_name, are_named};
+ghost use Rattle.ec_map.specs.Rules.{width_of, count_of, address_of, has_size, are_ports, has_ports, has_address};
+ghost use Rattle.ec_map.specs.Rules.{byte_at, group_named, group_of, has_group};
 
-use crate::values::{number_of, text_at};
+use crate::dynamics::is_dynamic;
+use crate::values::{byte_of, text_at};
 use ec_space::Core;
 use toml::Value;
 
@@ -42,7 +43,7 @@ fn is_identifier(name: &[u8]) -> bool
     }
 }
 
-/// The name of a port or group. Empty where it has none.
+/// The name of a port, a group or a dynamic group. Empty where it has none.
 pub(crate) fn name_of(value: &Value) -> &str
     ensures { result.now ≡ name_of (view value.now) }
 {
@@ -73,7 +74,32 @@ fn have_distinct_names(values: &[Value]) -> bool
     true
 }
 
-fn have_identifiers(values: &[Value]) -> bool
+/// Whether none of some has the name of one of others.
+fn share_no_name(values: &[Value], others: &[Value]) -> bool
+    ensures { result ≡ list_all (λ value. not (list_any (λ other.
+        bytes_eq (name_of (view value)) (name_of (view other))) others.now)) values.now }
+{
+    values
+        .iter()
+        .all(|value| !have_name(others, name_of(value)))
+}
+
+fn have_distinct_names_each(values: &[Value], others: &[Value]) -> bool
+    ensures { result ≡ (are_distinct (map name_of (map view values.now))
+        && are_distinct (map name_of (map view others.now))) }
+{
+    have_distinct_names(values) && have_distinct_names(others)
+}
+
+/// Whether no two of some, and of others besides, have the same name.
+pub(crate) fn have_distinct_names_with(values: &[Value], others: &[Value]) -> bool
+    ensures { result ≡ are_distinct (map name_of (map view values.now) ++ map name_of (map view others.now)) }
+{
+    have_distinct_names_each(values, others) && share_no_name(values, others)
+}
+
+/// Whether the names are identifiers.
+pub(crate) fn have_identifiers(values: &[Value]) -> bool
     ensures { result ≡ list_all (λ value. has_name (view value)) values.now }
 {
     values
@@ -88,17 +114,7 @@ pub(crate) fn are_named(values: &[Value]) -> bool
     have_identifiers(values) && have_distinct_names(values)
 }
 
-/// A number of one byte.
-pub(crate) fn byte_of(value: &Value) -> Option<u8>
-    ensures { result ≡ number_of 255 (view value.now) }
-{
-    match number_of(value, 255) {
-        Some(byte) => Some(byte as u8),
-        None => None,
-    }
-}
-
-/// The same at a key.
+/// A number of one byte at a key.
 fn byte_at(value: &Value, key: &str) -> Option<u8>
     ensures { result ≡ byte_at key.now (view value.now) }
 {
@@ -153,16 +169,26 @@ fn are_ports(core: Core, first: u32, many: u32) -> bool
     (first..first + many).all(|address| is_port(core, address))
 }
 
-/// Whether all bytes of a port, or of those that follow one another, are ports of the core.
-pub(crate) fn has_ports(core: Core, port: &Value) -> bool
-    ensures { result ≡ has_ports core (view port.now) }
+/// Whether all bytes of a port, or of those that follow one another, are ports of the core, where its address counts from
+/// a base.
+pub(crate) fn has_ports(core: Core, base: u8, port: &Value) -> bool
+    ensures { result ≡ has_ports core base (view port.now) }
 {
+    let first = u32::from(base) + u32::from(address_of(port));
     let many = u32::from(width_of(port)) * u32::from(count_of(port));
-    are_ports(core, u32::from(address_of(port)), many)
+    are_ports(core, first, many)
+}
+
+/// Whether the address of a port is a number of one byte and, where the port is not dynamic, all its bytes are ports.
+pub(crate) fn has_address(core: Core, dynamics: &[Value], port: &Value) -> bool
+    ensures { result ≡ has_address core (map view dynamics.now) (view port.now) }
+{
+    let named = byte_at(port, "address").is_some();
+    named && (is_dynamic(dynamics, port) || has_ports(core, 0, port))
 }
 
 /// The place of the first group with a name.
-fn group_named(groups: &[Value], name: &str) -> Option<usize>
+pub(crate) fn group_named(groups: &[Value], name: &str) -> Option<usize>
     ensures value { result ≡ position (λ group. bytes_eq (name_of (view group)) name.now) groups.now }
     ensures within { IfSome result (λ at. at < length groups.now) }
 {
@@ -180,8 +206,10 @@ pub(crate) fn group_of(groups: &[Value], port: &Value) -> Option<usize>
     }
 }
 
-pub(crate) fn has_group(groups: &[Value], port: &Value) -> bool
-    ensures { result ≡ has_group (map view groups.now) (view port.now) }
+/// Whether a port names a group or a dynamic group, where it has one.
+pub(crate) fn has_group(groups: &[Value], dynamics: &[Value], port: &Value) -> bool
+    ensures { result ≡ has_group (map view groups.now) (map view dynamics.now) (view port.now) }
 {
-    port.get("group").is_none() || group_of(groups, port).is_some()
+    let named = group_of(groups, port).is_some() || is_dynamic(dynamics, port);
+    port.get("group").is_none() || named
 }

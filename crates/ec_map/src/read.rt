@@ -19,7 +19,7 @@ pub enum MapStop {
     /// The text is not UTF-8, or no TOML document.
     #[error("not TOML")]
     NotToml,
-    /// The first rule that its table breaks, from 1 to 18.
+    /// The first rule that its table breaks, from 1 to 22.
     #[error("rule {0}")]
     MapRule(u8),
     #[error("no memory")]
@@ -70,7 +70,7 @@ fn judge(alloc: Global, root: &Value) -> Result<Map, MapStop>
 ///
 /// A map is a TOML document. Each rule is judged where all rules before it are kept:
 ///
-/// 1. Its keys are among `core`, `region`, `port`, `group` and `place`, and `core` and `region` are there.
+/// 1. Its keys are among `core`, `region`, `port`, `group`, `place` and `dynamic`, and `core` and `region` are there.
 /// 2. `core` is the string `small` or `large`.
 /// 3. `region` is a table with the keys `code`, `tables`, `data`, `stack`, and no other but, where `core` is `large`,
 ///    `far`.
@@ -84,14 +84,21 @@ fn judge(alloc: Global, root: &Value) -> Result<Map, MapStop>
 ///    but `count` and `group`.
 /// 9. Each port's name is an identifier, and no two ports have the same.
 /// 10. Each width is 1, 2 or 4; each `count`, 1 where absent, is from 1 to 220.
-/// 11. Each address is an integer, and all `width * count` bytes from it are ports of the core.
+/// 11. Each address is an integer from 0 to 255, and for a port that is not dynamic all `width * count` bytes from it are
+///     ports of the core. A port is dynamic where one of the tables of `dynamic` has its `group` as its `name`.
 /// 12. `group`, where present, is an array of at most 16 tables with exactly `name`, `acquire` and `release`.
 /// 13. Each group's name is an identifier, and no two groups have the same.
 /// 14. `acquire` and `release` are arrays of at most 32 arrays of two integers.
 /// 15. Each first integer is the address of a port of the core, each second is from 0 to 255.
-/// 16. Each port's `group` is a string that names a group.
+/// 16. Each port's `group` is a string that names a group, or the port is dynamic.
 /// 17. `place`, where present, is a table.
 /// 18. Each of its values is an integer from 1 to 65,535 on `small`, and to 131,071 on `large`.
+/// 19. `dynamic`, where present, is an array of at most 8 tables with exactly `name` and `choices`.
+/// 20. Each of these names is an identifier, and no two names among groups and dynamic groups are the same.
+/// 21. Each `choices` is an array of 1 to 8 arrays of a string, which names a group, and an integer from 0 to 255. No group
+///     and no integer stands twice in one `choices`.
+/// 22. For each dynamic port and each choice of its dynamic group, all `width * count` bytes from base + address are ports
+///     of the core.
 pub fn read_map(alloc: Global, bytes: &Seq<u8>) -> Result<Map, MapStop>
     ensures read { IfOk result (λ m. IsUtf8 bytes.now.items × IsSomeAnd (document bytes.now.items) (IsMap m)) }
     ensures valid { IfOk result ValidMap }

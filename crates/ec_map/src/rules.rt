@@ -8,13 +8,17 @@ ghost use Rattle.toml.specs.View.{view};
 ghost use Rattle.ec_map.specs.Values.{entries};
 ghost use Rattle.ec_map.specs.Rules.{rule_1, rule_2, rule_3, rule_4, rule_5, rule_6, rule_7, rule_8, rule_9};
 ghost use Rattle.ec_map.specs.Rules.{rule_10, rule_11, rule_12, rule_13, rule_14, rule_15, rule_16, rule_17, rule_18};
-ghost use Rattle.ec_map.specs.Rules.{ports_of, groups_of, has_size, has_ports, has_lists, has_writes, has_group};
-ghost use Rattle.ec_map.specs.Rules.{region_table, is_place, kept, broken};
+ghost use Rattle.ec_map.specs.Rules.{rule_19, rule_20, rule_21, rule_22, ports_of, groups_of, dynamics_of};
+ghost use Rattle.ec_map.specs.Rules.{has_size, has_address, has_lists, has_writes, has_group, has_choices};
+ghost use Rattle.ec_map.specs.Rules.{has_ports_from, choices_for, region_table, is_place, kept, broken};
 
 use crate::cores::{core_at, core_of, last_place};
+use crate::dynamics::{has_bound_ports, has_choices};
 use crate::groups::{has_lists, has_writes};
 use crate::keys::{Kind, is_array_of, is_table_of};
-use crate::ports::{are_named, has_group, has_ports, has_size};
+use crate::ports::{
+    are_named, has_address, has_group, has_size, have_distinct_names_with, have_identifiers,
+};
 use crate::region::regions_of;
 use crate::values::{number_of, values_at};
 use ec_space::Core;
@@ -36,9 +40,9 @@ fn first_not_kept(kept: &[bool]) -> Option<usize>
     kept.iter().position(|kept| !*kept)
 }
 
-/// The first of the eighteen rules of a map that is broken, by its number from 1, where it is told of each in order
+/// The first of the twenty-two rules of a map that is broken, by its number from 1, where it is told of each in order
 /// whether it is kept. None where all are.
-pub fn first_broken(kept: &[bool; 18]) -> Option<u8>
+pub fn first_broken(kept: &[bool; 22]) -> Option<u8>
     ensures { result ≡ first_broken kept.now }
 {
     match first_not_kept(kept) {
@@ -59,6 +63,13 @@ pub(crate) fn groups_of(root: &Value) -> &[Value]
     ensures { map view result.now ≡ groups_of (view root.now) }
 {
     values_at(root, "group")
+}
+
+/// The dynamic groups of a map, one table each.
+pub(crate) fn dynamics_of(root: &Value) -> &[Value]
+    ensures { map view result.now ≡ dynamics_of (view root.now) }
+{
+    values_at(root, "dynamic")
 }
 
 fn rule_1(root: &Value) -> bool
@@ -153,16 +164,16 @@ fn rule_10(root: &Value) -> bool
     each_has_size(ports_of(root))
 }
 
-fn each_has_ports(core: Core, ports: &[Value]) -> bool
-    ensures { result ≡ list_all (λ port. has_ports core (view port)) ports.now }
+fn each_has_address(core: Core, dynamics: &[Value], ports: &[Value]) -> bool
+    ensures { result ≡ list_all (λ port. has_address core (map view dynamics.now) (view port)) ports.now }
 {
-    ports.iter().all(|port| has_ports(core, port))
+    ports.iter().all(|port| has_address(core, dynamics, port))
 }
 
 fn rule_11(root: &Value) -> bool
     ensures { result ≡ rule_11 (view root.now) }
 {
-    each_has_ports(core_of(root), ports_of(root))
+    each_has_address(core_of(root), dynamics_of(root), ports_of(root))
 }
 
 fn rule_12(root: &Value) -> bool
@@ -204,16 +215,16 @@ fn rule_15(root: &Value) -> bool
     each_has_writes(core_of(root), groups_of(root))
 }
 
-fn each_has_group(groups: &[Value], ports: &[Value]) -> bool
-    ensures { result ≡ list_all (λ port. has_group (map view groups.now) (view port)) ports.now }
+fn each_has_group(groups: &[Value], dynamics: &[Value], ports: &[Value]) -> bool
+    ensures { result ≡ list_all (λ port. has_group (map view groups.now) (map view dynamics.now) (view port)) ports.now }
 {
-    ports.iter().all(|port| has_group(groups, port))
+    ports.iter().all(|port| has_group(groups, dynamics, port))
 }
 
 fn rule_16(root: &Value) -> bool
     ensures { result ≡ rule_16 (view root.now) }
 {
-    each_has_group(groups_of(root), ports_of(root))
+    each_has_group(groups_of(root), dynamics_of(root), ports_of(root))
 }
 
 fn rule_17(root: &Value) -> bool
@@ -258,8 +269,51 @@ fn rule_18(root: &Value) -> bool
     }
 }
 
+fn rule_19(root: &Value) -> bool
+    ensures { result ≡ rule_19 (view root.now) }
+{
+    match root.get("dynamic") {
+        Some(dynamics) => is_array_of(Kind::DynamicTable, 8, dynamics),
+        None => true,
+    }
+}
+
+fn rule_20(root: &Value) -> bool
+    ensures { result ≡ rule_20 (view root.now) }
+{
+    let dynamics = dynamics_of(root);
+    have_identifiers(dynamics) && have_distinct_names_with(groups_of(root), dynamics)
+}
+
+fn each_has_choices(groups: &[Value], dynamics: &[Value]) -> bool
+    ensures { result ≡ list_all (λ dynamic. has_choices (map view groups.now) (view dynamic)) dynamics.now }
+{
+    dynamics.iter().all(|dynamic| has_choices(groups, dynamic))
+}
+
+fn rule_21(root: &Value) -> bool
+    ensures { result ≡ rule_21 (view root.now) }
+{
+    each_has_choices(groups_of(root), dynamics_of(root))
+}
+
+fn each_has_bound_ports(core: Core, dynamics: &[Value], ports: &[Value]) -> bool
+    ensures { result ≡ list_all (λ port.
+        has_ports_from core (choices_for (map view dynamics.now) (view port)) (view port)) ports.now }
+{
+    ports
+        .iter()
+        .all(|port| has_bound_ports(core, dynamics, port))
+}
+
+fn rule_22(root: &Value) -> bool
+    ensures { result ≡ rule_22 (view root.now) }
+{
+    each_has_bound_ports(core_of(root), dynamics_of(root), ports_of(root))
+}
+
 /// Whether each rule is kept, in order.
-fn kept(root: &Value) -> [bool; 18]
+fn kept(root: &Value) -> [bool; 22]
     ensures { result ≡ kept (view root.now) }
 {
     [
@@ -281,6 +335,10 @@ fn kept(root: &Value) -> [bool; 18]
         rule_16(root),
         rule_17(root),
         rule_18(root),
+        rule_19(root),
+        rule_20(root),
+        rule_21(root),
+        rule_22(root),
     ]
 }
 

@@ -1,7 +1,7 @@
 //! What the values of a TOML document hold.
 ghost use Rattle.std.specs.Prelude.{◌≡◌, ◌≤◌, IfSome, option_map, map, unwrap_or};
 ghost use Rattle.toml.specs.View.{view, items_view};
-ghost use Rattle.ec_map.specs.Values.{number_of, number_at, array_of, array_at, values_at, text_at};
+ghost use Rattle.ec_map.specs.Values.{number_of, number_at, byte_in, array_of, array_at, values_at, text_at};
 
 use toml::Value;
 
@@ -32,6 +32,26 @@ pub(crate) fn number_at(table: &Value, key: &str, limit: u32) -> Option<u32>
     match table.get(key) {
         Some(value) => number_of(value, limit),
         None => None,
+    }
+}
+
+/// A number of one byte.
+pub(crate) fn byte_of(value: &Value) -> Option<u8>
+    ensures { result ≡ number_of 255 (view value.now) }
+{
+    match number_of(value, 255) {
+        Some(byte) => Some(byte as u8),
+        None => None,
+    }
+}
+
+/// The value at an index of an array, as a byte. 0 where there is none.
+pub(crate) fn byte_in(index: usize, array: &Value) -> u8
+    ensures { result ≡ byte_in index (view array.now) }
+{
+    match array.get(index) {
+        Some(byte) => byte_of(byte).unwrap_or(0),
+        None => 0,
     }
 }
 

@@ -2,7 +2,7 @@ use Rattle.std.proofs.Common.{◌≡◌, ◌∙◌, ◌+◌, ◌*◌, length, ap
 use Rattle.ec_asm.specs.Items.{code_words}
 use Rattle.ec_check_recursion.specs.Rows.{rows_of_program}
 use Rattle.ec_locate.specs.Calls.{call_depth}
-use Rattle.ec_locate.specs.Entries.{table_need, data_need}
+use Rattle.ec_locate.specs.Entries.{table_need, data_need, work_size}
 use Rattle.ec_locate.specs.Needs.{stack_need}
 use Rattle.ec_locate.proofs.Words.{code_below}
 use Rattle.ec_locate.proofs.placing.needs_of.Goals as goal
@@ -22,8 +22,9 @@ returns c p areas deep =
     let locals = areas.locals.bytes in
     let scratch = areas.scratch.bytes in
     let tables : c.flash_sizes.result + c.initial_sizes.result ≡ table_need es = omega (arith, flash, initial) in
-    let vars : c.data_sizes.result + c.args.areas.now.locals.need + c.args.areas.now.scratch.need + 64
-    ≡ data_need 64 (rows_of_program p) es c.args.asm.now.frames.items = omega (arith, sizes, locals, scratch) in
+    let work = c.work_size.ensures in
+    let vars : c.data_sizes.result + c.args.areas.now.locals.need + c.args.areas.now.scratch.need + c.work_size.result
+    ≡ data_need (work_size c.args.io.now) (rows_of_program p) es c.args.asm.now.frames.items = omega (arith, sizes, locals, scratch, work) in
     let from = c.from.ensures in
     let stack : 16 + 2 * c.from.result ≡ stack_need (call_depth p) = omega (arith, from, deep) in
     let code : 2 * c.code_words.result ≡ 2 * code_words c.args.asm.now.items.items =

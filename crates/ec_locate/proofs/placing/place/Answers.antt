@@ -9,6 +9,7 @@ use Rattle.ec_map.proofs.Made.{all_passing}
 use Rattle.ec_overlay.proofs.Programs.{nothing_recurs}
 use Rattle.ec_locate.specs.Areas.{AreAreas}
 use Rattle.ec_locate.specs.Code.{has_words}
+use Rattle.ec_locate.specs.Entries.{work_size}
 use Rattle.ec_locate.specs.Needs.{first_shortage}
 use Rattle.ec_locate.specs.Placing.{object_sizes, scratch_needs, entries_by}
 use Rattle.ec_locate.proofs.Objects.{objects_typed}
@@ -55,7 +56,7 @@ locate-requires-clause-objects c =
 
 pub locate-requires-clause-words : goal.locate-requires-clause-words
 locate-requires-clause-words c =
-    let sizes = sizes_of (object_sizes (plain_program c.args.program.now)) c.args.asm.now.frames.items 64 in
+    let sizes = sizes_of (object_sizes (plain_program c.args.program.now)) c.args.asm.now.frames.items (work_size c.args.map.now.io) in
     all_passing (λ item. IsTrue (has_words item)) (is_valid_item sizes) (valid_words sizes) c.args.asm.now.items.items c.requires.asm.items
 
 pub locate-requires-clause-few : goal.locate-requires-clause-few

@@ -6,5 +6,5 @@ use Rattle.ec_map.proofs.map.ports_from.Goals as goal
 
 pub returns : goal.returns
 returns c =
-    made_all port_view (port_of (map view c.args.groups.now)) view c.loop-port.made.items c.args.ports.now c.loop-port.port-index
-    c.loop-port.invariant (omega arith)
+    made_all port_view (port_of (map view c.args.groups.now) (map view c.args.dynamics.now)) view c.loop-port.made.items c.args.ports.now
+    c.loop-port.port-index c.loop-port.invariant (omega arith)

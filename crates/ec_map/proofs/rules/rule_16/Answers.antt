@@ -6,5 +6,7 @@ use Rattle.ec_map.proofs.rules.rule_16.Goals as goal
 
 pub returns : goal.returns
 returns c =
-    rw (← c.groups_of.ensures, ← c.ports_of.ensures)
-    (c.each_has_group.ensures ∙ sym (list_all-viewed (has_group (map view c.groups_of.result.now)) view c.ports_of.result.now))
+    let groups = map view c.groups_of.result.now in
+    let dynamics = map view c.dynamics_of.result.now in
+    rw (← c.groups_of.ensures, ← c.dynamics_of.ensures, ← c.ports_of.ensures)
+    (c.each_has_group.ensures ∙ sym (list_all-viewed (has_group groups dynamics) view c.ports_of.result.now))
