@@ -5,8 +5,8 @@ use Rattle.std.specs.Prelude.{if◌then◌else◌, ◌==◌, nat_lt, ⊤, is_som
 use Rattle.std.proofs.lemmas.Bool.{or_parts, not-false, both_ways, true≢false, false≢true}
 use Rattle.std.proofs.lemmas.Bool.Decides.{nat_tests}
 use Rattle.ec_iohw.specs.declared.operations.IoOp.{IoOp}
-use Rattle.ec_grammar.specs.declared.Operation.{Operation}
 use Rattle.ec_grammar.specs.declared.Operation.TheVariants as operations
+use Rattle.ec_grammar.specs.declared.token.GroupOp.TheVariants as groups
 use Rattle.ec_grammar.specs.Trees as t
 use Rattle.ec_core.specs.Laws.{TypesAreTold}
 use Rattle.ec_core.specs.Operators.{same_bool}
@@ -22,24 +22,25 @@ use Rattle.ec_check_operands.specs.declared.operands.Modes.{Modes}
 use Rattle.ec_check_operands.specs.Operands.{Operand, with_one}
 use Rattle.ec_check_operands.specs.Passing.{passed, passing_rules}
 use Rattle.ec_check_forms.specs.Meanings.{KeptFormsHaveMeanings, KeptMembersHaveMeanings}
-use Rattle.ec_check_expressions.specs.Arguments.{Wanted, parameters, port_operands, wanted_of, wanted_type, Passed, arguments}
-use Rattle.ec_check_expressions.specs.Arguments.{operands, with_argument, arguments_in, access_by, access_of, group_action}
+use Rattle.ec_check_expressions.specs.Arguments.{Wanted, nothing, parameters, port_operands, wanted_of, wanted_type, Passed}
+use Rattle.ec_check_expressions.specs.Arguments.{arguments, operands, with_argument, arguments_in, access_by, access_of}
+use Rattle.ec_check_expressions.specs.Bindings.{binding_of}
 use Rattle.ec_check_expressions.specs.Callees.{name_in_postfix, Called, function_named, called_by, callee, further_count, argument_count}
 use Rattle.ec_check_expressions.specs.Callees.{called_sites, call_of}
-use Rattle.ec_check_expressions.specs.Expressions.{wanted_by, call_sites, wanted_for, operation_of, operation_site, of_expression}
+use Rattle.ec_check_expressions.specs.Expressions.{wanted_by, call_sites, of_expression}
 use Rattle.ec_check_expressions.specs.Expressions.{of_assignment, of_conditional, of_binary, of_cast, of_unary, of_postfix}
 use Rattle.ec_check_expressions.specs.Expressions.{passed_arguments, passed_further, of_primary, expression_sites, assignment_sites}
 use Rattle.ec_check_expressions.specs.Expressions.{conditional_sites, binary_sites, cast_sites, unary_sites, postfix_sites, arguments_sites}
 use Rattle.ec_check_expressions.specs.Expressions.{further_sites, primary_sites}
 use Rattle.ec_check_expressions.specs.Known.{Known}
-use Rattle.ec_check_expressions.specs.Sites.{Site, rules_at, told as told_at}
+use Rattle.ec_check_expressions.specs.Sites.{Site, told as told_at}
 use Rattle.ec_check_expressions.specs.Tokens.{operator_of, compound_operator, prefix_operator, is_up, is_arrow}
 use Rattle.ec_check_expressions.specs.TypeNames.{said_type, void_said}
 use Rattle.ec_check_expression_laws.specs.Laws.{AreUnbroken, HaveMeanings, KeptExpressionsHaveMeanings}
 use Rattle.ec_check_expression_laws.specs.Suits.{IsWhole, HasTypes}
 use Rattle.ec_check_expression_laws.proofs.KeptForms.{IsMeant, used_meant, comma_meant, join_meant, store_meant, choice_meant, prefix_meant}
 use Rattle.ec_check_expression_laws.proofs.KeptForms.{step_meant, index_meant, member_meant, cast_meant, size_meant, passing_meant}
-use Rattle.ec_check_expression_laws.proofs.KeptForms.{call_meant, access_made, group_meant, name_meant}
+use Rattle.ec_check_expression_laws.proofs.KeptForms.{call_meant, access_made, group_meant, binding_meant, name_meant}
 use Rattle.ec_check_expression_laws.proofs.KeptTypes.{type_kept}
 use Rattle.ec_check_expression_laws.proofs.SaidTypes.{if_both}
 use Rattle.ec_check_expression_laws.proofs.Shapes.{constant_shape}
@@ -210,7 +211,7 @@ module _ (told : TypesAreTold) (forms : KeptFormsHaveMeanings) (m : Modes) (coun
   callee_meant None h u k = absurd (true≢false u.0)
   callee_meant (Some c) h u k = function_meant c.at c.number c.returns c.params h k
 
--- ---- operations on ports and groups
+-- ---- operations on ports
 
 module _ (told : TypesAreTold) (forms : KeptFormsHaveMeanings) (m : Modes) where
   port_meant : (op : IoOp) (port : Option NamedPort) (args : Passed) → is_none port ≡ false → too_wide (port_operation op) port ≡ false
@@ -232,11 +233,11 @@ module _ (told : TypesAreTold) (forms : KeptFormsHaveMeanings) (m : Modes) where
       (subst (λ (j : ℕ). IsFilled op (1 + j) args) (counted count (operand_count (port_operation op)) e) f))
       (λ q. absurd (both_ways (count == operand_count (port_operation op)) q e))
 
-  operation_meant : (k : Known) (more : t.Further) (op : Operation) (n : List ℕ) (at : ℕ) → ArePassing k (wanted_for op) 1 more
-      → AreUnbroken (rules_at (operation_site k op n (further_count more) at))
-      → IsMeant
-      (operation_of (record k { modes = m }) op n (further_count more) (passed_further k (wanted_for op) (operands None None) 1 more))
-  operation_meant k more (operations.Port op) n at g h =
+  port_operation_meant : (k : Known) (more : t.Further) (op : IoOp) (n : List ℕ) → ArePassing k (port_operands op) 1 more
+      → AreUnbroken (port_rules op (port_named k.ports n) (further_count more) 0)
+      → IsMeant (access_of m op (port_named k.ports n) (further_count more)
+      (passed_further k (port_operands op) (operands None None) 1 more))
+  port_operation_meant k more op n g h =
       access_meant op (port_named k.ports n) (further_count more) (passed_further k (port_operands op) (operands None None) 1 more) h
       (operands_given k more op 1 (operands None None) (none_filled (port_operation op).indexed (takes_value (port_operation op))) g)
     where
@@ -245,8 +246,6 @@ module _ (told : TypesAreTold) (forms : KeptFormsHaveMeanings) (m : Modes) where
       none_filled true false = (omega arith, λ le. (refl, refl))
       none_filled false true = (omega arith, λ le. (refl, refl))
       none_filled false false = (omega arith, λ le. (refl, refl))
-  operation_meant k more (operations.Group op) n at g h =
-      group_meant told forms m (group_action op) (group_named k.ports n) (further_count more) 0 h
 
 -- ---- all
 
@@ -369,9 +368,17 @@ module _ (told : TypesAreTold) (forms : KeptFormsHaveMeanings) (members : KeptMe
     kept_primary (t.name (t.identifier s n)) rest h = (name_meant (found n k.names) 0 (types.names n) h.0, h.1)
     kept_primary (t.constant s c) rest h = (constant_shape told k.modes c, h)
     kept_primary (t.parenthesised l e r) rest h = kept_expression e rest h
-    kept_primary (t.operation s op l (t.identifier at n) more r) rest h =
-        let g = kept_further more (wanted_for op) 1 _ h in
-        (operation_meant told forms k.modes k more op n s.index g.0 g.1.0, g.1.1)
+    kept_primary (t.operation s (operations.Port op) l (t.identifier at n) more r) rest h =
+        let g = kept_further more (port_operands op) 1 _ h in
+        (port_operation_meant told forms k.modes k more op n g.0 g.1.0, g.1.1)
+    kept_primary (t.operation s (operations.Group groups.Acquire) l (t.identifier at n) more r) rest h =
+        let g = kept_further more nothing 1 _ h in
+        (group_meant told forms k.modes true (group_named k.ports n) (further_count more) 0 g.1.0, g.1.1)
+    kept_primary (t.operation s (operations.Group groups.Release) l (t.identifier at n) more r) rest h =
+        let g = kept_further more nothing 1 _ h in
+        (group_meant told forms k.modes false (group_named k.ports n) (further_count more) 0 g.1.0, g.1.1)
+    kept_primary (t.operation s (operations.Group groups.Map) l (t.identifier at n) more r) rest h =
+        (binding_meant told forms k.modes (binding_of k.ports n more) 0 h.0, h.1)
 
   -- in the words of what is told
   ended : (o : Option Operand) (rest : List Site) → IsMeant o × AreKept rest → IsMeant o × (told_at None rest ≡ None)

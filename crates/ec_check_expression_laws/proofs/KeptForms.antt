@@ -6,16 +6,16 @@ use Rattle.ec_iohw.specs.declared.operations.IoOp.{IoOp}
 use Rattle.ec_grammar.specs.declared.token.PunctKind.{PunctKind}
 use Rattle.ec_core.specs.declared.expressions.BinOp.{BinOp}
 use Rattle.ec_core.specs.Laws.{TypesAreTold}
-use Rattle.ec_core.specs.Plain.{PlainType, PlainStruct, PlainExpr, io}
+use Rattle.ec_core.specs.Plain.{PlainType, void, PlainStruct, PlainExpr, io}
 use Rattle.ec_core.specs.PortOperations.{port_operation, takes_value}
 use Rattle.ec_core.specs.Typing.{port_value, port_result}
 use Rattle.ec_check_names.specs.Names.{Named, an_object, a_function}
 use Rattle.ec_check_forms.specs.Accesses.{indexed, member_of}
-use Rattle.ec_check_forms.specs.declared.ports.GroupAction.{GroupAction}
-use Rattle.ec_check_forms.specs.declared.ports.GroupAction.TheVariants.{Acquire, Release, Map}
+use Rattle.ec_check_forms.specs.declared.ports.Binding.{Binding}
+use Rattle.ec_check_forms.specs.declared.ports.NamedGroup.{NamedGroup}
 use Rattle.ec_check_forms.specs.declared.ports.NamedPort.{NamedPort}
-use Rattle.ec_check_forms.specs.Calls.{name_rules, called, is_too_wide, optional, fits, accessed, is_map, group_rules, grouped}
-use Rattle.ec_check_forms.specs.Calls.{group_operation, size_value}
+use Rattle.ec_check_forms.specs.Calls.{name_rules, called, is_too_wide, optional, fits, accessed, group_rules, group_node}
+use Rattle.ec_check_forms.specs.Calls.{group_operation, binding_rules, binding_operation, size_value}
 use Rattle.ec_check_forms.specs.Choices.{logical, sequence, chosen, cast}
 use Rattle.ec_check_forms.specs.declared.prefixes.PrefixOp.{PrefixOp}
 use Rattle.ec_check_forms.specs.Nodes.{use_rules, used, part_rules, used_part, condition, prefixed, assigned, compounded, stepped}
@@ -38,7 +38,7 @@ use Rattle.ec_check_expression_laws.proofs.SaidTypes.{if_both}
 use Rattle.ec_check_expression_laws.proofs.Shapes.{IsShaped, with_one_shape, operated_shape, prefixed_shape, assigned_shape}
 use Rattle.ec_check_expression_laws.proofs.Shapes.{compounded_shape, stepped_shape, indexed_shape, member_shape, logical_shape}
 use Rattle.ec_check_expression_laws.proofs.Shapes.{sequence_shape, chosen_shape, cast_shape, called_shape, accessed_shape}
-use Rattle.ec_check_expression_laws.proofs.Shapes.{group_operation_shape, size_shape}
+use Rattle.ec_check_expression_laws.proofs.Shapes.{group_operation_shape, binding_operation_shape, size_shape}
 use Rattle.ec_check_expression_laws.specs.Laws.{AreUnbroken}
 use Rattle.ec_check_expression_laws.proofs.Unbroken.{site_kept}
 
@@ -215,25 +215,23 @@ module _ (told : TypesAreTold) (forms : KeptFormsHaveMeanings) (m : Modes) where
       (λ q. refl))
       (accessed_shape told m op index v p)
 
-  group_made : (action : GroupAction) (g : ℕ) → is_map action ≡ false → IsSome (grouped m action g)
-  group_made Acquire g e = refl
-  group_made Release g e = refl
-  group_made Map g e = absurd (true≢false e)
+  found_group_meant : (acquire : Bool) (g : Option NamedGroup) → is_none g ≡ false
+      → IsSome (with_one g (λ n. valued (made m void (group_node acquire n))))
+  found_group_meant acquire None h = absurd (true≢false h)
+  found_group_meant acquire (Some n) h = refl
 
-  found_group_meant : (action : GroupAction) (g : Option ℕ) → is_map action ≡ false → is_none g ≡ false
-      → IsSome (with_one g (grouped m action))
-  found_group_meant action None e h = absurd (true≢false h)
-  found_group_meant action (Some g) e h = group_made action g e
+  pub group_meant : (acquire : Bool) (g : Option NamedGroup) (count at : ℕ) → AreUnbroken (group_rules g count at)
+      → IsMeant (group_operation m acquire g count)
+  group_meant acquire g count at k =
+      let a = or_parts (is_none g) (not (count == 0)) k.0 in
+      some_meant (group_operation m acquire g count)
+      (if_both IsSome (count == 0) (with_one g (λ n. valued (made m void (group_node acquire n)))) None
+      (λ e. found_group_meant acquire g a.0) (λ e. absurd (both_ways (count == 0) e (not-false (count == 0) a.1))))
+      (group_operation_shape told m acquire g count)
 
-  pub group_meant : (action : GroupAction) (g : Option ℕ) (count at : ℕ) → AreUnbroken (group_rules action g count at)
-      → IsMeant (group_operation m action g count)
-  group_meant action g count at k =
-      let a = or_parts (is_map action || is_none g) (not (count == 0)) k.0 in
-      let b = or_parts (is_map action) (is_none g) a.0 in
-      some_meant (group_operation m action g count)
-      (if_both IsSome (count == 0) (with_one g (grouped m action)) None (λ e. found_group_meant action g b.0 b.1)
-      (λ e. absurd (both_ways (count == 0) e (not-false (count == 0) a.1))))
-      (group_operation_shape told m action g count)
+  pub binding_meant : (b : Option Binding) (at : ℕ) → AreUnbroken (binding_rules b at) → IsMeant (binding_operation m b)
+  binding_meant None at k = absurd (true≢false k.0)
+  binding_meant (Some b) at k = some_meant (binding_operation m (Some b)) refl (binding_operation_shape told m (Some b))
 
 -- ---- names
 

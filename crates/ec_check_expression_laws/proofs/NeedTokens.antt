@@ -6,8 +6,8 @@ use Rattle.ec_grammar.specs.declared.token.PunctKind.TheVariants.{LeftParenthesi
 use Rattle.ec_grammar.specs.declared.token.PunctKind.TheVariants.{Question, Colon}
 use Rattle.ec_grammar.specs.declared.Constant.{Constant}
 use Rattle.ec_grammar.specs.declared.Constant.TheVariants as constants
-use Rattle.ec_grammar.specs.declared.Operation.{Operation}
 use Rattle.ec_grammar.specs.declared.Operation.TheVariants as operations
+use Rattle.ec_grammar.specs.declared.token.GroupOp.TheVariants as groups
 use Rattle.ec_grammar.specs.declared.Qualifier.{Qualifier}
 use Rattle.ec_grammar.specs.Spelling as s
 use Rattle.ec_grammar.specs.Trees as t
@@ -17,7 +17,7 @@ use Rattle.ec_core.specs.Plain.{PlainType, PlainStruct, PlainExpr}
 use Rattle.ec_core.specs.PortOperations.{port_operation}
 use Rattle.ec_check_names.specs.Names.{Named, an_object, a_function, found}
 use Rattle.ec_check_forms.specs.declared.ports.NamedPort.{NamedPort}
-use Rattle.ec_check_forms.specs.Calls.{called, operand_count, accessed, port_named, group_named, group_operation}
+use Rattle.ec_check_forms.specs.Calls.{called, operand_count, accessed, port_named, group_named, group_operation, binding_operation}
 use Rattle.ec_check_forms.specs.Choices.{sequence, chosen, cast}
 use Rattle.ec_check_forms.specs.Accesses.{indexed, member_of}
 use Rattle.ec_check_forms.specs.Nodes.{used, used_part, condition, prefixed, stepped}
@@ -26,9 +26,10 @@ use Rattle.ec_check_operands.specs.Operands.{Operand, value, value_type, as_valu
 use Rattle.ec_check_operands.specs.Passing.{passed}
 use Rattle.ec_check_operands.specs.Sorts.{is_void, is_struct}
 use Rattle.ec_check_expressions.specs.Arguments.{Wanted, wanted_of, wanted_type, Passed, arguments, operands, is_index, with_argument}
-use Rattle.ec_check_expressions.specs.Arguments.{arguments_in, access_by, group_action}
+use Rattle.ec_check_expressions.specs.Arguments.{port_operands, arguments_in, access_by, access_of}
+use Rattle.ec_check_expressions.specs.Bindings.{binding_of}
 use Rattle.ec_check_expressions.specs.Callees.{Called, callee, further_count, argument_count, takes, exprs_of, call_of}
-use Rattle.ec_check_expressions.specs.Expressions.{wanted_for, operation_of, of_expression, of_assignment, of_conditional, of_binary}
+use Rattle.ec_check_expressions.specs.Expressions.{of_expression, of_assignment, of_conditional, of_binary}
 use Rattle.ec_check_expressions.specs.Expressions.{of_cast, of_unary, of_postfix, passed_arguments, passed_further, of_primary}
 use Rattle.ec_check_expressions.specs.Known.{Known, is_sized}
 use Rattle.ec_check_expressions.specs.Names.{named, constant_value}
@@ -39,7 +40,7 @@ use Rattle.ec_check_expression_laws.specs.Laws.{NeedTheirTokens, NeedsAreBounded
 use Rattle.ec_check_expression_laws.proofs.Needs.{weight, some_weight, value_need, Weighs, OfOne, OfTwo, of_one, of_two, passed_need}
 use Rattle.ec_check_expression_laws.proofs.Needs.{joined_weighs, sequence_weighs, choice_weighs, cast_weighs, prefixed_weighs}
 use Rattle.ec_check_expression_laws.proofs.Needs.{stepped_weighs, stored_weighs, indexed_weighs, member_weighs, group_weighs}
-use Rattle.ec_check_expression_laws.proofs.Needs.{accessed_weighs, brought_need, tested_need}
+use Rattle.ec_check_expression_laws.proofs.Needs.{binding_weighs, accessed_weighs, brought_need, tested_need}
 use Rattle.ec_check_expression_laws.proofs.SaidTypes.{if_both}
 
 -- ---- tokens are only put before others
@@ -180,6 +181,11 @@ part_within (Some x) r n h = if_both (λ o. Within o r n) (is_struct (value_type
 light : (o : Option Operand) (r n : ℕ) → Weighs o 1 → suc r ≤ n → Within o r n
 light None r n h le = tt
 light (Some x) r n h le = omega arith
+
+-- what weighs two
+two_light : (o : Option Operand) (r n : ℕ) → Weighs o 2 → suc (suc r) ≤ n → Within o r n
+two_light None r n h le = tt
+two_light (Some x) r n h le = omega arith
 
 choice_within : (m : Modes) (c x y : Option Operand) (h n i l j o r : ℕ) → Within c h n → Within x i l → Within y j o
     → r + n + l + o ≤ h + i + j + n
@@ -328,14 +334,11 @@ port_within m op (Some p) (operands index v) r n h =
     (nothing_more index (n - r) (lessened index 0 r n (zero_less index (suc r) n h.0))) (lessened v 1 r n h.1))
     (let z = h.2 in omega arith)
 
-operation_within : (k : Known) (op : Operation) (name : List ℕ) (count : ℕ) (args : Passed) (r n : ℕ) → Held args (suc r) n → suc r ≤ n
-    → Within (operation_of k op name count args) r n
-operation_within k (operations.Port op) name count args r n h le =
-    if_both (λ o. Within o r n) (count == operand_count (port_operation op)) (access_by k.modes op (port_named k.ports name) args) None
-    (λ e. port_within k.modes op (port_named k.ports name) args r n h) (λ e. tt)
-operation_within k (operations.Group op) name count args r n h le =
-    light (group_operation k.modes (group_action op) (group_named k.ports name) count) r n
-    (group_weighs k.modes (group_action op) (group_named k.ports name) count) le
+access_within : (m : Modes) (op : IoOp) (port : Option NamedPort) (count : ℕ) (args : Passed) (r n : ℕ) → Held args (suc r) n
+    → Within (access_of m op port count args) r n
+access_within m op port count args r n h =
+    if_both (λ o. Within o r n) (count == operand_count (port_operation op)) (access_by m op port args) None
+    (λ e. port_within m op port args r n h) (λ e. tt)
 
 -- ---- names, constants and sizes
 
@@ -544,13 +547,28 @@ module _ (k : Known) where
         (nearer (of_expression k e) (length rest) (length (s.mark r RightParenthesis ∷ rest))
         (length (s.of_expression e (s.mark r RightParenthesis ∷ rest)))
         (within_expression e (s.mark r RightParenthesis ∷ rest)) (omega arith)) (omega arith)
-    within_primary (t.operation at op l (t.identifier spot n) more r) rest =
+    within_primary (t.operation at (operations.Port op) l (t.identifier spot n) more r) rest =
         let behind = s.of_further more (s.mark r RightParenthesis ∷ rest) in
         let inside = before_further more (s.mark r RightParenthesis ∷ rest) in
-        operation_within k op n (further_count more) (passed_further k (wanted_for op) (operands None None) 1 more) (length rest)
-        (suc (suc (suc (length behind))))
-        (held_further more (wanted_for op) 1 (operands None None) (s.mark r RightParenthesis ∷ rest) (suc (suc (suc (length behind))))
-        (tt, tt, omega arith)) (omega arith)
+        access_within k.modes op (port_named k.ports n) (further_count more)
+        (passed_further k (port_operands op) (operands None None) 1 more) (length rest) (suc (suc (suc (length behind))))
+        (held_further more (port_operands op) 1 (operands None None) (s.mark r RightParenthesis ∷ rest) (suc (suc (suc (length behind))))
+        (tt, tt, omega arith))
+    within_primary (t.operation at (operations.Group groups.Acquire) l (t.identifier spot n) more r) rest =
+        let inside = before_further more (s.mark r RightParenthesis ∷ rest) in
+        two_light (group_operation k.modes true (group_named k.ports n) (further_count more)) (length rest)
+        (suc (suc (suc (length (s.of_further more (s.mark r RightParenthesis ∷ rest))))))
+        (group_weighs k.modes true (group_named k.ports n) (further_count more)) (omega arith)
+    within_primary (t.operation at (operations.Group groups.Release) l (t.identifier spot n) more r) rest =
+        let inside = before_further more (s.mark r RightParenthesis ∷ rest) in
+        two_light (group_operation k.modes false (group_named k.ports n) (further_count more)) (length rest)
+        (suc (suc (suc (length (s.of_further more (s.mark r RightParenthesis ∷ rest))))))
+        (group_weighs k.modes false (group_named k.ports n) (further_count more)) (omega arith)
+    within_primary (t.operation at (operations.Group groups.Map) l (t.identifier spot n) more r) rest =
+        let inside = before_further more (s.mark r RightParenthesis ∷ rest) in
+        light (binding_operation k.modes (binding_of k.ports n more)) (length rest)
+        (suc (suc (suc (length (s.of_further more (s.mark r RightParenthesis ∷ rest))))))
+        (binding_weighs k.modes (binding_of k.ports n more)) (omega arith)
 
   -- ---- in the words of the law
 

@@ -15,14 +15,15 @@ use Rattle.ec_core.specs.ArithmeticValues.{is_comparison}
 use Rattle.ec_core.specs.Needs.{node_need, expr_need, place_needs, option_needs}
 use Rattle.ec_core.specs.Operators.{same_type, promoted_type}
 use Rattle.ec_core.specs.Plain.{PlainType, void, integer, fixed, pointer, array, struct, PlainStruct, PlainExpr, expression, PlainPlace}
-use Rattle.ec_core.specs.Plain.{object, deref, member, null, binary, unary, convert, assign, compound, step, io}
+use Rattle.ec_core.specs.Plain.{object, deref, member, null, binary, unary, convert, assign, compound, step, io, bind}
 use Rattle.ec_core.specs.PortOperations.{port_operation, takes_value, is_update}
 use Rattle.ec_core.specs.Typing.{int, type_of_expr, type_of_member, pointer_space, port_value, port_result}
 use Rattle.ec_check_forms.specs.Accesses.{base_of, member_number, reached, part_of, member_of, indexed}
-use Rattle.ec_check_forms.specs.declared.ports.GroupAction.{GroupAction}
-use Rattle.ec_check_forms.specs.declared.ports.GroupAction.TheVariants.{Acquire, Release, Map}
+use Rattle.ec_check_forms.specs.declared.ports.Binding.{Binding}
+use Rattle.ec_check_forms.specs.declared.ports.NamedGroup.{NamedGroup}
+use Rattle.ec_check_forms.specs.declared.ports.NamedGroup.TheVariants as groups
 use Rattle.ec_check_forms.specs.declared.ports.NamedPort.{NamedPort}
-use Rattle.ec_check_forms.specs.Calls.{is_too_wide, fits, optional, accessed, grouped, group_operation}
+use Rattle.ec_check_forms.specs.Calls.{is_too_wide, fits, optional, accessed, group_node, group_operation, binding_operation}
 use Rattle.ec_check_forms.specs.Choices.{logical, sequence, choice_type, choice_made, chosen, castable, cast}
 use Rattle.ec_check_forms.specs.declared.prefixes.PrefixOp.{PrefixOp}
 use Rattle.ec_check_forms.specs.declared.prefixes.PrefixOp.TheVariants.{Address, Deref, Plus, Minus, Invert, Not}
@@ -440,15 +441,19 @@ module _ (m : Modes) where
 
   -- ---- ports and groups
 
-  grouped_weighs : (action : GroupAction) (g : ℕ) → Weighs (grouped m action g) 1
-  grouped_weighs Acquire g = omega arith
-  grouped_weighs Release g = omega arith
-  grouped_weighs Map g = tt
+  node_weighs : (acquire : Bool) (g : NamedGroup) → Weighs (valued (made m void (group_node acquire g))) 2
+  node_weighs acquire (groups.Group g) = omega arith
+  node_weighs acquire (groups.Dynamic d) = omega arith
 
-  pub group_weighs : (action : GroupAction) (g : Option ℕ) (count : ℕ) → Weighs (group_operation m action g count) 1
-  group_weighs action g count =
-      if_both (λ o. Weighs o 1) (count == 0) (with_one g (grouped m action)) None
-      (λ e. with_one_weighs 1 g (grouped m action) (grouped_weighs action)) (λ e. tt)
+  -- an acquire or a release of a dynamic group needs 2
+  pub group_weighs : (acquire : Bool) (g : Option NamedGroup) (count : ℕ) → Weighs (group_operation m acquire g count) 2
+  group_weighs acquire g count =
+      let f : NamedGroup → Option Operand = λ n. valued (made m void (group_node acquire n)) in
+      if_both (λ o. Weighs o 2) (count == 0) (with_one g f) None
+      (λ e. with_one_weighs 2 g f (node_weighs acquire)) (λ e. tt)
+
+  pub binding_weighs : (b : Option Binding) → Weighs (binding_operation m b) 1
+  binding_weighs b = with_one_weighs 1 b (λ x. valued (made m void (bind x.dynamic x.choice))) (λ x. omega arith)
 
   port_need : (update : Bool) (index v : Option PlainExpr) (n : ℕ) → 3 ≤ n → IfSome index (λ e. expr_need e ≤ n)
       → IfSome v (λ e. expr_need e + 1 ≤ n)

@@ -19,14 +19,15 @@ use Rattle.ec_core.specs.Laws.{TypesAreTold}
 use Rattle.ec_core.specs.Operators.{same_type, promoted_type}
 use Rattle.ec_core.specs.Plain.{PlainType, void, integer, fixed, pointer, array, struct, PlainStruct, PlainExpr, expression, PlainPlace}
 use Rattle.ec_core.specs.Plain.{PlainExprs, call, null, binary, unary, convert, io, deref, member, address_of, logical_not, logical_and}
-use Rattle.ec_core.specs.Plain.{logical_or, assign, compound, step, comma, group}
+use Rattle.ec_core.specs.Plain.{logical_or, assign, compound, step, comma, bind}
 use Rattle.ec_core.specs.PortOperations.{PortAction, reads, writes, updates, port_operation, takes_value}
 use Rattle.ec_core.specs.Typing.{int, unsigned_int, unsigned_long, type_of_expr, pointer_space, port_value, port_result, type_of_member}
 use Rattle.ec_check_forms.specs.Accesses.{base_of, member_number, reached, part_of, member_of, indexed}
-use Rattle.ec_check_forms.specs.declared.ports.GroupAction.{GroupAction}
-use Rattle.ec_check_forms.specs.declared.ports.GroupAction.TheVariants.{Acquire, Release, Map}
+use Rattle.ec_check_forms.specs.declared.ports.Binding.{Binding}
+use Rattle.ec_check_forms.specs.declared.ports.NamedGroup.{NamedGroup}
 use Rattle.ec_check_forms.specs.declared.ports.NamedPort.{NamedPort}
-use Rattle.ec_check_forms.specs.Calls.{called, is_too_wide, fits, optional, accessed, grouped, group_operation, size_value}
+use Rattle.ec_check_forms.specs.Calls.{called, is_too_wide, fits, optional, accessed, group_node, group_operation}
+use Rattle.ec_check_forms.specs.Calls.{binding_operation, size_value}
 use Rattle.ec_check_forms.specs.Choices.{logical, sequence, alternatives, pointer_between, type_between, choice_type, choice_made, chosen}
 use Rattle.ec_check_forms.specs.Choices.{castable, cast}
 use Rattle.ec_check_forms.specs.declared.prefixes.PrefixOp.{PrefixOp}
@@ -353,15 +354,16 @@ module _ (told : TypesAreTold) (m : Modes) where
       if_both IsShaped (is_too_wide form p || not (fits form.indexed index && fits (takes_value form) v)) None (valued e) (λ q. tt)
       (λ q. valued_shape e (result_plain form.action form.long))
 
-  group_shape : (action : GroupAction) (g : ℕ) → IsShaped (grouped m action g)
-  group_shape Acquire g = valued_shape (made m void (group true g)) (λ h. h)
-  group_shape Release g = valued_shape (made m void (group false g)) (λ h. h)
-  group_shape Map g = tt
+  pub group_operation_shape : (acquire : Bool) (g : Option NamedGroup) (count : ℕ) → IsShaped (group_operation m acquire g count)
+  group_operation_shape acquire g count =
+      let f : NamedGroup → Option Operand = λ n. valued (made m void (group_node acquire n)) in
+      if_both IsShaped (count == 0) (with_one g f) None
+      (λ e. with_one_shape g f (λ n. valued_shape (made m void (group_node acquire n)) (λ h. h))) (λ e. tt)
 
-  pub group_operation_shape : (action : GroupAction) (g : Option ℕ) (count : ℕ) → IsShaped (group_operation m action g count)
-  group_operation_shape action g count =
-      if_both IsShaped (count == 0) (with_one g (grouped m action)) None
-      (λ e. with_one_shape g (grouped m action) (group_shape action)) (λ e. tt)
+  pub binding_operation_shape : (b : Option Binding) → IsShaped (binding_operation m b)
+  binding_operation_shape b =
+      with_one_shape b (λ x. valued (made m void (bind x.dynamic x.choice)))
+      (λ x. valued_shape (made m void (bind x.dynamic x.choice)) (λ h. h))
 
   pub constant_shape : (c : Constant) → IsProper (constant_value m c)
   constant_shape (constants.Whole n signed bytes) = record { null = λ z. tt; whole = λ h. h }

@@ -1,10 +1,12 @@
 -- What an expression means is as a valid program asks.
 use Rattle.std.proofs.Common.{◌≡◌, ◌<◌, ◌+◌, ℕ, Bool, true, false, List, [], ◌∷◌, length, refl, sym, subst, arith}
 use Rattle.std.specs.Prelude.{if◌then◌else◌, ◌==◌, ◌⊎◌, Option, Some, None, IsSomeAnd, IfSome, option_map, position, slice_get}
+use Rattle.std.specs.Option.{option_or}
 use Rattle.std.specs.Str.{bytes_eq}
 use Rattle.std.proofs.lemmas.List.Quantifiers.{position-Some}
 use Rattle.ec_iohw.specs.declared.operations.IoOp.{IoOp}
 use Rattle.ec_iohw.specs.declared.table.Designator.TheVariants as designators
+use Rattle.ec_iohw.specs.declared.table.Dynamic.{Dynamic}
 use Rattle.ec_iohw.specs.declared.table.IoTable.{IoTable}
 use Rattle.ec_iohw.specs.declared.table.Port.{Port}
 use Rattle.ec_space.specs.declared.space.SpaceId.{SpaceId}
@@ -12,8 +14,8 @@ use Rattle.ec_grammar.specs.declared.token.PunctKind.{PunctKind}
 use Rattle.ec_grammar.specs.declared.token.PunctKind.TheVariants as punct
 use Rattle.ec_grammar.specs.declared.Constant.{Constant}
 use Rattle.ec_grammar.specs.declared.Constant.TheVariants as constants
-use Rattle.ec_grammar.specs.declared.Operation.{Operation}
 use Rattle.ec_grammar.specs.declared.Operation.TheVariants as operations
+use Rattle.ec_grammar.specs.declared.token.GroupOp.TheVariants as groups
 use Rattle.ec_grammar.specs.Spelling as spelling
 use Rattle.ec_grammar.specs.Trees as t
 use Rattle.ec_grammar.specs.Trees.{Leaf}
@@ -23,8 +25,10 @@ use Rattle.ec_core.specs.Plain.{PlainType, PlainExpr, PlainObject, PlainFunction
 use Rattle.ec_core.specs.PortOperations.{port_operation}
 use Rattle.ec_core.specs.Valid.{IsAddressable}
 use Rattle.ec_check_names.specs.Names.{Named, an_object, a_function, found}
-use Rattle.ec_check_forms.specs.declared.ports.GroupAction.{GroupAction}
+use Rattle.ec_check_forms.specs.declared.ports.NamedGroup.{NamedGroup}
+use Rattle.ec_check_forms.specs.declared.ports.NamedGroup.TheVariants as named_groups
 use Rattle.ec_check_forms.specs.Calls.{port_at, port_named, group_at, group_named, group_operation, accessed, operand_count, called}
+use Rattle.ec_check_forms.specs.Calls.{choice_of, bound_to, binding_operation}
 use Rattle.ec_check_forms.specs.Choices.{cast}
 use Rattle.ec_check_forms.specs.Nodes.{used}
 use Rattle.ec_check_operands.specs.declared.operands.Modes.{Modes}
@@ -35,10 +39,11 @@ use Rattle.ec_check_forms.specs.Constraints.{IsArithmetic}
 use Rattle.ec_check_forms.specs.Validity.{IsPlaceType, IsOperand, IsOptional, FormsAreOperands, NamesAreOperands, FormsStayValid}
 use Rattle.ec_check_forms.specs.Validity.{NamesAreValid, SizesAreValid}
 use Rattle.ec_check_expressions.specs.Arguments.{Wanted, parameters, port_operands, wanted_of, wanted_type, Passed, arguments, operands}
-use Rattle.ec_check_expressions.specs.Arguments.{with_argument, arguments_in, access_by, access_of, group_action}
+use Rattle.ec_check_expressions.specs.Arguments.{with_argument, arguments_in, access_by, access_of}
+use Rattle.ec_check_expressions.specs.Bindings.{bare_name, bound_by, binding_of}
 use Rattle.ec_check_expressions.specs.Callees.{name_in_postfix, Called, function_named, called_by, callee, further_count, argument_count}
 use Rattle.ec_check_expressions.specs.Callees.{takes, exprs_of, call_of}
-use Rattle.ec_check_expressions.specs.Expressions.{wanted_for, operation_of, of_expression, of_assignment, of_conditional, of_binary}
+use Rattle.ec_check_expressions.specs.Expressions.{of_expression, of_assignment, of_conditional, of_binary}
 use Rattle.ec_check_expressions.specs.Expressions.{of_cast, of_unary, of_postfix, passed_arguments, passed_further, of_primary}
 use Rattle.ec_check_expressions.specs.Known.{Known}
 use Rattle.ec_check_expressions.specs.Names.{named, constant_value}
@@ -132,27 +137,65 @@ module _ (p : PlainProgram) (io : IoTable) (f : ℕ) where
         if_both (IsOptional p io f) (count == operand_count (port_operation op)) (access_by m op (port_named io name) args) None
         (λ e. access_by_valid m op name i args h) (λ e. tt)
 
-    found_group_valid : (m : Modes) (action : GroupAction) (name : List ℕ) (count : ℕ) (o : Option ℕ)
-        → position (λ g. bytes_eq g.name.items name) io.groups.items ≡ o
-        → IsOptional p io f (group_operation m action (with_one (option_map designators.Group o) group_at) count)
-    found_group_valid m action name count None e = if_both (IsOptional p io f) (count == 0) None None (λ z. tt) (λ z. tt)
-    found_group_valid m action name count (Some g) e =
-        names.groups m action g count (found_within io.groups.items (λ d. bytes_eq d.name.items name) g e)
-
-    group_valid : (m : Modes) (action : GroupAction) (name : List ℕ) (count : ℕ)
-        → IsOptional p io f (group_operation m action (group_named io name) count)
-    group_valid m action name count =
-        found_group_valid m action name count (position (λ g. bytes_eq g.name.items name) io.groups.items) refl
-
-    operation_valid : (k : Known) → k.ports ≡ io → (op : Operation) (name : List ℕ) (count i : ℕ) (args : Passed)
-        → IsGiven p io f (wanted_for op) i args
-        → IsOptional p io f (operation_of k op name count args)
-    operation_valid k same (operations.Port op) name count i args h =
+    port_operation_valid : (k : Known) → k.ports ≡ io → (op : IoOp) (name : List ℕ) (count i : ℕ) (args : Passed)
+        → IsGiven p io f (port_operands op) i args → IsOptional p io f (access_of k.modes op (port_named k.ports name) count args)
+    port_operation_valid k same op name count i args h =
         subst (λ (z : IoTable). IsOptional p io f (access_of k.modes op (port_named z name) count args)) (sym same)
         (access_valid k.modes op name count i args h)
-    operation_valid k same (operations.Group op) name count i args h =
-        subst (λ (z : IoTable). IsOptional p io f (group_operation k.modes (group_action op) (group_named z name) count)) (sym same)
-        (group_valid k.modes (group_action op) name count)
+
+    found_group_valid : (m : Modes) (acquire : Bool) (name : List ℕ) (count : ℕ) (o q : Option ℕ)
+        → position (λ g. bytes_eq g.name.items name) io.groups.items ≡ o
+        → position (λ d. bytes_eq d.name.items name) io.dynamics.items ≡ q
+        → IsOptional p io f (group_operation m acquire
+        (with_one (option_or (option_map designators.Group o) (option_map designators.Dynamic q)) group_at) count)
+    found_group_valid m acquire name count None None e h = if_both (IsOptional p io f) (count == 0) None None (λ z. tt) (λ z. tt)
+    found_group_valid m acquire name count None (Some d) e h =
+        names.groups m acquire (named_groups.Dynamic d) count (found_within io.dynamics.items (λ x. bytes_eq x.name.items name) d h)
+    found_group_valid m acquire name count (Some g) q e h =
+        names.groups m acquire (named_groups.Group g) count (found_within io.groups.items (λ x. bytes_eq x.name.items name) g e)
+
+    group_valid : (k : Known) → k.ports ≡ io → (acquire : Bool) (name : List ℕ) (count : ℕ)
+        → IsOptional p io f (group_operation k.modes acquire (group_named k.ports name) count)
+    group_valid k same acquire name count =
+        subst (λ (z : IoTable). IsOptional p io f (group_operation k.modes acquire (group_named z name) count)) (sym same)
+        (found_group_valid k.modes acquire name count (position (λ g. bytes_eq g.name.items name) io.groups.items)
+        (position (λ d. bytes_eq d.name.items name) io.dynamics.items) refl refl)
+
+    choice_valid : (m : Modes) (d : ℕ) (x : Dynamic) (g : ℕ) (o : Option ℕ) → slice_get io.dynamics.items d ≡ Some x
+        → choice_of x.choices.items g ≡ o
+        → IsOptional p io f (binding_operation m (option_map (λ c. record { dynamic = d; choice = c }) o))
+    choice_valid m d x g None e h = tt
+    choice_valid m d x g (Some c) e h =
+        names.bindings m (record { dynamic = d; choice = c }) x e (found_within x.choices.items (λ z. z.group == g) c h)
+
+    dynamic_valid : (m : Modes) (d g : ℕ) (o : Option Dynamic) → slice_get io.dynamics.items d ≡ o
+        → IsOptional p io f (binding_operation m
+        (with_one o (λ x. option_map (λ c. record { dynamic = d; choice = c }) (choice_of x.choices.items g))))
+    dynamic_valid m d g None e = tt
+    dynamic_valid m d g (Some x) e = choice_valid m d x g (choice_of x.choices.items g) e refl
+
+    bound_valid : (m : Modes) (d g : Option NamedGroup) → IsOptional p io f (binding_operation m (with_both d g (bound_to io)))
+    bound_valid m None g = tt
+    bound_valid m (Some d) None = tt
+    bound_valid m (Some (named_groups.Group d)) (Some g) = tt
+    bound_valid m (Some (named_groups.Dynamic d)) (Some (named_groups.Dynamic g)) = tt
+    bound_valid m (Some (named_groups.Dynamic d)) (Some (named_groups.Group g)) =
+        dynamic_valid m d g (slice_get io.dynamics.items d) refl
+
+    bound_by_valid : (m : Modes) (name : List ℕ) (o : Option t.Identifier) → IsOptional p io f (binding_operation m (bound_by io name o))
+    bound_by_valid m name None = tt
+    bound_by_valid m name (Some (t.identifier at n)) = bound_valid m (group_named io name) (group_named io n)
+
+    arguments_valid : (m : Modes) (name : List ℕ) (more : t.Further) → IsOptional p io f (binding_operation m (binding_of io name more))
+    arguments_valid m name t.no_further = tt
+    arguments_valid m name (t.further s a t.no_further) = bound_by_valid m name (bare_name a)
+    arguments_valid m name (t.further s a (t.further r b more)) = tt
+
+    binding_valid : (k : Known) → k.ports ≡ io → (name : List ℕ) (more : t.Further)
+        → IsOptional p io f (binding_operation k.modes (binding_of k.ports name more))
+    binding_valid k same name more =
+        subst (λ (z : IoTable). IsOptional p io f (binding_operation k.modes (binding_of z name more))) (sym same)
+        (arguments_valid k.modes name more)
 
   -- ---- forms
 
@@ -168,16 +211,6 @@ module _ (p : PlainProgram) (io : IoTable) (f : ℕ) where
     cast_valid : (o : Option PlainType) → IfSome o (IsPlaceType p.structs) → IsOptional p io f (with_both o x (cast m))
     cast_valid None k = tt
     cast_valid (Some to) k = h.casts to k.usable
-
-  -- ---- operands of operations
-
-  operands_passed : (op : Operation) → ArePassed p io f (wanted_for op)
-  operands_passed (operations.Port op) = tt
-  operands_passed (operations.Group op) = tt
-
-  no_operands : (op : Operation) → IsGiven p io f (wanted_for op) 1 (operands None None)
-  no_operands (operations.Port op) = (omega arith, tt, tt)
-  no_operands (operations.Group op) = tt
 
   -- ---- callees
 
@@ -324,10 +357,16 @@ module _ (forms : FormsStayValid) (named_valid : NamesAreValid) (sizes : SizesAr
     valid_primary (t.name (t.identifier at n)) rest h = name_valid p io f names (found n k.names) (s.names n)
     valid_primary (t.constant at c) rest h = constant_valid p io f names k.modes c h.0
     valid_primary (t.parenthesised l e r) rest h = valid_expression e _ h.1
-    valid_primary (t.operation at op l (t.identifier spot n) more r) rest h =
-        operation_valid p io f names k s.ports op n (further_count more) (1 + further_count more)
-        (passed_further k (wanted_for op) (operands None None) 1 more)
-        (valid_further more (wanted_for op) 1 (operands None None) _ h.1.1.1 (operands_passed p io f op) (no_operands p io f op))
+    valid_primary (t.operation at (operations.Port op) l (t.identifier spot n) more r) rest h =
+        port_operation_valid p io f names k s.ports op n (further_count more) (1 + further_count more)
+        (passed_further k (port_operands op) (operands None None) 1 more)
+        (valid_further more (port_operands op) 1 (operands None None) _ h.1.1.1 tt (omega arith, tt, tt))
+    valid_primary (t.operation at (operations.Group groups.Acquire) l (t.identifier spot n) more r) rest h =
+        group_valid p io f names k s.ports true n (further_count more)
+    valid_primary (t.operation at (operations.Group groups.Release) l (t.identifier spot n) more r) rest h =
+        group_valid p io f names k s.ports false n (further_count more)
+    valid_primary (t.operation at (operations.Group groups.Map) l (t.identifier spot n) more r) rest h =
+        binding_valid p io f names k s.ports n more
 
   pub mean_operands : MeanOperands p io f k
   mean_operands = record {

@@ -2,15 +2,11 @@
 use Rattle.std.specs.Prelude.{ℕ, ◌-◌, ◌==◌, Bool, false, ◌&&◌, if◌then◌else◌, Option, Some, None}
 use Rattle.std.specs.Prelude.{option_map, List, [], ◌∷◌, ◌++◌, map, slice_get}
 use Rattle.ec_iohw.specs.declared.operations.IoOp.{IoOp}
-use Rattle.ec_grammar.specs.declared.token.GroupOp.{GroupOp}
-use Rattle.ec_grammar.specs.declared.token.GroupOp.TheVariants as groups
 use Rattle.ec_core.specs.declared.expressions.Expr.{Expr}
 use Rattle.ec_core.specs.Plain.{PlainType, plain_type, PlainExpr, plain_expr}
 use Rattle.ec_core.specs.PortOperations.{port_operation}
 use Rattle.ec_space.specs.Listed.{Listed}
 use Rattle.ec_check_operands.specs.declared.operands.Modes.{Modes}
-use Rattle.ec_check_forms.specs.declared.ports.GroupAction.{GroupAction}
-use Rattle.ec_check_forms.specs.declared.ports.GroupAction.TheVariants.{Acquire, Release, Map}
 use Rattle.ec_check_forms.specs.declared.ports.NamedPort.{NamedPort}
 use Rattle.ec_check_forms.specs.Calls.{operand_type, operand_count, accessed}
 use Rattle.ec_check_operands.specs.Operands.{Operand, with_one}
@@ -75,7 +71,7 @@ abbrev pub arguments_in : Passed → Option (List PlainExpr)
 arguments_in (arguments es) = es
 arguments_in (operands index contents) = None
 
--- ---- operations on ports and groups
+-- ---- operations on ports
 
 abbrev pub access_by : Modes → IoOp → Option NamedPort → Passed → Option Operand
 access_by m op port (arguments es) = None
@@ -85,8 +81,3 @@ access_by m op port (operands index contents) = with_one port (accessed m op ind
 abbrev pub access_of : Modes → IoOp → Option NamedPort → (count : ℕ) → Passed → Option Operand
 access_of m op port count args =
     if count == operand_count (port_operation op) then access_by m op port args else None
-
-abbrev pub group_action : GroupOp → GroupAction
-group_action groups.Acquire = Acquire
-group_action groups.Release = Release
-group_action groups.Map = Map

@@ -2,11 +2,12 @@
 use Rattle.std.specs.Prelude.{ℕ, ◌+◌, true, false, is_some, Option, Some, None, List, [], ◌∷◌}
 use Rattle.ec_grammar.specs.declared.Operation.{Operation}
 use Rattle.ec_grammar.specs.declared.Operation.TheVariants as operations
+use Rattle.ec_grammar.specs.declared.token.GroupOp.TheVariants as groups
 use Rattle.ec_grammar.specs.Trees as t
 use Rattle.ec_check_names.specs.Firsts.{first_expression, first_assignment, first_binary, first_cast, first_unary}
 use Rattle.ec_check_names.specs.Firsts.{first_postfix}
 use Rattle.ec_check_names.specs.Names.{found}
-use Rattle.ec_check_forms.specs.Calls.{port_named, group_named, group_operation}
+use Rattle.ec_check_forms.specs.Calls.{port_named, group_named, group_operation, binding_operation}
 use Rattle.ec_check_forms.specs.Nodes.{used, used_part, condition, prefixed, stepped}
 use Rattle.ec_check_forms.specs.Accesses.{indexed, member_of}
 use Rattle.ec_check_forms.specs.Choices.{sequence}
@@ -14,13 +15,14 @@ use Rattle.ec_check_forms.specs.Choices.{chosen, cast}
 use Rattle.ec_check_operands.specs.Operands.{Operand, with_one, with_both}
 use Rattle.ec_check_operands.specs.Passing.{passed}
 use Rattle.ec_check_forms.specs.Sites.{a_name, a_callee, a_use, a_part, a_prefix, a_step, an_index, a_member, a_passing}
-use Rattle.ec_check_forms.specs.Sites.{a_choice, a_cast, a_port, a_group}
+use Rattle.ec_check_forms.specs.Sites.{a_choice, a_cast, a_port, a_group, a_binding}
 use Rattle.ec_check_expressions.specs.Counts.{further_count, argument_count}
 use Rattle.ec_check_expressions.specs.Names.{what_is_meant}
 use Rattle.ec_check_expressions.specs.Tokens.{prefix_operator, is_up, is_arrow}
 use Rattle.ec_check_expressions.specs.Types.{meant_type}
 use Rattle.ec_check_expressions.specs.Arguments.{Wanted, nothing, port_operands, wanted_of, wanted_type, Passed, arguments, operands}
-use Rattle.ec_check_expressions.specs.Arguments.{with_argument, arguments_in, access_of, group_action}
+use Rattle.ec_check_expressions.specs.Arguments.{with_argument, arguments_in, access_of}
+use Rattle.ec_check_expressions.specs.Bindings.{binding_of}
 use Rattle.ec_check_expressions.specs.Callees.{Called, callee, called_sites, call_of}
 use Rattle.ec_check_expressions.specs.Known.{Known}
 use Rattle.ec_check_expressions.specs.Names.{named, constant_value}
@@ -47,16 +49,26 @@ abbrev pub wanted_for : Operation → Wanted
 wanted_for (operations.Port op) = port_operands op
 wanted_for (operations.Group op) = nothing
 
--- what an operation makes of its operands, of which there are so many
-abbrev pub operation_of : Known → Operation → List ℕ → (count : ℕ) → Passed → Option Operand
-operation_of k (operations.Port op) n count args = access_of k.modes op (port_named k.ports n) count args
-operation_of k (operations.Group op) n count args =
-    group_operation k.modes (group_action op) (group_named k.ports n) count
+-- what an operation makes of the arguments behind its first one; those of `iogroup_map` are names
+abbrev pub operation_of : Known → Operation → List ℕ → t.Further → Passed → Option Operand
+operation_of k (operations.Port op) n more args = access_of k.modes op (port_named k.ports n) (further_count more) args
+operation_of k (operations.Group groups.Acquire) n more args =
+    group_operation k.modes true (group_named k.ports n) (further_count more)
+operation_of k (operations.Group groups.Release) n more args =
+    group_operation k.modes false (group_named k.ports n) (further_count more)
+operation_of k (operations.Group groups.Map) n more args = binding_operation k.modes (binding_of k.ports n more)
 
-abbrev pub operation_site : Known → Operation → List ℕ → (count : ℕ) → (at : ℕ) → Site
-operation_site k (operations.Port op) n count at = on (a_port op (port_named k.ports n) count at)
-operation_site k (operations.Group op) n count at =
-    on (a_group (group_action op) (group_named k.ports n) count at)
+-- it is judged behind its arguments; of `iogroup_map` nothing else is
+abbrev pub operation_sites : Known → Operation → List ℕ → t.Further → (at : ℕ) → (List Site → List Site) → List Site
+    → List Site
+operation_sites k (operations.Port op) n more at others rest =
+    others (on (a_port op (port_named k.ports n) (further_count more) at) ∷ rest)
+operation_sites k (operations.Group groups.Acquire) n more at others rest =
+    others (on (a_group (group_named k.ports n) (further_count more) at) ∷ rest)
+operation_sites k (operations.Group groups.Release) n more at others rest =
+    others (on (a_group (group_named k.ports n) (further_count more) at) ∷ rest)
+operation_sites k (operations.Group groups.Map) n more at others rest =
+    on (a_binding (binding_of k.ports n more) at) ∷ rest
 
 module _ (k : Known) where
   -- ---- what each means; None where it breaks a rule and has no type
@@ -121,7 +133,7 @@ module _ (k : Known) where
     of_primary (t.constant s c) = Some (constant_value k.modes c)
     of_primary (t.parenthesised l e r) = of_expression e
     of_primary (t.operation s op l (t.identifier at n) more r) =
-        operation_of k op n (further_count more) (passed_further (wanted_for op) (operands None None) 1 more)
+        operation_of k op n more (passed_further (wanted_for op) (operands None None) 1 more)
 
   -- ---- the sites in each, and then others
 
@@ -205,4 +217,4 @@ module _ (k : Known) where
     primary_sites (t.constant s c) rest = rest
     primary_sites (t.parenthesised l e r) rest = expression_sites e rest
     primary_sites (t.operation s op l (t.identifier at n) more r) rest =
-        further_sites (wanted_for op) 1 more (operation_site k op n (further_count more) s.index ∷ rest)
+        operation_sites k op n more s.index (further_sites (wanted_for op) 1 more) rest

@@ -9,4 +9,5 @@ pub mod TypeNames
 pub mod Sites
 pub mod Callees
 pub mod Arguments
+pub mod Bindings
 pub mod Expressions

@@ -3,27 +3,29 @@
 //! Trees that are not used are dropped by a call: a drop in place at each exit would cost the proof its variants.
 ghost use Rattle.std.specs.Prelude.{◌≡◌, IfOk, OnOk, [], ◌∷◌, None, Some, map, option_map, slice_get};
 ghost use Rattle.ec_core.specs.Plain.{plain_type, plain_expr};
-ghost use Rattle.ec_check_forms.specs.Calls.{port_named, group_named, group_operation};
+ghost use Rattle.ec_grammar.specs.Views.{views_further};
+ghost use Rattle.ec_check_forms.specs.Calls.{port_named, group_named, group_operation, binding_operation};
 ghost use Rattle.ec_check_forms.specs.Nodes.{used};
 ghost use Rattle.ec_check_operands.specs.Operands.{plain_operand};
 ghost use Rattle.ec_check_operands.specs.Passing.{passed as passed_to};
-ghost use Rattle.ec_check_forms.specs.Sites.{a_use, a_passing, a_port, a_group};
+ghost use Rattle.ec_check_forms.specs.Sites.{a_use, a_passing, a_port, a_group, a_binding};
 ghost use Rattle.ec_check_expressions.specs.Arguments.{plain_wanted, wanted_of, wanted_type, plain_passed};
 ghost use Rattle.ec_check_expressions.specs.Arguments.{arguments as passed_arguments, operands as passed_operands, plain_arguments};
 ghost use Rattle.ec_check_expressions.specs.Arguments.{appended, is_index, with_argument, arguments_in};
-ghost use Rattle.ec_check_expressions.specs.Arguments.{access_of, group_action};
-ghost use Rattle.ec_check_expressions.specs.Expressions.{wanted_for, operation_of, operation_site};
+ghost use Rattle.ec_check_expressions.specs.Arguments.{access_of};
+ghost use Rattle.ec_check_expressions.specs.Bindings.{binding_of};
 ghost use Rattle.ec_check_expressions.specs.Known.{IsSound, plain_known};
 ghost use Rattle.ec_check_expressions.specs.Sites.{on, Walked};
 
+use crate::bindings::binding_of;
 use crate::known::Known;
 use ec_check_forms::{
-    GroupAction, NamedPort, access, group_named, group_operation, is_indexed, judge_group,
-    judge_port, operand_count, operand_type, port_named, take,
+    NamedPort, access, binding_operation, group_named, group_operation, is_indexed, judge_binding,
+    judge_group, judge_port, operand_count, operand_type, port_named, take,
 };
 use ec_check_operands::{Faults, Modes, Operand, boxed, judge_passing, pass};
 use ec_core::{CType, Expr};
-use ec_grammar::{GroupOp, Identifier, IoOp, Operation};
+use ec_grammar::{Argument, Identifier, IoOp};
 use ec_space::{NoMemory, Seq};
 use std::alloc::Global;
 
@@ -231,66 +233,39 @@ pub(crate) fn accessing(
     access_of(alloc, known.modes, op, port, count, args)
 }
 
-/// What an operation on a group makes, with so many operands behind the group.
+/// What an acquire or a release makes, with so many operands behind the group.
 pub(crate) fn grouping(
     known: &Known,
     faults: &mut Faults,
-    op: GroupOp,
+    acquire: bool,
     name: &Identifier,
     count: usize,
     at: u32,
 ) -> Option<Operand>
     requires { IsSound (plain_known known.now) }
     ensures { let k = plain_known known.now in let g = group_named k.ports name.now.name.items in
-        Walked faults.old.least faults.new.least (λ rest. on (a_group (group_action op) g count at) ∷ rest)
-        (option_map plain_operand result) (group_operation k.modes (group_action op) g count) }
+        Walked faults.old.least faults.new.least (λ rest. on (a_group g count at) ∷ rest)
+        (option_map plain_operand result) (group_operation k.modes acquire g count) }
 {
-    let action = group_action(op);
     let group = group_named(known.ports, &name.name);
-    judge_group(faults, action, group, count, at);
-    group_operation(known.modes, action, group, count)
+    judge_group(faults, group, count, at);
+    group_operation(known.modes, acquire, group, count)
 }
 
-fn group_action(op: GroupOp) -> GroupAction
-    ensures { result ≡ group_action op }
-{
-    match op {
-        GroupOp::Acquire => GroupAction::Acquire,
-        GroupOp::Release => GroupAction::Release,
-        GroupOp::Map => GroupAction::Map,
-    }
-}
-
-pub(crate) fn wanted_for(op: Operation) -> Wanted<'static>
-    ensures { plain_wanted result ≡ wanted_for op }
-{
-    match op {
-        Operation::Port(op) => Wanted::PortOperands(op),
-        Operation::Group(_) => Wanted::Nothing,
-    }
-}
-
-/// What an operation makes of its operands, of which there are so many.
-pub(crate) fn operating(
-    alloc: Global,
+/// What `iogroup_map` makes of a dynamic group's name and the arguments behind it.
+pub(crate) fn mapping(
     known: &Known,
     faults: &mut Faults,
-    op: Operation,
     name: &Identifier,
-    count: usize,
-    args: Passed,
+    more: &[Argument],
     at: u32,
-) -> Result<Option<Operand>, NoMemory>
+) -> Option<Operand>
     requires { IsSound (plain_known known.now) }
-    ensures { let k = plain_known known.now in let n = name.now.name.items in
-        IfOk result (λ x. Walked faults.old.least faults.new.least (λ rest. operation_site k op n count at ∷ rest)
-        (option_map plain_operand x) (operation_of k op n count (plain_passed args))) }
+    ensures { let k = plain_known known.now in let b = binding_of k.ports name.now.name.items (views_further more.now) in
+        Walked faults.old.least faults.new.least (λ rest. on (a_binding b at) ∷ rest)
+        (option_map plain_operand result) (binding_operation k.modes b) }
 {
-    match op {
-        Operation::Port(op) => accessing(alloc, known, faults, op, name, count, args, at),
-        Operation::Group(op) => {
-            drop(args);
-            Ok(grouping(known, faults, op, name, count, at))
-        }
-    }
+    let binding = binding_of(known.ports, name, more);
+    judge_binding(faults, binding, at);
+    binding_operation(known.modes, binding)
 }

@@ -7,6 +7,7 @@
 #![tactic(auto)]
 
 mod arguments;
+mod bindings;
 mod callees;
 mod counts;
 mod known;

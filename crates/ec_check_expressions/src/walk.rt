@@ -5,19 +5,22 @@ ghost use Rattle.std.specs.Prelude.{◌≡◌, IfOk, OnOk, Some, None, List, [],
 ghost use Rattle.ec_grammar.specs.Views.{view_expression, view_assignment, view_conditional, view_binary, view_cast};
 ghost use Rattle.ec_grammar.specs.Views.{view_unary, view_postfix, view_primary, view_arguments, views_further};
 ghost use Rattle.ec_check_operands.specs.Operands.{plain_operand};
+ghost use Rattle.ec_check_forms.specs.Calls.{port_named, group_named, group_operation as group_operation_of};
+ghost use Rattle.ec_check_forms.specs.Sites.{a_port, a_group};
 ghost use Rattle.ec_check_expressions.specs.Counts.{further_count, argument_count};
-ghost use Rattle.ec_check_expressions.specs.Arguments.{nothing, plain_wanted, wanted_of, plain_passed, arguments_in};
+ghost use Rattle.ec_check_expressions.specs.Arguments.{nothing, port_operands, plain_wanted, wanted_of, plain_passed};
+ghost use Rattle.ec_check_expressions.specs.Arguments.{arguments_in, access_of};
 ghost use Rattle.ec_check_expressions.specs.Arguments.{arguments as no_arguments, operands as no_operands};
 ghost use Rattle.ec_check_expressions.specs.Expressions.{of_expression, of_assignment, of_conditional, of_binary, of_cast, of_unary};
 ghost use Rattle.ec_check_expressions.specs.Expressions.{of_postfix, of_primary, passed_arguments, passed_further};
 ghost use Rattle.ec_check_expressions.specs.Expressions.{expression_sites, assignment_sites, conditional_sites, binary_sites};
 ghost use Rattle.ec_check_expressions.specs.Expressions.{cast_sites, unary_sites, postfix_sites, primary_sites, arguments_sites};
-ghost use Rattle.ec_check_expressions.specs.Expressions.{further_sites, wanted_for, operation_of, operation_site};
+ghost use Rattle.ec_check_expressions.specs.Expressions.{further_sites, wanted_for, operation_of, operation_sites};
 ghost use Rattle.ec_check_expressions.specs.Callees.{plain_called, called_sites, call_of};
 ghost use Rattle.ec_check_expressions.specs.Known.{IsSound, plain_known};
-ghost use Rattle.ec_check_expressions.specs.Sites.{Site, told, Walked};
+ghost use Rattle.ec_check_expressions.specs.Sites.{Site, on, told, Walked};
 
-use crate::arguments::{Passed, Wanted, operating, passing, wanted_for, wanted_of};
+use crate::arguments::{Passed, Wanted, accessing, grouping, mapping, passing, wanted_of};
 use crate::callees::{Called, call_of, callee, judge_called};
 use crate::counts::{argument_count, further_count};
 use crate::known::Known;
@@ -32,8 +35,8 @@ use ec_check_names::{
 };
 use ec_check_operands::{Faults, Operand};
 use ec_grammar::{
-    Argument, Arguments, Assignment, Binary, Cast, Conditional, Expression, Identifier, Operation,
-    Postfix, Primary, Unary,
+    Argument, Arguments, Assignment, Binary, Cast, Conditional, Expression, GroupOp, Identifier,
+    IoOp, Operation, Postfix, Primary, Unary,
 };
 use ec_space::NoMemory;
 use std::alloc::Global;
@@ -420,17 +423,77 @@ fn operation(
     requires { IsSound (plain_known known.now) }
     ensures { let k = plain_known known.now in let u = views_further more.now in let w = wanted_for op in
         IfOk result (λ x. Walked faults.old.least faults.new.least
-        (λ rest. further_sites k w 1 u (operation_site k op n.now.name.items (further_count u) at ∷ rest))
-        (option_map plain_operand x)
-        (operation_of k op n.now.name.items (further_count u)
-        (passed_further k w (no_operands None None) 1 u))) }
+        (operation_sites k op n.now.name.items u at (further_sites k w 1 u)) (option_map plain_operand x)
+        (operation_of k op n.now.name.items u (passed_further k w (no_operands None None) 1 u))) }
+{
+    match op {
+        Operation::Port(op) => port_operation(alloc, known, faults, op, n, more, at),
+        Operation::Group(GroupOp::Acquire) => {
+            group_operation(alloc, known, faults, true, n, more, at)
+        }
+        Operation::Group(GroupOp::Release) => {
+            group_operation(alloc, known, faults, false, n, more, at)
+        }
+        Operation::Group(GroupOp::Map) => Ok(mapping(known, faults, n, more, at)),
+    }
+}
+
+/// An operation on a port.
+#[cycle(walk)]
+fn port_operation(
+    alloc: Global,
+    known: &Known,
+    faults: &mut Faults,
+    op: IoOp,
+    n: &Identifier,
+    more: &[Argument],
+    at: u32,
+) -> Result<Option<Operand>, NoMemory>
+    requires { IsSound (plain_known known.now) }
+    ensures { let k = plain_known known.now in let u = views_further more.now in let w = port_operands op in
+        let p = port_named k.ports n.now.name.items in
+        IfOk result (λ x. Walked faults.old.least faults.new.least
+        (λ rest. further_sites k w 1 u (on (a_port op p (further_count u) at) ∷ rest)) (option_map plain_operand x)
+        (access_of k.modes op p (further_count u) (passed_further k w (no_operands None None) 1 u))) }
 {
     let mut args = Passed::no_operands();
-    match further(alloc, known, faults, &wanted_for(op), &mut args, more) {
-        Ok(()) => operating(alloc, known, faults, op, n, further_count(more), args, at),
+    match further(
+        alloc,
+        known,
+        faults,
+        &Wanted::PortOperands(op),
+        &mut args,
+        more,
+    ) {
+        Ok(()) => accessing(alloc, known, faults, op, n, further_count(more), args, at),
         Err(e) => {
             drop(args);
             Err(e)
         }
     }
+}
+
+/// An acquire or a release.
+#[cycle(walk)]
+fn group_operation(
+    alloc: Global,
+    known: &Known,
+    faults: &mut Faults,
+    acquire: bool,
+    n: &Identifier,
+    more: &[Argument],
+    at: u32,
+) -> Result<Option<Operand>, NoMemory>
+    requires { IsSound (plain_known known.now) }
+    ensures { let k = plain_known known.now in let u = views_further more.now in
+        let g = group_named k.ports n.now.name.items in
+        IfOk result (λ x. Walked faults.old.least faults.new.least
+        (λ rest. further_sites k nothing 1 u (on (a_group g (further_count u) at) ∷ rest)) (option_map plain_operand x)
+        (group_operation_of k.modes acquire g (further_count u))) }
+{
+    let mut args = Passed::no_operands();
+    let walked = further(alloc, known, faults, &Wanted::Nothing, &mut args, more);
+    drop(args);
+    walked?;
+    Ok(grouping(known, faults, acquire, n, further_count(more), at))
 }

@@ -1,5 +1,5 @@
 -- Each test of operands decides what its constraint says.
-use Rattle.std.proofs.Common.{◌≡◌, ℕ, Bool, true, false, List, refl, sym, subst, inl, inr}
+use Rattle.std.proofs.Common.{◌≡◌, ℕ, Bool, true, false, List, refl, subst, inl, inr}
 use Rattle.std.specs.Prelude.{◌⊎◌, ◌≢◌, ◌==◌, not, ◌&&◌, ◌||◌, if◌then◌else◌, is_some, is_none, Option, Some, None}
 use Rattle.std.specs.Bool.{Decides}
 use Rattle.std.proofs.lemmas.Bool.{false≢true, not-true, not_from_false}
@@ -15,10 +15,10 @@ use Rattle.ec_core.specs.Laws.{TypesAreTold}
 use Rattle.ec_core.specs.Operators.{same_type}
 use Rattle.ec_core.specs.Plain.{PlainType, void, integer, fixed, pointer, array, struct, PlainStruct}
 use Rattle.ec_core.specs.PortOperations.{PortOperation}
-use Rattle.ec_check_forms.specs.declared.ports.GroupAction.{GroupAction}
-use Rattle.ec_check_forms.specs.declared.ports.GroupAction.TheVariants.{Acquire, Release, Map}
+use Rattle.ec_check_forms.specs.declared.ports.Binding.{Binding}
+use Rattle.ec_check_forms.specs.declared.ports.NamedGroup.{NamedGroup}
 use Rattle.ec_check_forms.specs.declared.ports.NamedPort.{NamedPort}
-use Rattle.ec_check_forms.specs.Calls.{is_map, too_wide}
+use Rattle.ec_check_forms.specs.Calls.{too_wide}
 use Rattle.ec_check_forms.specs.Constraints.{IsInteger, IsArithmetic, IsPointer, IsScalar, IsStruct, IsAggregate, HasOneByte}
 use Rattle.ec_check_forms.specs.Constraints.{PointToOneType, LeavesSpace, LosesConst, HaveNestedSpaces, ArePointerAndNull, AreApart}
 use Rattle.ec_check_forms.specs.Constraints.{SuitsAlone, SuitTogether, DoNotSuit, IsEquality, IsComparison, AreComparable, AreIncomparable}
@@ -382,14 +382,11 @@ count_told m n = differs m n
 pub no_port_told : (port : Option NamedPort) (count n : ℕ) → Decides (is_none port || not (count == n)) ((port ≡ None) ⊎ (count ≢ n))
 no_port_told port count n = Decides-or (is_none port) (not (count == n)) (is_absent port) (differs count n)
 
-maps : (action : GroupAction) → Decides (is_map action) (action ≡ Map)
-maps Acquire = no (λ h. cc)
-maps Release = no (λ h. cc)
-maps Map = yes refl
+pub no_group_told : (g : Option NamedGroup) (count : ℕ) → Decides (is_none g || not (count == 0)) ((g ≡ None) ⊎ (count ≢ 0))
+no_group_told g count = Decides-or (is_none g) (not (count == 0)) (is_absent g) (differs count 0)
 
-pub no_group_told : (action : GroupAction) (g : Option ℕ) (count : ℕ)
-    → Decides (is_map action || is_none g || not (count == 0)) ((action ≡ Map) ⊎ ((g ≡ None) ⊎ (count ≢ 0)))
-no_group_told action g count = one_of_three (is_map action) (is_none g) (not (count == 0)) (maps action) (is_absent g) (differs count 0)
+pub no_binding_told : (b : Option Binding) → Decides (is_none b) (b ≡ None)
+no_binding_told b = is_absent b
 
 pub wide_told : (op : PortOperation) (port : Option NamedPort) → Decides (too_wide op port) (IsWide port × (op.long ≡ false))
 wide_told op None = no (λ h. h.0)

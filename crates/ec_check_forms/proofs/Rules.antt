@@ -1,13 +1,12 @@
 -- What the rules of a place tell is exactly what breaks a constraint there.
 use Rattle.std.proofs.Common.{◌≡◌, ℕ, true, false, refl, inl, inr}
-use Rattle.std.specs.Prelude.{◌⊎◌, ◌↔◌, Option, Some, None}
+use Rattle.std.specs.Prelude.{Option, Some, None}
 use Rattle.std.proofs.lemmas.Bool.{false≢true, true≢false}
 use Rattle.ec_check_operands.specs.declared.faults.Fault.{Fault}
 use Rattle.ec_check_operands.specs.Laws.{IsTold}
 use Rattle.ec_core.specs.Laws.{TypesAreTold}
 use Rattle.ec_core.specs.Plain.{PlainType}
 use Rattle.ec_core.specs.PortOperations.{port_operation}
-use Rattle.ec_check_forms.specs.declared.calls.Meant.{Meant}
 use Rattle.ec_check_forms.specs.declared.calls.Meant.TheVariants.{Undeclared, Undefined, Object, Function}
 use Rattle.ec_check_forms.specs.declared.prefixes.PrefixOp.TheVariants.{Address, Deref, Plus, Minus, Invert, Not}
 use Rattle.ec_check_forms.specs.Calls.{operand_count}
@@ -24,12 +23,13 @@ use Rattle.ec_check_operands.specs.Operands.{Operand}
 use Rattle.ec_check_operands.specs.Passing.{passing_rules}
 use Rattle.ec_check_forms.specs.Sites.{Site, a_name, a_function, a_callee, a_call, a_use, a_part, a_condition, an_operation, a_logical}
 use Rattle.ec_check_forms.specs.Sites.{a_prefix, a_step, an_index, a_member, an_assignment, a_compound, a_passing, a_choice, a_cast, a_port}
-use Rattle.ec_check_forms.specs.Sites.{a_group, rules_at}
+use Rattle.ec_check_forms.specs.Sites.{a_group, a_binding, rules_at}
 use Rattle.ec_check_forms.proofs.Decided.{unsuited_told, incomparable_told, meet_apart_told, no_alternatives_told, chosen_apart_told}
 use Rattle.ec_check_forms.proofs.Decided.{no_scalar_told, no_index_told, void_used_told, struct_part_told, not_arithmetic_told}
 use Rattle.ec_check_forms.proofs.Decided.{not_integer_told, not_pointer_told, unassigned_told, const_told, value_told, register_told}
 use Rattle.ec_check_forms.proofs.Decided.{pointer_added_told, passing_told, out_of_space_told, out_of_const_told, no_cast_told}
-use Rattle.ec_check_forms.proofs.Decided.{no_base_told, no_member_told, count_told, no_port_told, no_group_told, wide_told}
+use Rattle.ec_check_forms.proofs.Decided.{no_base_told, no_member_told, count_told, no_port_told, no_group_told, no_binding_told}
+use Rattle.ec_check_forms.proofs.Decided.{wide_told}
 
 -- ---- what is told breaks a constraint
 
@@ -128,8 +128,10 @@ told_breaks told (a_port op port count at) f (inl (b, a, r)) =
 told_breaks told (a_port op port count at) f (inr (inl (b, a, r))) =
     let w = (wide_told (port_operation op) port).0 b in wide_port r (w.0, w.1, a)
 told_breaks told (a_port op port count at) f (inr (inr h)) = absurd h
-told_breaks told (a_group action g count at) f (inl (b, a, r)) = no_port r ((no_group_told action g count).0 b, a)
-told_breaks told (a_group action g count at) f (inr h) = absurd h
+told_breaks told (a_group g count at) f (inl (b, a, r)) = no_port r ((no_group_told g count).0 b, a)
+told_breaks told (a_group g count at) f (inr h) = absurd h
+told_breaks told (a_binding b at) f (inl (c, a, r)) = no_port r ((no_binding_told b).0 c, a)
+told_breaks told (a_binding b at) f (inr h) = absurd h
 
 -- ---- a constraint that is broken is told
 
@@ -249,7 +251,8 @@ told_35 s f r h = absurd h
 told_36 : (s : Site) (f : Fault) → f.rule ≡ 36 → NamesNoPort s f.at → IsTold (rules_at s) f
 told_36 (a_port op port count at) f r h =
     inl ((no_port_told port count (operand_count (port_operation op))).1 h.0, h.1, r)
-told_36 (a_group action g count at) f r h = inl ((no_group_told action g count).1 h.0, h.1, r)
+told_36 (a_group g count at) f r h = inl ((no_group_told g count).1 h.0, h.1, r)
+told_36 (a_binding b at) f r h = inl ((no_binding_told b).1 h.0, h.1, r)
 told_36 s f r h = absurd h
 
 told_37 : (s : Site) (f : Fault) → f.rule ≡ 37 → NamesWidePort s f.at → IsTold (rules_at s) f

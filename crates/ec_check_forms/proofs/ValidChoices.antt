@@ -1,10 +1,10 @@
 -- What `?:` makes of valid operands is valid, and so are names and constants.
 use Rattle.std.proofs.Common.{◌≡◌, ◌<◌, ℕ, Bool, true, false, not, ◌&&◌, ◌||◌, refl, sym, ap, ◌∙◌, subst, inl, inr}
-use Rattle.std.specs.Prelude.{if◌then◌else◌, ◌==◌, ◌⊎◌, ⊤, ℤ, pos, List, Option, Some, None, IsSomeAnd, option_map, unwrap_or, slice_get}
+use Rattle.std.specs.Prelude.{if◌then◌else◌, ◌==◌, ◌⊎◌, ⊤, List, Option, Some, None, IsSomeAnd, option_map, unwrap_or, slice_get}
 use Rattle.std.specs.Prelude.{length, IsTrue}
-use Rattle.std.proofs.lemmas.Bool.{and_parts, and_from, or_parts, eq-eqb, not-false, false≢true, true≢false, both_ways}
-use Rattle.ec_fx.specs.declared.formats.FxKind.{FxKind}
+use Rattle.std.proofs.lemmas.Bool.{and_parts, and_from, or_parts, eq-eqb, not-false, false≢true, both_ways}
 use Rattle.ec_iohw.specs.declared.operations.IoOp.{IoOp}
+use Rattle.ec_iohw.specs.declared.table.Dynamic.{Dynamic}
 use Rattle.ec_iohw.specs.declared.table.IoTable.{IoTable}
 use Rattle.ec_iohw.specs.declared.table.Port.{Port}
 use Rattle.ec_space.specs.declared.space.SpaceId.{SpaceId}
@@ -12,37 +12,38 @@ use Rattle.ec_space.specs.Spaces.{join, encloses}
 use Rattle.ec_core.specs.declared.arithmetic_types.Arithmetic.{Arithmetic}
 use Rattle.ec_core.specs.declared.arithmetic_types.Arithmetic.TheVariants.{Integer, Fixed}
 use Rattle.ec_core.specs.ArithmeticTypes.{type_of, common}
-use Rattle.ec_core.specs.ArithmeticValues.{HoldsNumber}
 use Rattle.ec_core.specs.Laws.{TypesAreTold}
 use Rattle.ec_core.specs.Layout.{IsScalar}
 use Rattle.ec_core.specs.Operators.{same_type}
-use Rattle.ec_core.specs.Plain.{PlainType, void, integer, fixed, pointer, array, struct, PlainStruct, PlainObject, PlainExpr, PlainNode}
-use Rattle.ec_core.specs.Plain.{PlainStorage, null, number, convert, conditional, call, io, group, object, PlainExprs, PlainFunction}
-use Rattle.ec_core.specs.Plain.{PlainProgram}
+use Rattle.ec_core.specs.Plain.{PlainType, void, integer, fixed, pointer, array, struct, PlainStruct, PlainObject, PlainExpr}
+use Rattle.ec_core.specs.Plain.{PlainStorage, null, convert, conditional, call, io, group, bind, dynamic_group}
+use Rattle.ec_core.specs.Plain.{PlainFunction, PlainProgram}
 use Rattle.ec_core.specs.PortOperations.{PortAction, reads, writes, updates, PortOperation, port_operation, takes_value}
 use Rattle.ec_core.specs.TypeLaws.{UsualConversions}
 use Rattle.ec_core.specs.Typing.{unsigned_int, unsigned_long, type_of_expr, AreConvertible, IsBranchType, IsOperandIf, port_value}
 use Rattle.ec_core.specs.Typing.{port_result, AreArguments}
-use Rattle.ec_core.specs.Valid.{IsExprType, ValidExpr, ValidOption, ValidExprs, IsNamedIn, IsAddressable, IsScalarOrVoid}
+use Rattle.ec_core.specs.Valid.{IsExprType, ValidExpr, ValidOption, IsNamedIn, IsAddressable, IsScalarOrVoid}
 use Rattle.ec_check_operands.specs.declared.operands.Modes.{Modes}
-use Rattle.ec_check_forms.specs.declared.ports.GroupAction.{GroupAction}
+use Rattle.ec_check_forms.specs.declared.ports.Binding.{Binding}
+use Rattle.ec_check_forms.specs.declared.ports.NamedGroup.{NamedGroup}
+use Rattle.ec_check_forms.specs.declared.ports.NamedGroup.TheVariants as groups
 use Rattle.ec_check_forms.specs.declared.ports.NamedPort.{NamedPort}
-use Rattle.ec_check_forms.specs.declared.ports.GroupAction.TheVariants.{Acquire, Release, Map}
-use Rattle.ec_check_forms.specs.Calls.{called, optional, fits, is_too_wide, accessed, whole_constant, fixed_constant, grouped}
-use Rattle.ec_check_forms.specs.Calls.{group_operation}
+use Rattle.ec_check_forms.specs.Calls.{optional, fits, is_too_wide, accessed, group_node}
+use Rattle.ec_check_forms.specs.Calls.{binding_operation}
 use Rattle.ec_check_forms.specs.Constraints.{IsInteger, IsArithmetic, IsPointer, IsScalar as IsScalarKind, PointToOneType}
 use Rattle.ec_check_forms.specs.Constraints.{ArePointerAndNull, AreAlternatives}
 use Rattle.ec_check_forms.specs.Nodes.{condition}
-use Rattle.ec_check_forms.specs.Choices.{alternatives, pointer_between, type_between, choice_type, chosen}
-use Rattle.ec_check_operands.specs.Operands.{Operand, place, value, made, value_type, as_value, is_null, converted, valued, with_one}
+use Rattle.ec_check_forms.specs.Choices.{alternatives, pointer_between, type_between, chosen}
+use Rattle.ec_check_operands.specs.Operands.{Operand, made, value_type, as_value, is_null, converted, valued, with_one}
 use Rattle.ec_check_operands.specs.Operands.{with_both}
 use Rattle.ec_check_operands.specs.Operators.{meeting}
 use Rattle.ec_check_operands.specs.Passing.{in_type}
 use Rattle.ec_check_operands.specs.Sorts.{is_void, is_pointer, is_struct}
-use Rattle.ec_check_forms.specs.Validity.{IsUsable, IsPlaceType, IsOperand, IsOptional, IsOfType, IsCondition, NamesAreOperands}
+use Rattle.ec_check_forms.specs.Validity.{IsUsable, IsOperand, IsOptional, IsOfType, IsCondition, IsInTable}
+use Rattle.ec_check_forms.specs.Validity.{NamesAreOperands}
 use Rattle.ec_check_forms.proofs.Decided.{voids, alternating}
 use Rattle.ec_check_forms.proofs.ValidNumbers.{is_scalar, convertible}
-use Rattle.ec_check_forms.proofs.ValidOperands.{if_both, expr_type_of, known_type, known_usable, IsGood, Reaches, value_types_agree}
+use Rattle.ec_check_forms.proofs.ValidOperands.{if_both, expr_type_of, known_type, known_usable, Reaches, value_types_agree}
 use Rattle.ec_check_forms.proofs.ValidOperands.{good_value, valued_good, null_integer, in_type_valid, scalar_value, condition_valid}
 use Rattle.ec_check_forms.proofs.ValidOperations.{two_pointers, encloses_itself, integer_arithmetic}
 
@@ -265,16 +266,20 @@ returned : (p : PlainProgram) (ty : PlainType) → IsScalarOrVoid ty → IsUsabl
 returned p ty (inl s) u = expr_type_of p ty s u
 returned p ty (inr e) u = subst (λ (z : PlainType). IsExprType p z) (sym e) tt
 
-group_made : (p : PlainProgram) (table : IoTable) (f : ℕ) (m : Modes) (acquire : Bool) (g : ℕ) → g < length table.groups.items
-    → IsOptional p table f (valued (made m void (group acquire g)))
-group_made p table f m acquire g h =
-    valued_good p table f (made m void (group acquire g)) (record { valid = (tt, (h, refl), tt); usable = tt })
+group_valid : (p : PlainProgram) (table : IoTable) (f : ℕ) (m : Modes) (acquire : Bool) (g : NamedGroup) → IsInTable table g
+    → IsOptional p table f (valued (made m void (group_node acquire g)))
+group_valid p table f m acquire (groups.Group n) h =
+    valued_good p table f (made m void (group acquire n)) (record { valid = (tt, (h, refl), tt); usable = tt })
+group_valid p table f m acquire (groups.Dynamic n) h =
+    valued_good p table f (made m void (dynamic_group acquire n)) (record { valid = (tt, (h, refl), tt); usable = tt })
 
-group_valid : (p : PlainProgram) (table : IoTable) (f : ℕ) (m : Modes) (action : GroupAction) (g : ℕ) → g < length table.groups.items
-    → IsOptional p table f (grouped m action g)
-group_valid p table f m Acquire g h = group_made p table f m true g h
-group_valid p table f m Release g h = group_made p table f m false g h
-group_valid p table f m Map g h = tt
+binding_valid : (p : PlainProgram) (table : IoTable) (f : ℕ) (m : Modes) (b : Binding) (d : Dynamic)
+    → slice_get table.dynamics.items b.dynamic ≡ Some d → b.choice < length d.choices.items
+    → IsOptional p table f (binding_operation m (Some b))
+binding_valid p table f m b d e h =
+    let there : IsSomeAnd (slice_get table.dynamics.items b.dynamic) (λ x. b.choice < length x.choices.items) =
+    subst (λ (o : Option Dynamic). IsSomeAnd o (λ x. b.choice < length x.choices.items)) (sym e) h in
+    valued_good p table f (made m void (bind b.dynamic b.choice)) (record { valid = (tt, (there, refl), tt); usable = tt })
 
 taken : (p : PlainProgram) (table : IoTable) (f : ℕ) (wanted : Bool) (ty : PlainType) (e : Option PlainExpr) → fits wanted e ≡ true
     → IsOfType p table f ty e → IsOperandIf wanted ty (optional e) × ValidOption p table f (optional e)
@@ -359,8 +364,10 @@ names_are_operands p table f = record {
   wholes = λ m signed bytes n h. record { valid = (h.0, h, tt); usable = h.0; null = λ z. tt };
   fixeds = λ m kind n h. record { valid = (tt, h, tt); usable = tt; null = λ z. absurd (false≢true z) };
   ports = λ m op n port index v e w i t. port_valid p table f m op n port index v e w i t;
-  groups = λ m action g count h.
-      if_both (IsOptional p table f) (count == 0) (grouped m action g) None (λ z. group_valid p table f m action g h) (λ z. tt);
+  groups = λ m acquire g count h.
+      if_both (IsOptional p table f) (count == 0) (valued (made m void (group_node acquire g))) None
+      (λ z. group_valid p table f m acquire g h) (λ z. tt);
+  bindings = λ m b d e h. binding_valid p table f m b d e h;
 }
   where
     named : (storage : PlainStorage) (register : Bool) (ty : PlainType) (o : ℕ) (x : PlainObject) → slice_get p.objects o ≡ Some x

@@ -1,10 +1,11 @@
 -- Names, calls, operations on ports and groups, sizes and constants, and what these break (ISO/IEC 9899:1999, 6.4.4,
 -- 6.5.1, 6.5.2.2 and 6.5.3.4; ISO/IEC TR 18037:2008, 6.2).
 use Rattle.std.specs.Prelude.{ℕ, ◌+◌, ◌==◌, ℤ, pos, Bool, true, false, not, ◌&&◌, ◌||◌, if◌then◌else◌, is_some, is_none}
-use Rattle.std.specs.Prelude.{Option, Some, None, option_map, List, [], ◌∷◌, slice_get}
+use Rattle.std.specs.Prelude.{Option, Some, None, option_map, List, [], ◌∷◌, slice_get, position}
 use Rattle.ec_check_operands.specs.Faults.{Judgement, rule}
 use Rattle.ec_fx.specs.declared.formats.FxKind.{FxKind}
 use Rattle.ec_iohw.specs.declared.operations.IoOp.{IoOp}
+use Rattle.ec_iohw.specs.declared.table.Choice.{Choice}
 use Rattle.ec_iohw.specs.declared.table.Designator.{Designator}
 use Rattle.ec_iohw.specs.declared.table.Designator.TheVariants as designators
 use Rattle.ec_iohw.specs.declared.table.IoTable.{IoTable}
@@ -12,17 +13,18 @@ use Rattle.ec_iohw.specs.Names.{designated}
 use Rattle.ec_core.specs.Layout.{size_of_type}
 use Rattle.ec_core.specs.Operators.{same_bool}
 use Rattle.ec_core.specs.Plain.{PlainType, void, integer, fixed, PlainStruct, PlainExpr, PlainNode, number, call, io}
-use Rattle.ec_core.specs.Plain.{group}
+use Rattle.ec_core.specs.Plain.{group, bind, dynamic_group}
 use Rattle.ec_core.specs.Plain.{OptionPlainExpr, no_expr, an_expr, PlainExprs}
 use Rattle.ec_core.specs.PortOperations.{PortOperation, port_operation, takes_value}
 use Rattle.ec_core.specs.Typing.{unsigned_int, port_value, port_result}
 use Rattle.ec_check_forms.specs.declared.calls.Meant.{Meant}
-use Rattle.ec_check_forms.specs.declared.calls.Meant.TheVariants.{Undeclared, Undefined, Object, Function}
+use Rattle.ec_check_forms.specs.declared.calls.Meant.TheVariants.{Undeclared, Undefined, Function}
 use Rattle.ec_check_operands.specs.declared.operands.Modes.{Modes}
-use Rattle.ec_check_forms.specs.declared.ports.GroupAction.{GroupAction}
-use Rattle.ec_check_forms.specs.declared.ports.GroupAction.TheVariants.{Acquire, Release, Map}
+use Rattle.ec_check_forms.specs.declared.ports.Binding.{Binding}
+use Rattle.ec_check_forms.specs.declared.ports.NamedGroup.{NamedGroup}
+use Rattle.ec_check_forms.specs.declared.ports.NamedGroup.TheVariants.{Group, Dynamic}
 use Rattle.ec_check_forms.specs.declared.ports.NamedPort.{NamedPort}
-use Rattle.ec_check_operands.specs.Operands.{Operand, value, made, valued, with_one}
+use Rattle.ec_check_operands.specs.Operands.{Operand, value, made, valued, with_one, with_both}
 
 -- ---- names
 
@@ -68,6 +70,7 @@ abbrev pub port_at : IoTable → Designator → Option NamedPort
 port_at table (designators.Port n) =
     option_map (λ p. record { number = n; width = p.width }) (slice_get table.ports.items n)
 port_at table (designators.Group n) = None
+port_at table (designators.Dynamic n) = None
 
 abbrev pub port_named : IoTable → List ℕ → Option NamedPort
 port_named table name = with_one (designated table name false) (port_at table)
@@ -117,28 +120,48 @@ accessed m op index v p =
 
 -- ---- groups
 
--- the group with a name
-abbrev pub group_at : Designator → Option ℕ
+-- the group or the dynamic group with a name
+abbrev pub group_at : Designator → Option NamedGroup
 group_at (designators.Port n) = None
-group_at (designators.Group n) = Some n
+group_at (designators.Group n) = Some (Group n)
+group_at (designators.Dynamic n) = Some (Dynamic n)
 
-abbrev pub group_named : IoTable → List ℕ → Option ℕ
+abbrev pub group_named : IoTable → List ℕ → Option NamedGroup
 group_named table name = with_one (designated table name true) group_at
 
-abbrev pub is_map : GroupAction → Bool
-is_map Map = true
-is_map action = false
+abbrev pub group_rules : Option NamedGroup → (count : ℕ) → ℕ → List Judgement
+group_rules g count at = rule 36 (is_none g || not (count == 0)) at ∷ []
 
-abbrev pub group_rules : GroupAction → Option ℕ → (count : ℕ) → ℕ → List Judgement
-group_rules action g count at = rule 36 (is_map action || is_none g || not (count == 0)) at ∷ []
+abbrev pub group_node : (acquire : Bool) → NamedGroup → PlainNode
+group_node acquire (Group n) = group acquire n
+group_node acquire (Dynamic n) = dynamic_group acquire n
 
-abbrev pub grouped : Modes → GroupAction → ℕ → Option Operand
-grouped m Acquire g = valued (made m void (group true g))
-grouped m Release g = valued (made m void (group false g))
-grouped m Map g = None
+-- an acquire or a release
+abbrev pub group_operation : Modes → (acquire : Bool) → Option NamedGroup → (count : ℕ) → Option Operand
+group_operation m acquire g count =
+    if count == 0 then with_one g (λ n. valued (made m void (group_node acquire n))) else None
 
-abbrev pub group_operation : Modes → GroupAction → Option ℕ → (count : ℕ) → Option Operand
-group_operation m action g count = if count == 0 then with_one g (grouped m action) else None
+-- ---- bindings
+
+-- the first choice that is of a group
+abbrev pub choice_of : List Choice → (group : ℕ) → Option ℕ
+choice_of choices g = position (λ c. c.group == g) choices
+
+abbrev pub bound_to : IoTable → NamedGroup → NamedGroup → Option Binding
+bound_to table (Dynamic d) (Group g) =
+    with_one (slice_get table.dynamics.items d) (λ x.
+    option_map (λ c. record { dynamic = d; choice = c }) (choice_of x.choices.items g))
+bound_to table d g = None
+
+-- what is bound where a dynamic group with a name is mapped to the group with another
+abbrev pub binding_named : IoTable → (dynamic group : List ℕ) → Option Binding
+binding_named table d g = with_both (group_named table d) (group_named table g) (bound_to table)
+
+abbrev pub binding_rules : Option Binding → ℕ → List Judgement
+binding_rules b at = rule 36 (is_none b) at ∷ []
+
+abbrev pub binding_operation : Modes → Option Binding → Option Operand
+binding_operation m b = with_one b (λ x. valued (made m void (bind x.dynamic x.choice)))
 
 -- ---- sizes and constants
 

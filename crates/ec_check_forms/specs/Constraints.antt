@@ -1,7 +1,7 @@
 -- The constraints on operands, each a predicate of a place where rules are judged and the token where it is told
 -- (ISO/IEC 9899:1999, 6.5; ISO/IEC TR 18037:2008, 4.1, 5.1 and 6.2; factors of one byte, spaces and ports are this
 -- project's profile). A constraint that speaks of one operand holds of it whatever the others are.
-use Rattle.std.specs.Prelude.{ℕ, ◌≡◌, ◌≢◌, ◌⊎◌, Bool, true, false, ⊤, IsTrue, Option, Some, None, List, slice_get}
+use Rattle.std.specs.Prelude.{ℕ, ◌≡◌, ◌≢◌, ◌⊎◌, Bool, true, false, ⊤, Option, Some, None, List}
 use Rattle.ec_check_operands.specs.declared.faults.Fault.{Fault}
 use Rattle.ec_fx.specs.Formats.{format_of}
 use Rattle.ec_space.specs.Spaces.{Encloses}
@@ -11,8 +11,6 @@ use Rattle.ec_core.specs.declared.expressions.BinOp.TheVariants.{Lt, Gt, Le, Ge,
 use Rattle.ec_core.specs.Plain.{PlainType, void, integer, fixed, pointer, array, struct, PlainStruct}
 use Rattle.ec_core.specs.PortOperations.{port_operation}
 use Rattle.ec_check_forms.specs.declared.calls.Meant.TheVariants.{Undeclared, Undefined, Function}
-use Rattle.ec_check_forms.specs.declared.ports.GroupAction.{GroupAction}
-use Rattle.ec_check_forms.specs.declared.ports.GroupAction.TheVariants.{Map}
 use Rattle.ec_check_forms.specs.declared.ports.NamedPort.{NamedPort}
 use Rattle.ec_check_forms.specs.declared.prefixes.PrefixOp.TheVariants.{Address, Deref, Plus, Minus, Invert, Not}
 use Rattle.ec_check_forms.specs.Calls.{operand_count}
@@ -23,7 +21,7 @@ use Rattle.ec_check_forms.specs.Sites.{Site, a_name, a_function, a_callee, a_cal
 use Rattle.ec_check_forms.specs.Sites.{an_operation}
 use Rattle.ec_check_forms.specs.Sites.{a_logical, a_prefix, a_step, an_index, a_member, an_assignment, a_compound}
 use Rattle.ec_check_forms.specs.Sites.{a_passing}
-use Rattle.ec_check_forms.specs.Sites.{a_choice, a_cast, a_port, a_group}
+use Rattle.ec_check_forms.specs.Sites.{a_choice, a_cast, a_port, a_group, a_binding}
 
 -- ---- types
 
@@ -358,11 +356,13 @@ abbrev pub NamesNoMember : Site → (token : ℕ) → Type 0
 NamesNoMember (a_member structs name arrow x at name_at) token = HasNoMember structs name arrow x × (token ≡ name_at)
 NamesNoMember s token = ⊥
 
--- 36: an operation names no port or no group, has the wrong number of operands, or is `iogroup_map`
+-- 36: an operation names no port, or neither a group nor a dynamic group, or has the wrong number of operands; or
+-- `iogroup_map` binds nothing
 abbrev pub NamesNoPort : Site → (token : ℕ) → Type 0
 NamesNoPort (a_port op port count at) token =
     ((port ≡ None) ⊎ (count ≢ operand_count (port_operation op))) × (token ≡ at)
-NamesNoPort (a_group action g count at) token = ((action ≡ Map) ⊎ ((g ≡ None) ⊎ (count ≢ 0))) × (token ≡ at)
+NamesNoPort (a_group g count at) token = ((g ≡ None) ⊎ (count ≢ 0)) × (token ≡ at)
+NamesNoPort (a_binding b at) token = (b ≡ None) × (token ≡ at)
 NamesNoPort s token = ⊥
 
 -- 37: an operation that is not long names a port of width 4

@@ -7,10 +7,12 @@ use Rattle.ec_iohw.specs.declared.operations.IoOp.{IoOp}
 use Rattle.ec_core.specs.declared.expressions.BinOp.{BinOp}
 use Rattle.ec_core.specs.Plain.{PlainType, PlainStruct}
 use Rattle.ec_check_forms.specs.declared.calls.Meant.{Meant}
-use Rattle.ec_check_forms.specs.declared.ports.GroupAction.{GroupAction}
+use Rattle.ec_check_forms.specs.declared.ports.Binding.{Binding}
+use Rattle.ec_check_forms.specs.declared.ports.NamedGroup.{NamedGroup}
 use Rattle.ec_check_forms.specs.declared.ports.NamedPort.{NamedPort}
 use Rattle.ec_check_forms.specs.declared.prefixes.PrefixOp.{PrefixOp}
 use Rattle.ec_check_forms.specs.Calls.{name_rules, function_rules, callee_rules, call_rules, port_rules, group_rules}
+use Rattle.ec_check_forms.specs.Calls.{binding_rules}
 use Rattle.ec_check_forms.specs.Nodes.{use_rules, part_rules, condition_rules, prefix_rules, assignment_rules}
 use Rattle.ec_check_forms.specs.Nodes.{compound_rules, step_rules}
 use Rattle.ec_check_forms.specs.Accesses.{index_rules, member_rules}
@@ -59,8 +61,10 @@ pub data Site : Type 0 where
   a_cast : Option PlainType → Option Operand → (at : ℕ) → Site
   -- an operation on a port and with so many operands behind it, at the operation's name
   a_port : IoOp → Option NamedPort → (count : ℕ) → (at : ℕ) → Site
-  -- an operation on a group, alike
-  a_group : GroupAction → Option ℕ → (count : ℕ) → (at : ℕ) → Site
+  -- an acquire or a release, alike
+  a_group : Option NamedGroup → (count : ℕ) → (at : ℕ) → Site
+  -- `iogroup_map` with what it binds, at the operation's name
+  a_binding : Option Binding → (at : ℕ) → Site
 
 -- the rules that are judged there
 abbrev pub rules_at : Site → List Judgement
@@ -83,7 +87,8 @@ rules_at (a_passing x to at) = passing_rules x to at
 rules_at (a_choice c x y at) = choice_rules c x y at
 rules_at (a_cast to x at) = cast_rules to x at
 rules_at (a_port op port count at) = port_rules op port count at
-rules_at (a_group action g count at) = group_rules action g count at
+rules_at (a_group g count at) = group_rules g count at
+rules_at (a_binding b at) = binding_rules b at
 
 -- the least fault of one that is known and those at some sites
 abbrev pub told : Option Fault → List Site → Option Fault

@@ -1,8 +1,9 @@
 -- What a valid program asks of the operands in a body, and that each form makes such an operand of such ones.
 use Rattle.std.specs.Prelude.{ℕ, ◌≡◌, ◌⊎◌, ◌<◌, ◌≤◌, ℤ, pos, Bool, true, false, ⊤, List, length, Option, Some, None}
-use Rattle.std.specs.Prelude.{slice_get, map}
+use Rattle.std.specs.Prelude.{slice_get}
 use Rattle.ec_fx.specs.declared.formats.FxKind.{FxKind}
 use Rattle.ec_iohw.specs.declared.operations.IoOp.{IoOp}
+use Rattle.ec_iohw.specs.declared.table.Dynamic.{Dynamic}
 use Rattle.ec_iohw.specs.declared.table.IoTable.{IoTable}
 use Rattle.ec_iohw.specs.declared.table.Port.{Port}
 use Rattle.ec_space.specs.declared.space.SpaceId.{SpaceId}
@@ -12,15 +13,18 @@ use Rattle.ec_core.specs.ArithmeticValues.{HoldsNumber, is_comparison}
 use Rattle.ec_core.specs.Layout.{IsIntegerSize, IsObjectType, IsScalar, size_of_type}
 use Rattle.ec_core.specs.Plain.{PlainType, void, integer, fixed, pointer, array, struct, PlainStruct, PlainObject}
 use Rattle.ec_core.specs.Plain.{PlainExpr, PlainPlace, object, PlainExprs, PlainFunction, PlainProgram}
-use Rattle.ec_core.specs.PortOperations.{PortOperation, port_operation}
+use Rattle.ec_core.specs.PortOperations.{port_operation}
 use Rattle.ec_core.specs.Typing.{type_of_expr, type_of_member, place_type, place_space, place_is_const, AreArguments}
 use Rattle.ec_core.specs.Typing.{unsigned_int, port_value}
 use Rattle.ec_core.specs.Valid.{IsNamedIn, IsAddressable, HasAddress, IsScalarOrVoid, ValidExpr, ValidPlace, ValidExprs}
 use Rattle.ec_check_operands.specs.declared.operands.Modes.{Modes}
-use Rattle.ec_check_forms.specs.declared.ports.GroupAction.{GroupAction}
+use Rattle.ec_check_forms.specs.declared.ports.Binding.{Binding}
+use Rattle.ec_check_forms.specs.declared.ports.NamedGroup.{NamedGroup}
+use Rattle.ec_check_forms.specs.declared.ports.NamedGroup.TheVariants as groups
 use Rattle.ec_check_forms.specs.declared.ports.NamedPort.{NamedPort}
 use Rattle.ec_check_forms.specs.declared.prefixes.PrefixOp.{PrefixOp}
-use Rattle.ec_check_forms.specs.Calls.{called, accessed, group_operation, size_value, whole_constant, fixed_constant}
+use Rattle.ec_check_forms.specs.Calls.{called, accessed, group_operation, binding_operation, size_value, whole_constant}
+use Rattle.ec_check_forms.specs.Calls.{fixed_constant}
 use Rattle.ec_check_forms.specs.Constraints.{IsInteger, IsArithmetic}
 use Rattle.ec_check_forms.specs.Nodes.{used, used_part, condition, prefixed, stepped, assigned, compounded}
 use Rattle.ec_check_forms.specs.Accesses.{indexed}
@@ -88,6 +92,11 @@ abbrev pub IsCondition : PlainProgram → IoTable → ℕ → Option PlainExpr �
 IsCondition p table f None = ⊤
 IsCondition p table f (Some e) = ValidExpr p table f e × IsScalar (type_of_expr e)
 
+-- the table has a group or a dynamic group with this number
+abbrev pub IsInTable : IoTable → NamedGroup → Type 0
+IsInTable table (groups.Group n) = n < length table.groups.items
+IsInTable table (groups.Dynamic n) = n < length table.dynamics.items
+
 -- ---- the law
 
 -- forms of the program's own objects, functions, ports and constants
@@ -107,8 +116,10 @@ pub record NamesAreOperands (p : PlainProgram) (table : IoTable) (f : ℕ) : Typ
   pub ports : (m : Modes) (op : IoOp) (n : NamedPort) (port : Port) (index v : Option PlainExpr)
       → slice_get table.ports.items n.number ≡ Some port → n.width ≡ port.width → IsOfType p table f unsigned_int index
       → IsOfType p table f (port_value (port_operation op)) v → IsOptional p table f (accessed m op index v n)
-  pub groups : (m : Modes) (action : GroupAction) (g count : ℕ) → g < length table.groups.items
-      → IsOptional p table f (group_operation m action (Some g) count)
+  pub groups : (m : Modes) (acquire : Bool) (g : NamedGroup) (count : ℕ) → IsInTable table g
+      → IsOptional p table f (group_operation m acquire (Some g) count)
+  pub bindings : (m : Modes) (b : Binding) (d : Dynamic) → slice_get table.dynamics.items b.dynamic ≡ Some d
+      → b.choice < length d.choices.items → IsOptional p table f (binding_operation m (Some b))
 
 -- every form of operands; the mode and the operator may be any
 pub record FormsAreOperands (p : PlainProgram) (table : IoTable) (f : ℕ) (m : Modes)

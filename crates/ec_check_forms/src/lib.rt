@@ -27,8 +27,9 @@ pub use laws::{
     rules_are_constraints, sizes_are_valid,
 };
 pub use ports::{
-    GroupAction, NamedPort, access, group_named, group_operation, is_indexed, judge_group,
-    judge_port, operand_count, operand_type, port_named,
+    Binding, NamedGroup, NamedPort, access, binding_named, binding_operation, group_named,
+    group_operation, is_indexed, judge_binding, judge_group, judge_port, operand_count,
+    operand_type, port_named,
 };
 pub use prefixes::{PrefixOp, judge_prefix, prefix};
 pub use uses::{condition, judge_condition, take, take_part};

@@ -1,17 +1,18 @@
 //! Operations on ports and groups (ISO/IEC TR 18037:2008, 6.2).
 ghost use Rattle.std.specs.Prelude.{◌≡◌, IfOk, option_map};
-ghost use Rattle.ec_core.specs.Plain.{void, group as group_of, io as io_of, plain_type, plain_expr};
+ghost use Rattle.ec_core.specs.Plain.{void, io as io_of, plain_type, plain_expr, plain_node};
 ghost use Rattle.ec_core.specs.PortOperations.{port_operation, takes_value};
 ghost use Rattle.ec_core.specs.Typing.{port_value, port_result};
 ghost use Rattle.ec_check_operands.specs.Faults.{all_judged};
 ghost use Rattle.ec_iohw.specs.Valid.{ValidIo};
 ghost use Rattle.ec_check_operands.specs.Operands.{plain_operand, valued as valued_of, made as made_of, with_one};
 ghost use Rattle.ec_check_forms.specs.Calls.{port_named, operand_count, operand_type, is_too_wide, too_wide, port_rules};
-ghost use Rattle.ec_check_forms.specs.Calls.{fits, accessed, optional, group_named, is_map, group_rules, grouped, group_operation};
+ghost use Rattle.ec_check_forms.specs.Calls.{fits, accessed, optional, group_named, group_rules, group_node, group_operation};
+ghost use Rattle.ec_check_forms.specs.Calls.{choice_of, bound_to, binding_named, binding_rules, binding_operation};
 
 use ec_check_operands::{Faults, Modes, Operand, boxed, made, valued};
 use ec_core::{CType, Expr, Node};
-use ec_iohw::{Designator, IoOp, IoTable};
+use ec_iohw::{Choice, Designator, IoOp, IoTable};
 use ec_space::{Name, NoMemory};
 use std::alloc::Global;
 
@@ -24,15 +25,20 @@ pub struct NamedPort {
     pub width: u8,
 }
 
-/// What is done with a group.
+/// What an acquire or a release names, by its place in the table.
 #[derive(Clone, Copy)]
-pub enum GroupAction {
-    /// `iogroup_acquire`
-    Acquire,
-    /// `iogroup_release`
-    Release,
-    /// `iogroup_map`, which no program may use.
-    Map,
+pub enum NamedGroup {
+    Group(u16),
+    Dynamic(u16),
+}
+
+/// What `iogroup_map` binds.
+#[derive(Clone, Copy)]
+pub struct Binding {
+    /// The place of the dynamic group in the table.
+    pub dynamic: u16,
+    /// The place of the group among its choices.
+    pub choice: u16,
 }
 
 // ---- the operations by what they take
@@ -289,47 +295,42 @@ pub fn access(
 
 // ---- groups
 
-/// The group with a name, by its place in the table.
-pub fn group_named(io: &IoTable, name: &Name) -> Option<u16>
+/// The group or the dynamic group with a name.
+pub fn group_named(io: &IoTable, name: &Name) -> Option<NamedGroup>
     requires { ValidIo io.now }
     ensures { result ≡ group_named io.now name.now.items }
 {
     match io.designator(name, true) {
-        Some(Designator::Group(number)) => Some(number),
+        Some(Designator::Group(number)) => Some(NamedGroup::Group(number)),
+        Some(Designator::Dynamic(number)) => Some(NamedGroup::Dynamic(number)),
         Some(Designator::Port(_)) | None => None,
     }
 }
 
-fn is_map(action: GroupAction) -> bool
-    ensures { result ≡ is_map action }
+/// Judges an acquire or a release with so many operands behind the group, which is told at the operation's name.
+pub fn judge_group(faults: &mut Faults, group: Option<NamedGroup>, count: usize, at: u32)
+    ensures { faults.new.least ≡ all_judged faults.old.least (group_rules group count at) }
 {
-    match action {
-        GroupAction::Map => true,
-        GroupAction::Acquire | GroupAction::Release => false,
+    faults.judge(36, group.is_none() || count != 0, at);
+}
+
+fn group_node(acquire: bool, group: NamedGroup) -> Node
+    ensures { plain_node result ≡ group_node acquire group }
+{
+    match group {
+        NamedGroup::Group(group) => Node::Group { acquire, group },
+        NamedGroup::Dynamic(dynamic) => Node::DynGroup { acquire, dynamic },
     }
 }
 
-/// Judges an operation on a group with so many operands behind the group, which is told at the operation's name.
-pub fn judge_group(
-    faults: &mut Faults,
-    action: GroupAction,
-    group: Option<u16>,
-    count: usize,
-    at: u32,
-)
-    ensures { faults.new.least ≡ all_judged faults.old.least (group_rules action group count at) }
-{
-    faults.judge(36, is_map(action) || group.is_none() || count != 0, at);
-}
-
-/// What an operation on a group makes, or None where it breaks a rule.
+/// What an acquire or a release makes, or None where it breaks a rule.
 pub fn group_operation(
     modes: Modes,
-    action: GroupAction,
-    group: Option<u16>,
+    acquire: bool,
+    group: Option<NamedGroup>,
     count: usize,
 ) -> Option<Operand>
-    ensures { option_map plain_operand result ≡ group_operation modes action group count }
+    ensures { option_map plain_operand result ≡ group_operation modes acquire group count }
 {
     let Some(group) = group else {
         return None;
@@ -337,15 +338,59 @@ pub fn group_operation(
     if count != 0 {
         return None;
     }
-    match action {
-        GroupAction::Map => None,
-        GroupAction::Acquire => group_made(modes, true, group),
-        GroupAction::Release => group_made(modes, false, group),
-    }
+    valued(Some(made(modes, CType::Void, group_node(acquire, group))))
 }
 
-fn group_made(modes: Modes, acquire: bool, group: u16) -> Option<Operand>
-    ensures { option_map plain_operand result ≡ valued_of (made_of modes void (group_of acquire group)) }
+// ---- bindings
+
+fn choice_of(choices: &[Choice], group: u16) -> Option<usize>
+    ensures { result ≡ choice_of choices.now group }
 {
-    valued(Some(made(modes, CType::Void, Node::Group { acquire, group })))
+    choices.iter().position(|choice| choice.group == group)
+}
+
+fn bound_to(io: &IoTable, dynamic: NamedGroup, group: NamedGroup) -> Option<Binding>
+    requires { ValidIo io.now }
+    ensures { result ≡ bound_to io.now dynamic group }
+{
+    let (NamedGroup::Dynamic(dynamic), NamedGroup::Group(group)) = (dynamic, group) else {
+        return None;
+    };
+    let choices = &io.dynamics.get(dynamic as usize)?.choices;
+    let choice = choice_of(choices.as_slice(), group)?;
+    Some(Binding {
+        dynamic,
+        choice: choice as u16,
+    })
+}
+
+/// What is bound where a dynamic group with a name is mapped to the group with another: the first choice that is of it.
+pub fn binding_named(io: &IoTable, dynamic: &Name, group: &Name) -> Option<Binding>
+    requires { ValidIo io.now }
+    ensures { result ≡ binding_named io.now dynamic.now.items group.now.items }
+{
+    let dynamic = group_named(io, dynamic)?;
+    let group = group_named(io, group)?;
+    bound_to(io, dynamic, group)
+}
+
+/// Judges a mapping, which is told at the operation's name.
+pub fn judge_binding(faults: &mut Faults, binding: Option<Binding>, at: u32)
+    ensures { faults.new.least ≡ all_judged faults.old.least (binding_rules binding at) }
+{
+    faults.judge(36, binding.is_none(), at);
+}
+
+/// What a mapping makes, or None where it breaks a rule.
+pub fn binding_operation(modes: Modes, binding: Option<Binding>) -> Option<Operand>
+    ensures { option_map plain_operand result ≡ binding_operation modes binding }
+{
+    let Some(binding) = binding else {
+        return None;
+    };
+    let node = Node::Bind {
+        dynamic: binding.dynamic,
+        choice: binding.choice,
+    };
+    valued(Some(made(modes, CType::Void, node)))
 }

@@ -8,7 +8,7 @@ use Rattle.ec_core.specs.Integers.{truth}
 use Rattle.ec_core.specs.Operators.{number_type, then_with}
 use Rattle.ec_core.specs.Plain.{PlainType, void, integer, fixed, pointer, array, struct, PlainExpr, expression, PlainNode, number, null}
 use Rattle.ec_core.specs.Plain.{load, address_of, unary, binary, convert, assign, compound, step, logical_not, logical_and, logical_or}
-use Rattle.ec_core.specs.Plain.{conditional, comma, call, io, group}
+use Rattle.ec_core.specs.Plain.{conditional, comma, call, io, group, bind, dynamic_group}
 use Rattle.ec_core.specs.Typing.{int, type_of_expr}
 use Rattle.ec_core.proofs.HeldNumbers.{Held, truth_number, conversion_held, arithmetic_held, unary_held}
 use Rattle.ec_check_constants.specs.Constants.{IsNumeric, IsConstant, IsConstantNode, is_true, truth_of, constant, node_constant}
@@ -85,3 +85,5 @@ mutual
   node_held ty mode (call f args) k h = absurd h
   node_held ty mode (io op port index v) k h = absurd h
   node_held ty mode (group acquire g) k h = absurd h
+  node_held ty mode (bind d choice) k h = absurd h
+  node_held ty mode (dynamic_group acquire d) k h = absurd h

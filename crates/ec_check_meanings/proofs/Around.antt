@@ -1,6 +1,7 @@
 -- Nothing around a part without a meaning has one.
 use Rattle.std.proofs.Common.{◌≡◌, List}
 use Rattle.ec_grammar.specs.declared.Operation.TheVariants as operations
+use Rattle.ec_grammar.specs.declared.token.GroupOp.TheVariants as groups
 use Rattle.ec_core.specs.Laws.{TypesAreTold}
 use Rattle.ec_core.specs.Plain.{PlainType, PlainExpr}
 use Rattle.ec_check_operands.specs.Operands.{Operand}
@@ -32,10 +33,13 @@ module _ (told : TypesAreTold) (k : Known) where
 
   of_part : (x y : term.Term) → IsPart x y → (o : Operand) → Means k y o → HasMeaning x
   of_part x _ (p.in_parentheses {at = at}) o h = (o, shown told k (term.parenthesised at x) o h)
-  of_part x _ (p.operand_of_port {at = at} {op = operations.Port op} {n = n} {ys = ys} i) o h =
+  of_part x _ (p.operand {at = at} {op = operations.Port op} {n = n} {ys = ys} v i) o h =
       let s = shown told k (term.operation at (operations.Port op) n ys) o h in of_argument x ys i s.tys s.es s.brought
-  of_part x _ (p.operand_of_port {at = at} {op = operations.Group op} {n = n} {ys = ys} i) o h =
-      let s = shown told k (term.operation at (operations.Group op) n ys) o h in absurd (no_argument x ys i s.none)
+  of_part x _ (p.operand {at = at} {op = operations.Group groups.Acquire} {n = n} {ys = ys} v i) o h =
+      let s = shown told k (term.operation at (operations.Group groups.Acquire) n ys) o h in absurd (no_argument x ys i s.none)
+  of_part x _ (p.operand {at = at} {op = operations.Group groups.Release} {n = n} {ys = ys} v i) o h =
+      let s = shown told k (term.operation at (operations.Group groups.Release) n ys) o h in absurd (no_argument x ys i s.none)
+  of_part x _ (p.operand {op = operations.Group groups.Map} v i) o h = absurd v
   of_part x _ (p.before_index {at = at} {y = y}) o h = let s = shown told k (term.index x at y) o h in of_use x s.0 s.2
   of_part x _ (p.in_index {at = at} {y = y}) o h = let s = shown told k (term.index y at x) o h in of_use x s.1 s.3
   of_part x _ (p.argument {at = at} {y = y} {ys = ys} i) o h =

@@ -8,6 +8,7 @@ mod Operations
 mod Choices
 mod Names
 mod Ports
+mod Bindings
 mod Forms
 mod Meanings
 mod Around

@@ -8,7 +8,6 @@ use Rattle.ec_grammar.specs.declared.Constant.TheVariants as constants
 use Rattle.ec_grammar.specs.declared.Operation.{Operation}
 use Rattle.ec_grammar.specs.declared.Operation.TheVariants as operations
 use Rattle.ec_grammar.specs.declared.Spot.{Spot}
-use Rattle.ec_grammar.specs.declared.token.GroupOp.{GroupOp}
 use Rattle.ec_grammar.specs.declared.token.GroupOp.TheVariants as groups
 use Rattle.ec_grammar.specs.declared.token.PunctKind.{PunctKind}
 use Rattle.ec_grammar.specs.declared.token.PunctKind.TheVariants as punct
@@ -17,10 +16,13 @@ use Rattle.ec_core.specs.declared.arithmetic_types.Arithmetic.TheVariants.{Integ
 use Rattle.ec_core.specs.declared.expressions.BinOp.{BinOp}
 use Rattle.ec_core.specs.declared.expressions.BinOp.TheVariants.{Add, Sub, Mul, Div, Rem, Shl, Shr, And, Or, Xor}
 use Rattle.ec_core.specs.Laws.{TypesAreTold}
-use Rattle.ec_core.specs.Plain.{PlainType, void, integer, struct, PlainExpr, number, call, group}
+use Rattle.ec_core.specs.Plain.{PlainType, void, integer, struct, PlainExpr, number, call, bind}
 use Rattle.ec_check_names.specs.Names.{Named, an_object, a_function, found}
 use Rattle.ec_check_forms.specs.Accesses.{indexed, member_of}
-use Rattle.ec_check_forms.specs.Calls.{port_named, group_named, group_operation, grouped, size_value, called}
+use Rattle.ec_check_forms.specs.declared.ports.Binding.{Binding}
+use Rattle.ec_check_forms.specs.declared.ports.NamedGroup.{NamedGroup}
+use Rattle.ec_check_forms.specs.declared.ports.NamedGroup.TheVariants as named_groups
+use Rattle.ec_check_forms.specs.Calls.{port_named, group_named, group_node, group_operation, binding_operation, size_value, called}
 use Rattle.ec_check_forms.specs.Choices.{sequence, cast, chosen}
 use Rattle.ec_check_forms.specs.Constraints.{IsComparison}
 use Rattle.ec_check_forms.specs.Meanings.{HasNullType}
@@ -28,7 +30,8 @@ use Rattle.ec_check_forms.specs.Nodes.{used, used_part, condition, prefixed, ass
 use Rattle.ec_check_operands.specs.Operands.{Operand, place, value, made, valued}
 use Rattle.ec_check_operands.specs.Operators.{operated}
 use Rattle.ec_check_operands.specs.Options.{with_one, with_both}
-use Rattle.ec_check_expressions.specs.Arguments.{wanted_of, arguments, operands, arguments_in, group_action}
+use Rattle.ec_check_expressions.specs.Arguments.{wanted_of, arguments, operands, arguments_in}
+use Rattle.ec_check_expressions.specs.Bindings.{binding_of}
 use Rattle.ec_check_expressions.specs.Callees.{name_in_postfix, Called, function_named, called_by, takes, exprs_of, call_of}
 use Rattle.ec_check_expressions.specs.Counts.{further_count, argument_count}
 use Rattle.ec_check_expressions.specs.Expressions.{of_expression, of_assignment, of_conditional, of_binary, of_cast, of_unary, of_postfix}
@@ -39,6 +42,7 @@ use Rattle.ec_check_expressions.specs.Tokens.{operator_of, is_and, compound_oper
 use Rattle.ec_check_expressions.specs.Tokens.{stored_by}
 use Rattle.ec_check_expressions.specs.Types.{meant_type}
 use Rattle.ec_check_expressions.specs.TypeNames.{said_type, void_said, size_of_type_name}
+use Rattle.ec_check_meanings.specs.Bindings.{Binds}
 use Rattle.ec_check_meanings.specs.Laws.{WalkGivesMeanings}
 use Rattle.ec_check_meanings.specs.Means as r
 use Rattle.ec_check_meanings.specs.Means.{Means, Uses, not_void, Says}
@@ -47,6 +51,7 @@ use Rattle.ec_check_meanings.specs.Terms.{joined_term, stored_term, term_of_expr
 use Rattle.ec_check_meanings.specs.Terms.{term_of_binary, term_of_cast, term_of_unary, term_of_postfix, term_of_primary}
 use Rattle.ec_check_meanings.specs.Terms.{terms_of_arguments}
 use Rattle.ec_check_meanings.specs.Terms.{terms_of_further}
+use Rattle.ec_check_meanings.proofs.Bindings.{is_binding, binding_is}
 use Rattle.ec_check_meanings.proofs.Forms.{only, only_so, value_in, index_is, index_to, member_is, arrow_to, dot_to, IsStep, step_is}
 use Rattle.ec_check_meanings.proofs.Forms.{step_to, prefix_is}
 use Rattle.ec_check_meanings.proofs.Forms.{deref_to, plus_to, minus_to, invert_to, not_to}
@@ -98,6 +103,9 @@ module _ (told : TypesAreTold) (k : Known) where
   null_type _ _ (r.accessed q h f b) = λ h. never h
   null_type _ _ (r.acquired q) = λ h. never h
   null_type _ _ (r.released q) = λ h. never h
+  null_type _ _ (r.acquired_choice q) = λ h. never h
+  null_type _ _ (r.released_choice q) = λ h. never h
+  null_type _ _ (r.mapped q) = λ h. never h
 
   uses_null : (x : term.Term) (a : Operand) → Uses k x a → HasNullType a
   uses_null x a (not_void h n) = null_type x a h
@@ -116,18 +124,25 @@ module _ (told : TypesAreTold) (k : Known) where
     pub brought : r.AreBrought k params ys es
     pub same : value (made k.modes returns (call f (exprs_of es))) false ≡ o
 
-  pub record IsGroup (op : GroupOp) (n : List ℕ) (ys : term.Terms) (o : Operand) : Type 0 where
-    pub number : ℕ
+  pub record IsGroup (acquire : Bool) (n : List ℕ) (ys : term.Terms) (o : Operand) : Type 0 where
+    pub of : NamedGroup
     pub none : ys ≡ term.no_terms
-    pub there : group_named k.ports n ≡ Some number
-    pub made_so : grouped k.modes (group_action op) number ≡ Some o
+    pub there : group_named k.ports n ≡ Some of
+    pub made_so : value (made k.modes void (group_node acquire of)) false ≡ o
+
+  pub record IsBinding (n : List ℕ) (ys : term.Terms) (o : Operand) : Type 0 where
+    pub of : Binding
+    pub binds : Binds k.ports n ys of
+    pub made_so : value (made k.modes void (bind of.dynamic of.choice)) false ≡ o
 
   abbrev pub Shown : term.Term → Operand → Type 0
   Shown (term.name at n) o = named (found n k.names) ≡ Some o
   Shown (term.constant at c) o = constant_value k.modes c ≡ o
   Shown (term.parenthesised at x) o = Means k x o
   Shown (term.operation at (operations.Port op) n ys) o = IsAccess k op (port_named k.ports n) ys o
-  Shown (term.operation at (operations.Group op) n ys) o = IsGroup op n ys o
+  Shown (term.operation at (operations.Group groups.Acquire) n ys) o = IsGroup true n ys o
+  Shown (term.operation at (operations.Group groups.Release) n ys) o = IsGroup false n ys o
+  Shown (term.operation at (operations.Group groups.Map) n ys) o = IsBinding n ys o
   Shown (term.index x at y) o = FromTwo k x y (λ a b. indexed k.modes a b ≡ Some o)
   Shown (term.call x at ys) o = IsCalled x ys o
   Shown (term.member x at arrow name_at n) o = FromOne k x (λ a. member_of k.modes k.structs n arrow a ≡ Some o)
@@ -207,8 +222,11 @@ module _ (told : TypesAreTold) (k : Known) where
     brought = b;
     made_so = refl;
   }
-  shown _ _ (r.acquired {g = g} q) = record { number = g; none = refl; there = q; made_so = refl }
-  shown _ _ (r.released {g = g} q) = record { number = g; none = refl; there = q; made_so = refl }
+  shown _ _ (r.acquired {g = g} q) = record { of = named_groups.Group g; none = refl; there = q; made_so = refl }
+  shown _ _ (r.released {g = g} q) = record { of = named_groups.Group g; none = refl; there = q; made_so = refl }
+  shown _ _ (r.acquired_choice {d = d} q) = record { of = named_groups.Dynamic d; none = refl; there = q; made_so = refl }
+  shown _ _ (r.released_choice {d = d} q) = record { of = named_groups.Dynamic d; none = refl; there = q; made_so = refl }
+  shown _ _ (r.mapped {b = b} q) = record { of = b; binds = q; made_so = refl }
 
   -- ---- names, constants, calls and groups mean what the walk gives
 
@@ -242,17 +260,33 @@ module _ (told : TypesAreTold) (k : Known) where
           subst (Means k (term.constant at (constants.Whole n signed bytes))) same
           (r.whole_constant (λ z. clash ((Decides-eqb n 0).1 z) e))
 
-  group_is : (at : ℕ) (op : GroupOp) (n : List ℕ) (ys : term.Terms) (o : Operand) → IsGroup op n ys o
-      → Means k (term.operation at (operations.Group op) n ys) o
-  group_is at groups.Acquire n ys o h =
+  acquire_is : (at : ℕ) (n : List ℕ) (ys : term.Terms) (o : Operand) → IsGroup true n ys o
+      → Means k (term.operation at (operations.Group groups.Acquire) n ys) o
+  acquire_is at n ys o h =
       subst (λ (z : term.Terms). Means k (term.operation at (operations.Group groups.Acquire) n z) o) (sym h.none)
-      (subst (Means k (term.operation at (operations.Group groups.Acquire) n term.no_terms))
-      (value_in (made k.modes void (group true h.number)) o h.made_so) (r.acquired h.there))
-  group_is at groups.Release n ys o h =
+      (subst (Means k (term.operation at (operations.Group groups.Acquire) n term.no_terms)) h.made_so (by h.of h.there))
+    where
+      by : (g : NamedGroup) → group_named k.ports n ≡ Some g
+          → Means k (term.operation at (operations.Group groups.Acquire) n term.no_terms)
+          (value (made k.modes void (group_node true g)) false)
+      by (named_groups.Group i) q = r.acquired q
+      by (named_groups.Dynamic i) q = r.acquired_choice q
+
+  release_is : (at : ℕ) (n : List ℕ) (ys : term.Terms) (o : Operand) → IsGroup false n ys o
+      → Means k (term.operation at (operations.Group groups.Release) n ys) o
+  release_is at n ys o h =
       subst (λ (z : term.Terms). Means k (term.operation at (operations.Group groups.Release) n z) o) (sym h.none)
-      (subst (Means k (term.operation at (operations.Group groups.Release) n term.no_terms))
-      (value_in (made k.modes void (group false h.number)) o h.made_so) (r.released h.there))
-  group_is at groups.Map n ys o h = absurd (nothing_there o h.made_so)
+      (subst (Means k (term.operation at (operations.Group groups.Release) n term.no_terms)) h.made_so (by h.of h.there))
+    where
+      by : (g : NamedGroup) → group_named k.ports n ≡ Some g
+          → Means k (term.operation at (operations.Group groups.Release) n term.no_terms)
+          (value (made k.modes void (group_node false g)) false)
+      by (named_groups.Group i) q = r.released q
+      by (named_groups.Dynamic i) q = r.released_choice q
+
+  map_is : (at : ℕ) (n : List ℕ) (ys : term.Terms) (o : Operand) → IsBinding n ys o
+      → Means k (term.operation at (operations.Group groups.Map) n ys) o
+  map_is at n ys o h = subst (Means k (term.operation at (operations.Group groups.Map) n ys)) h.made_so (r.mapped h.binds)
 
   operated_so : (x y : term.Term) (at : ℕ) (op : BinOp) (a b o : Operand) → Uses k x a → Uses k y b
       → operated k.modes op (Some a) (Some b) ≡ Some o
@@ -284,7 +318,9 @@ module _ (told : TypesAreTold) (k : Known) where
   means (term.parenthesised at x) fine o h = r.inside h
   means (term.operation at (operations.Port op) n ys) fine o h =
       subst (Means k (term.operation at (operations.Port op) n ys)) h.made_so (r.accessed h.there h.reaches h.takes h.brought)
-  means (term.operation at (operations.Group op) n ys) fine o h = group_is at op n ys o h
+  means (term.operation at (operations.Group groups.Acquire) n ys) fine o h = acquire_is at n ys o h
+  means (term.operation at (operations.Group groups.Release) n ys) fine o h = release_is at n ys o h
+  means (term.operation at (operations.Group groups.Map) n ys) fine o h = map_is at n ys o h
   means (term.index x at y) fine o h = index_is k told x y at h.0 h.1 o h.2 h.3 h.4
   means (term.call x at ys) fine o h = subst (Means k (term.call x at ys)) h.same (r.called h.name h.function h.brought)
   means (term.member x at arrow name_at n) fine o h = member_is k told x at name_at arrow n h.0 o h.1 h.2
@@ -493,35 +529,58 @@ module _ (told : TypesAreTold) (k : Known) where
   none_more (t.further s a rest) e =
       absurd (let z : term.terms (term_of_assignment a) (terms_of_further rest) ≡ term.no_terms = e in cc)
 
-  group_so : (at : ℕ) (op : GroupOp) (n : List ℕ) (x : t.Further)
-      → IsOf k (term.operation at (operations.Group op) n (terms_of_further x))
-      (group_operation k.modes (group_action op) (group_named k.ports n) (further_count x))
-  group_so at op n x o = (there, back)
-    where
-      there : Means k (term.operation at (operations.Group op) n (terms_of_further x)) o
-          → group_operation k.modes (group_action op) (group_named k.ports n) (further_count x) ≡ Some o
-      there z =
-          let s = shown (term.operation at (operations.Group op) n (terms_of_further x)) o z in
-          only_so (further_count x == 0) (with_one (group_named k.ports n) (grouped k.modes (group_action op))) (Some o)
-          ((Decides-eqb (further_count x) 0).1 (none_more x s.none))
-          (with_granted (group_named k.ports n) (grouped k.modes (group_action op)) s.number o s.there s.made_so)
+  module _ (n : List ℕ) (x : t.Further) (o : Operand) where
+    abbrev group_value : Bool → NamedGroup → Option Operand
+    group_value acquire g = valued (made k.modes void (group_node acquire g))
 
-      back : group_operation k.modes (group_action op) (group_named k.ports n) (further_count x) ≡ Some o
-          → Means k (term.operation at (operations.Group op) n (terms_of_further x)) o
-      back q =
-          let g = only (further_count x == 0) (with_one (group_named k.ports n) (grouped k.modes (group_action op))) o q in
-          let h = with_given (group_named k.ports n) (grouped k.modes (group_action op)) o g.1 in
-          group_is at op n (terms_of_further x) o (record {
-            number = h.0;
-            none = no_more x ((Decides-eqb (further_count x) 0).0 g.0);
-            there = h.1;
-            made_so = h.2;
-          })
+    abbrev binding_value : Binding → Option Operand
+    binding_value b = valued (made k.modes void (bind b.dynamic b.choice))
+
+    group_to : (acquire : Bool) → IsGroup acquire n (terms_of_further x) o
+        → group_operation k.modes acquire (group_named k.ports n) (further_count x) ≡ Some o
+    group_to acquire s =
+        only_so (further_count x == 0) (with_one (group_named k.ports n) (group_value acquire)) (Some o)
+        ((Decides-eqb (further_count x) 0).1 (none_more x s.none))
+        (with_granted (group_named k.ports n) (group_value acquire) s.of o s.there (ap Some s.made_so))
+
+    group_is : (acquire : Bool) → group_operation k.modes acquire (group_named k.ports n) (further_count x) ≡ Some o
+        → IsGroup acquire n (terms_of_further x) o
+    group_is acquire q =
+        let g = only (further_count x == 0) (with_one (group_named k.ports n) (group_value acquire)) o q in
+        let h = with_given (group_named k.ports n) (group_value acquire) o g.1 in record {
+          of = h.0;
+          none = no_more x ((Decides-eqb (further_count x) 0).0 g.0);
+          there = h.1;
+          made_so = value_in (made k.modes void (group_node acquire h.0)) o h.2;
+        }
+
+    binding_to : IsBinding n (terms_of_further x) o → binding_operation k.modes (binding_of k.ports n x) ≡ Some o
+    binding_to s =
+        with_granted (binding_of k.ports n x) binding_value s.of o (is_binding k.ports n x s.of s.binds) (ap Some s.made_so)
+
+    is_bound : binding_operation k.modes (binding_of k.ports n x) ≡ Some o → IsBinding n (terms_of_further x) o
+    is_bound q =
+        let h = with_given (binding_of k.ports n x) binding_value o q in record {
+          of = h.0;
+          binds = binding_is k.ports n x h.0 h.1;
+          made_so = value_in (made k.modes void (bind h.0.dynamic h.0.choice)) o h.2;
+        }
 
   operation_so : (at : ℕ) (op : Operation) (n : List ℕ) (x : t.Further) → AllOf k x
       → IsOf k (term.operation at op n (terms_of_further x))
-      (operation_of k op n (further_count x) (passed_further k (wanted_for op) (operands None None) 1 x))
-  operation_so at (operations.Group op) n x all o = group_so at op n x o
+      (operation_of k op n x (passed_further k (wanted_for op) (operands None None) 1 x))
+  operation_so at (operations.Group groups.Acquire) n x all o = (
+    λ z. group_to n x o true (shown (term.operation at (operations.Group groups.Acquire) n (terms_of_further x)) o z),
+    λ q. acquire_is at n (terms_of_further x) o (group_is n x o true q),
+  )
+  operation_so at (operations.Group groups.Release) n x all o = (
+    λ z. group_to n x o false (shown (term.operation at (operations.Group groups.Release) n (terms_of_further x)) o z),
+    λ q. release_is at n (terms_of_further x) o (group_is n x o false q),
+  )
+  operation_so at (operations.Group groups.Map) n x all o = (
+    λ z. binding_to n x o (shown (term.operation at (operations.Group groups.Map) n (terms_of_further x)) o z),
+    λ q. map_is at n (terms_of_further x) o (is_bound n x o q),
+  )
   operation_so at (operations.Port op) n x all o = (
     λ z. is_port told k op (port_named k.ports n) x all o (shown (term.operation at (operations.Port op) n (terms_of_further x)) o z),
     λ q. means (term.operation at (operations.Port op) n (terms_of_further x)) tt o (port_is told k op (port_named k.ports n) x all o q),

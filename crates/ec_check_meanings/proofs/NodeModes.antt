@@ -141,6 +141,9 @@ module _ (k : Known) where
     )
     means_has _ _ (r.acquired q) = (refl, tt)
     means_has _ _ (r.released q) = (refl, tt)
+    means_has _ _ (r.acquired_choice q) = (refl, tt)
+    means_has _ _ (r.released_choice q) = (refl, tt)
+    means_has _ _ (r.mapped q) = (refl, tt)
 
     uses_has : (x : term.Term) (o : Operand) → Uses k x o → OperandHas k.modes o
     uses_has x o (not_void h n) = means_has x o h

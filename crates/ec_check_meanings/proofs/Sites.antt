@@ -4,26 +4,28 @@ use Rattle.std.proofs.Common.{arith, zero-add}
 use Rattle.std.specs.Prelude.{◌⊎◌, ◌↔◌, is_some, Option, Some, None}
 use Rattle.ec_grammar.specs.declared.Operation.{Operation}
 use Rattle.ec_grammar.specs.declared.Operation.TheVariants as operations
+use Rattle.ec_grammar.specs.declared.token.GroupOp.TheVariants as groups
 use Rattle.ec_grammar.specs.Trees.{TypeName}
 use Rattle.ec_core.specs.Plain.{PlainType}
 use Rattle.ec_check_names.specs.Names.{Named, an_object, a_function, found}
+use Rattle.ec_check_forms.specs.declared.ports.Binding.{Binding}
 use Rattle.ec_check_forms.specs.Calls.{port_named, group_named}
 use Rattle.ec_check_forms.specs.Nodes.{used}
 use Rattle.ec_check_forms.specs.Sites.{a_name, a_callee, a_call, a_use, a_part, an_operation, a_logical, a_prefix, a_step}
 use Rattle.ec_check_forms.specs.Sites.{an_index, a_member, an_assignment, a_compound, a_passing, a_choice, a_cast, a_port}
-use Rattle.ec_check_forms.specs.Sites.{a_group, a_function as a_function_name}
+use Rattle.ec_check_forms.specs.Sites.{a_group, a_binding, a_function as a_function_name}
 use Rattle.ec_check_operands.specs.Operands.{Operand}
-use Rattle.ec_check_expressions.specs.Arguments.{group_action}
 use Rattle.ec_check_expressions.specs.Known.{Known}
 use Rattle.ec_check_expressions.specs.Names.{what_is_meant}
 use Rattle.ec_check_expressions.specs.Sites.{Site, on, a_type_name}
 use Rattle.ec_check_expressions.specs.TypeNames.{said_type}
+use Rattle.ec_check_meanings.specs.Bindings.{SeesBinding}
 use Rattle.ec_check_meanings.specs.Sites as w
 use Rattle.ec_check_meanings.specs.Sites.{Sees, SeesUsed, Calls, CallsFunction, count, IsAt, type_at, type_of_operand, IsUsed}
 use Rattle.ec_check_meanings.specs.Sites.{IsLookedInto}
 use Rattle.ec_check_meanings.specs.Sites.{SiteOf, SiteIn, own, inner}
 use Rattle.ec_check_meanings.specs.Terms as term
-use Rattle.ec_check_meanings.specs.Terms.{Term, Terms, first}
+use Rattle.ec_check_meanings.specs.Terms.{Term, Terms, TakesValues, first}
 use Rattle.ec_space.specs.declared.space.SpaceId.{SpaceId}
 use Rattle.ec_check_meanings.proofs.Names.{name_of, name_is, is_name}
 use Rattle.ec_check_meanings.proofs.Options.{inside, nothing_there}
@@ -93,15 +95,25 @@ module _ (k : Known) where
       × ((s ≡ on (a_callee true (first x))) ⊎ ((s ≡ on (a_function_name (is_some number) name_at))
       ⊎ (Counted params ys at s ⊎ Row ys 0 (type_at params) s)))
 
-  abbrev pub io_site : Operation → List ℕ → ℕ → ℕ → Site
-  io_site (operations.Port op) n c at = on (a_port op (port_named k.ports n) c at)
-  io_site (operations.Group op) n c at = on (a_group (group_action op) (group_named k.ports n) c at)
+  -- those of an operation whose arguments are values
+  abbrev pub Operated : Operation → Terms → (node : Site) → Site → Type 0
+  Operated op ys node s = Row ys 0 (type_of_operand op) s ⊎ (s ≡ node)
+
+  -- that of `iogroup_map`
+  abbrev pub Mapped : List ℕ → Terms → (at : ℕ) → Site → Type 0
+  Mapped n ys at s = (b : Option Binding) × SeesBinding k.ports n ys b × (s ≡ on (a_binding b at))
 
   abbrev pub Listed : Term → Site → Type 0
   Listed (term.name at n) s = s ≡ on (a_name (what_is_meant (found n k.names)) at)
   Listed (term.constant at c) s = ⊥
   Listed (term.parenthesised at x) s = SiteIn k x s
-  Listed (term.operation at op n ys) s = Row ys 0 (type_of_operand op) s ⊎ (s ≡ io_site op n (count ys) at)
+  Listed (term.operation at (operations.Port op) n ys) s =
+      Operated (operations.Port op) ys (on (a_port op (port_named k.ports n) (count ys) at)) s
+  Listed (term.operation at (operations.Group groups.Acquire) n ys) s =
+      Operated (operations.Group groups.Acquire) ys (on (a_group (group_named k.ports n) (count ys) at)) s
+  Listed (term.operation at (operations.Group groups.Release) n ys) s =
+      Operated (operations.Group groups.Release) ys (on (a_group (group_named k.ports n) (count ys) at)) s
+  Listed (term.operation at (operations.Group groups.Map) n ys) s = Mapped n ys at s
   Listed (term.index x at y) s = Two x y s (λ m n. on (an_index m n at))
   Listed (term.call x at ys) s = Uncalled x ys s ⊎ IsCalled x at ys s
   Listed (term.member x at arrow name_at n) s = One x s (λ m. on (a_member k.structs n arrow m at name_at))
@@ -159,7 +171,13 @@ module _ (k : Known) where
   argument_used x y at i ys a s u (inr n) = inl (n, inr (inr (row_used x i ys a 0 no_type s u)))
 
   of_used_part : (x y : Term) → IsUsed x y → (s : Site) → Used x s → Listed y s
-  of_used_part x _ (w.operand {i = i} {op = op} {ys = ys} a) s u = inl (row_used x i ys a 0 (type_of_operand op) s u)
+  of_used_part x _ (w.operand {i = i} {op = operations.Port op} {ys = ys} v a) s u =
+      inl (row_used x i ys a 0 (type_of_operand (operations.Port op)) s u)
+  of_used_part x _ (w.operand {i = i} {op = operations.Group groups.Acquire} {ys = ys} v a) s u =
+      inl (row_used x i ys a 0 (type_of_operand (operations.Group groups.Acquire)) s u)
+  of_used_part x _ (w.operand {i = i} {op = operations.Group groups.Release} {ys = ys} v a) s u =
+      inl (row_used x i ys a 0 (type_of_operand (operations.Group groups.Release)) s u)
+  of_used_part x _ (w.operand {op = operations.Group groups.Map} v a) s u = absurd v
   of_used_part x _ w.before_index s u = inl u
   of_used_part x _ w.in_index s u = inr (inl u)
   of_used_part x _ (w.argument {at = at} {i = i} {y = y} {ys = ys} a) s u = argument_used x y at i ys a s u (calls_or_not y)
@@ -180,14 +198,26 @@ module _ (k : Known) where
   of_used_part x _ w.before_comma s u = inl (inl u)
   of_used_part x _ w.behind_comma s u = inr (inl u)
 
+  operand_passing : (op : Operation) (i : ℕ) (x : Term) (ys : Terms) (m : Option Operand) → IsAt x i ys → SeesUsed k x m
+      → Row ys 0 (type_of_operand op) (on (a_passing m (type_of_operand op i) (first x)))
+  operand_passing op i x ys m a h =
+      subst (λ (n : ℕ). Row ys 0 (type_of_operand op) (on (a_passing m (type_of_operand op n) (first x)))) (zero-add i)
+      (row_passing x i ys a 0 (type_of_operand op) m h)
+
   of_own : (y : Term) (s : Site) → SiteOf k y s → Listed y s
   of_own _ _ (w.of_use {x = x} {y = y} {m = m} u h) = of_used_part x y u (on (a_use m (first x))) (inr (m, h, refl))
   of_own _ _ w.of_name = refl
   of_own _ _ w.of_port = inr refl
-  of_own _ _ w.of_group = inr refl
-  of_own _ _ (w.of_operand {i = i} {op = op} {x = x} {ys = ys} {m = m} a h) =
-      inl (subst (λ (n : ℕ). Row ys 0 (type_of_operand op) (on (a_passing m (type_of_operand op n) (first x)))) (zero-add i)
-      (row_passing x i ys a 0 (type_of_operand op) m h))
+  of_own _ _ w.of_acquire = inr refl
+  of_own _ _ w.of_release = inr refl
+  of_own _ _ (w.of_map {b = b} h) = (b, h, refl)
+  of_own _ _ (w.of_operand {i = i} {op = operations.Port op} {x = x} {ys = ys} {m = m} v a h) =
+      inl (operand_passing (operations.Port op) i x ys m a h)
+  of_own _ _ (w.of_operand {i = i} {op = operations.Group groups.Acquire} {x = x} {ys = ys} {m = m} v a h) =
+      inl (operand_passing (operations.Group groups.Acquire) i x ys m a h)
+  of_own _ _ (w.of_operand {i = i} {op = operations.Group groups.Release} {x = x} {ys = ys} {m = m} v a h) =
+      inl (operand_passing (operations.Group groups.Release) i x ys m a h)
+  of_own _ _ (w.of_operand {op = operations.Group groups.Map} v a h) = absurd v
   of_own _ _ (w.of_callee c) = inr (c.0, c.1, c.2, c.3, inl refl)
   of_own _ _ (w.of_no_callee n) = inl (n, inl refl)
   of_own _ _ (w.of_function {name_at = name_at} {number = number} {params = params} c) = inr (name_at, number, params, c, inr (inl refl))
@@ -262,18 +292,18 @@ module _ (k : Known) where
       (λ v i m a u. subst (λ (n : ℕ). SiteOf k z (on (a_passing m (T n) (first v)))) (let e : j + suc i ≡ j + 1 + i = omega arith in e)
       (g v (suc i) m (w.later a) u)) s h
 
-  io_back : (at : ℕ) (op : Operation) (n : List ℕ) (ys : Terms) (s : Site) → s ≡ io_site op n (count ys) at
-      → SiteIn k (term.operation at op n ys) s
-  io_back at (operations.Port op) n ys s q = subst (SiteIn k (term.operation at (operations.Port op) n ys)) (sym q) (own w.of_port)
-  io_back at (operations.Group op) n ys s q = subst (SiteIn k (term.operation at (operations.Group op) n ys)) (sym q) (own w.of_group)
-
-  operation_back : (at : ℕ) (op : Operation) (n : List ℕ) (ys : Terms) (s : Site)
-      → Row ys 0 (type_of_operand op) s ⊎ (s ≡ io_site op n (count ys) at) → SiteIn k (term.operation at op n ys) s
-  operation_back at op n ys s (inr q) = io_back at op n ys s q
-  operation_back at op n ys s (inl h) =
-      row_back ys (term.operation at op n ys) 0 (type_of_operand op) (λ v i a. w.operand a)
+  operation_back : (at : ℕ) (op : Operation) (n : List ℕ) (ys : Terms) (node : Site) → TakesValues op
+      → SiteOf k (term.operation at op n ys) node
+      → (s : Site) → Operated op ys node s → SiteIn k (term.operation at op n ys) s
+  operation_back at op n ys node t f s (inr q) = subst (SiteIn k (term.operation at op n ys)) (sym q) (own f)
+  operation_back at op n ys node t f s (inl h) =
+      row_back ys (term.operation at op n ys) 0 (type_of_operand op) (λ v i a. w.operand t a)
       (λ v i m a u. subst (λ (j : ℕ). SiteOf k (term.operation at op n ys) (on (a_passing m (type_of_operand op j) (first v))))
-      (sym (zero-add i)) (w.of_operand a u)) s h
+      (sym (zero-add i)) (w.of_operand t a u)) s h
+
+  map_back : (at : ℕ) (n : List ℕ) (ys : Terms) (s : Site) → Mapped n ys at s
+      → SiteIn k (term.operation at (operations.Group groups.Map) n ys) s
+  map_back at n ys s (b, h, q) = subst (SiteIn k (term.operation at (operations.Group groups.Map) n ys)) (sym q) (own (w.of_map h))
 
   counted_back : (x : Term) (at : ℕ) (ys : Terms) (name_at : ℕ) (number : Option ℕ) (params : Option (List PlainType))
       → Calls k x name_at number params → (s : Site) → Counted params ys at s → SiteIn k (term.call x at ys) s
@@ -316,7 +346,12 @@ module _ (k : Known) where
   unlisted (term.name at n) s q = subst (SiteIn k (term.name at n)) (sym q) (own w.of_name)
   unlisted (term.constant at c) s h = absurd h
   unlisted (term.parenthesised at x) s h = inner w.in_parentheses h
-  unlisted (term.operation at op n ys) s h = operation_back at op n ys s h
+  unlisted (term.operation at (operations.Port op) n ys) s h = operation_back at (operations.Port op) n ys _ tt w.of_port s h
+  unlisted (term.operation at (operations.Group groups.Acquire) n ys) s h =
+      operation_back at (operations.Group groups.Acquire) n ys _ tt w.of_acquire s h
+  unlisted (term.operation at (operations.Group groups.Release) n ys) s h =
+      operation_back at (operations.Group groups.Release) n ys _ tt w.of_release s h
+  unlisted (term.operation at (operations.Group groups.Map) n ys) s h = map_back at n ys s h
   unlisted (term.index x at y) s h =
       two_back x y (term.index x at y) w.before_index w.in_index (λ m n. on (an_index m n at)) (λ m n h g. w.of_index h g) s h
   unlisted (term.call x at ys) s h = call_back x at ys s h

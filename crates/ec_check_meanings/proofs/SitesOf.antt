@@ -5,6 +5,7 @@ use Rattle.std.specs.Prelude.{◌⊎◌, ◌↔◌, ⊤, is_some, Option, Some, 
 use Rattle.ec_grammar.specs.declared.Operation.{Operation}
 use Rattle.ec_grammar.specs.declared.Operation.TheVariants as operations
 use Rattle.ec_grammar.specs.declared.Spot.{Spot}
+use Rattle.ec_grammar.specs.declared.token.GroupOp.TheVariants as groups
 use Rattle.ec_grammar.specs.declared.token.PunctKind.{PunctKind}
 use Rattle.ec_grammar.specs.Trees as t
 use Rattle.ec_core.specs.declared.expressions.BinOp.{BinOp}
@@ -12,18 +13,22 @@ use Rattle.ec_core.specs.Laws.{TypesAreTold}
 use Rattle.ec_core.specs.Plain.{PlainType}
 use Rattle.ec_check_names.specs.Names.{Named, an_object, a_function, found}
 use Rattle.ec_check_names.specs.Firsts.{first_assignment, first_postfix}
+use Rattle.ec_check_forms.specs.declared.ports.Binding.{Binding}
+use Rattle.ec_check_forms.specs.Calls.{port_named, group_named}
 use Rattle.ec_check_forms.specs.Nodes.{used}
 use Rattle.ec_check_forms.specs.Sites.{a_use, a_part, an_operation, a_logical, a_prefix, a_step, an_index, a_member, an_assignment}
 use Rattle.ec_check_forms.specs.Sites.{a_compound, a_passing, a_choice, a_cast, a_callee, a_call, a_function as a_function_name}
+use Rattle.ec_check_forms.specs.Sites.{a_port, a_group, a_binding}
 use Rattle.ec_check_operands.specs.Operands.{Operand}
 use Rattle.ec_check_expressions.specs.Arguments.{Wanted, nothing, wanted_of, wanted_type}
+use Rattle.ec_check_expressions.specs.Bindings.{binding_of}
 use Rattle.ec_check_expressions.specs.Callees.{Called, callee, called_by, function_named, name_in_postfix, called_sites}
 use Rattle.ec_check_expressions.specs.Counts.{further_count, argument_count}
 use Rattle.ec_check_expressions.specs.Expressions.{of_expression, of_assignment, of_conditional, of_binary, of_cast, of_unary, of_postfix}
 use Rattle.ec_check_expressions.specs.Expressions.{expression_sites, assignment_sites, conditional_sites, binary_sites}
 use Rattle.ec_check_expressions.specs.Expressions.{cast_sites}
 use Rattle.ec_check_expressions.specs.Expressions.{unary_sites, postfix_sites, arguments_sites, further_sites, primary_sites}
-use Rattle.ec_check_expressions.specs.Expressions.{operation_site}
+use Rattle.ec_check_expressions.specs.Expressions.{operation_sites}
 use Rattle.ec_check_expressions.specs.Expressions.{wanted_for, wanted_by, call_sites}
 use Rattle.ec_check_expressions.specs.Known.{Known}
 use Rattle.ec_check_expressions.specs.Sites.{Site, on, a_type_name}
@@ -38,11 +43,12 @@ use Rattle.ec_check_meanings.specs.Terms.{term_of_conditional, term_of_binary, t
 use Rattle.ec_check_meanings.specs.Terms.{term_of_primary}
 use Rattle.ec_check_meanings.specs.Terms.{terms_of_arguments, terms_of_further}
 use Rattle.ec_check_meanings.proofs.Meanings.{is_expression, is_assignment, is_conditional, is_binary, is_cast, is_unary, is_postfix}
+use Rattle.ec_check_meanings.proofs.Bindings.{sees_binding, seen_binding}
 use Rattle.ec_check_meanings.proofs.Names.{called_name, named_so, spelling_of}
 use Rattle.ec_check_meanings.proofs.Options.{inside, nothing_there}
 use Rattle.ec_check_meanings.proofs.Parts.{IsOf}
 use Rattle.ec_check_meanings.proofs.Sites.{sees_of, of_sees, used_sees, of_used, Used, One, Two, Row, Counted}
-use Rattle.ec_check_meanings.proofs.Sites.{no_type, io_site}
+use Rattle.ec_check_meanings.proofs.Sites.{no_type, Operated}
 use Rattle.ec_check_meanings.proofs.Sites.{Listed, listed, unlisted}
 use Rattle.ec_check_meanings.proofs.SitesWalk.{expression_first, assignment_first, binary_first, cast_first}
 use Rattle.ec_check_meanings.proofs.SitesWalk.{unary_first}
@@ -317,46 +323,68 @@ module _ (k : Known) where
 
   -- ---- operations
 
-  io_so : (op : Operation) (n : List ℕ) (c at : ℕ) → operation_site k op n c at ≡ io_site k op n c at
-  io_so (operations.Port op) n c at = refl
-  io_so (operations.Group op) n c at = refl
-
   wanted_operands : (op : Operation) → AreWanted (wanted_for op) 1 (type_of_operand op) 0
   wanted_operands (operations.Port op) n = ap (type_of_operand (operations.Port op)) (let e : 1 + n - 1 ≡ 0 + n = omega arith in e)
   wanted_operands (operations.Group op) n = refl
 
-  operation_splits : (at : ℕ) (op : Operation) (n : List ℕ) (x : t.Further) → AllSplit x
-      → Splits k (term.operation at op n (terms_of_further x))
-      (λ rest. further_sites k (wanted_for op) 1 x (operation_site k op n (further_count x) at ∷ rest))
-  operation_splits at op n x all rest s = (
-    λ z. by (further_out x all (wanted_for op) 1 (type_of_operand op) 0 (wanted_operands op)
-        (operation_site k op n (further_count x) at ∷ rest) s z),
-    λ z. further_in x all (wanted_for op) 1 (type_of_operand op) 0 (wanted_operands op)
-        (operation_site k op n (further_count x) at ∷ rest) s
-        (split z),
-  )
+  -- an operation whose arguments are values has their sites and its own
+  module _ (T : Term) (op : Operation) (x : t.Further) (all : AllSplit x) (P : ℕ → Site)
+      (out : (s : Site) → SiteIn k T s → Operated k op (terms_of_further x) (P (count (terms_of_further x))) s)
+      (back : (s : Site) → Operated k op (terms_of_further x) (P (count (terms_of_further x))) s → SiteIn k T s) where
+    values_split : Splits k T (λ rest. further_sites k (wanted_for op) 1 x (P (further_count x) ∷ rest))
+    values_split rest s = (
+      λ z. by (further_out x all (wanted_for op) 1 (type_of_operand op) 0 (wanted_operands op) (P (further_count x) ∷ rest) s z),
+      λ z. further_in x all (wanted_for op) 1 (type_of_operand op) 0 (wanted_operands op) (P (further_count x) ∷ rest) s (split z),
+    )
+      where
+        same : P (further_count x) ≡ P (count (terms_of_further x))
+        same = ap P (sym (count_more x))
+
+        by : Row k (terms_of_further x) 0 (type_of_operand op) s ⊎ ((s ≡ P (further_count x)) ⊎ StandsIn s rest)
+            → SiteIn k T s ⊎ StandsIn s rest
+        by (inl v) = inl (back s (inl v))
+        by (inr (inl q)) = inl (back s (inr (q ∙ same)))
+        by (inr (inr r)) = inr r
+
+        sort : Operated k op (terms_of_further x) (P (count (terms_of_further x))) s
+            → Row k (terms_of_further x) 0 (type_of_operand op) s ⊎ ((s ≡ P (further_count x)) ⊎ StandsIn s rest)
+        sort (inl v) = inl v
+        sort (inr q) = inr (inl (q ∙ sym same))
+
+        split : SiteIn k T s ⊎ StandsIn s rest
+            → Row k (terms_of_further x) 0 (type_of_operand op) s ⊎ ((s ≡ P (further_count x)) ⊎ StandsIn s rest)
+        split (inl v) = sort (out s v)
+        split (inr r) = inr (inr r)
+
+  -- `iogroup_map` has its own alone
+  map_splits : (at : ℕ) (n : List ℕ) (x : t.Further)
+      → Splits k (term.operation at (operations.Group groups.Map) n (terms_of_further x))
+      (λ rest. on (a_binding (binding_of k.ports n x) at) ∷ rest)
+  map_splits at n x rest s = (left back, left out)
     where
       T : Term
-      T = term.operation at op n (terms_of_further x)
+      T = term.operation at (operations.Group groups.Map) n (terms_of_further x)
 
-      same : operation_site k op n (further_count x) at ≡ io_site k op n (count (terms_of_further x)) at
-      same = io_so op n (further_count x) at ∙ ap (λ (c : ℕ). io_site k op n c at) (sym (count_more x))
+      back : s ≡ on (a_binding (binding_of k.ports n x) at) → SiteIn k T s
+      back q = unlisted k T s (binding_of k.ports n x, sees_binding k.ports n x, q)
 
-      by : Row k (terms_of_further x) 0 (type_of_operand op) s ⊎ ((s ≡ operation_site k op n (further_count x) at) ⊎ StandsIn s rest)
-          → SiteIn k T s ⊎ StandsIn s rest
-      by (inl v) = inl (unlisted k T s (inl v))
-      by (inr (inl q)) = inl (unlisted k T s (inr (q ∙ same)))
-      by (inr (inr r)) = inr r
+      out : SiteIn k T s → s ≡ on (a_binding (binding_of k.ports n x) at)
+      out v =
+          let h = listed k T s v in
+          h.2 ∙ ap (λ (b : Option Binding). on (a_binding b at)) (seen_binding k.ports n x h.0 h.1)
 
-      sort : Listed k T s → Row k (terms_of_further x) 0 (type_of_operand op) s
-          ⊎ ((s ≡ operation_site k op n (further_count x) at) ⊎ StandsIn s rest)
-      sort (inl v) = inl v
-      sort (inr q) = inr (inl (q ∙ sym same))
-
-      split : SiteIn k T s ⊎ StandsIn s rest
-          → Row k (terms_of_further x) 0 (type_of_operand op) s ⊎ ((s ≡ operation_site k op n (further_count x) at) ⊎ StandsIn s rest)
-      split (inl v) = sort (listed k T s v)
-      split (inr r) = inr (inr r)
+  operation_splits : (at : ℕ) (op : Operation) (n : List ℕ) (x : t.Further) → AllSplit x
+      → Splits k (term.operation at op n (terms_of_further x)) (operation_sites k op n x at (further_sites k (wanted_for op) 1 x))
+  operation_splits at (operations.Port op) n x all =
+      let T = term.operation at (operations.Port op) n (terms_of_further x) in
+      values_split T (operations.Port op) x all (λ c. on (a_port op (port_named k.ports n) c at)) (listed k T) (unlisted k T)
+  operation_splits at (operations.Group groups.Acquire) n x all =
+      let T = term.operation at (operations.Group groups.Acquire) n (terms_of_further x) in
+      values_split T (operations.Group groups.Acquire) x all (λ c. on (a_group (group_named k.ports n) c at)) (listed k T) (unlisted k T)
+  operation_splits at (operations.Group groups.Release) n x all =
+      let T = term.operation at (operations.Group groups.Release) n (terms_of_further x) in
+      values_split T (operations.Group groups.Release) x all (λ c. on (a_group (group_named k.ports n) c at)) (listed k T) (unlisted k T)
+  operation_splits at (operations.Group groups.Map) n x all = map_splits at n x
 
   -- ---- calls
 

@@ -22,11 +22,14 @@ use Rattle.ec_core.specs.Operators.{promoted_type}
 use Rattle.ec_core.specs.Plain.{PlainType, void, integer, fixed, pointer, struct, PlainExpr, PlainPlace, OptionPlainExpr}
 use Rattle.ec_core.specs.Plain.{no_expr, an_expr, object, deref, member, number, address_of, unary, binary, assign}
 use Rattle.ec_core.specs.Plain.{compound, step, logical_not, logical_and, logical_or, conditional, comma, call, io, group}
+use Rattle.ec_core.specs.Plain.{bind, dynamic_group}
 use Rattle.ec_core.specs.PortOperations.{PortOperation, port_operation, takes_value}
 use Rattle.ec_core.specs.Typing.{int, unsigned_int, type_of_member, port_value, port_result}
 use Rattle.ec_check_names.specs.Names.{an_object, a_function, found}
 use Rattle.ec_check_operands.specs.declared.operands.Modes.{Modes}
 use Rattle.ec_check_operands.specs.Operands.{Operand, place, value, made, mode_of, value_type, as_value}
+use Rattle.ec_check_forms.specs.declared.ports.Binding.{Binding}
+use Rattle.ec_check_forms.specs.declared.ports.NamedGroup.TheVariants as named_groups
 use Rattle.ec_check_forms.specs.declared.ports.NamedPort.{NamedPort}
 use Rattle.ec_check_forms.specs.declared.prefixes.PrefixOp.TheVariants as prefixes
 use Rattle.ec_check_forms.specs.Accesses.{member_number}
@@ -36,6 +39,7 @@ use Rattle.ec_check_forms.specs.Constraints.{CanBeCast}
 use Rattle.ec_check_expressions.specs.Callees.{exprs_of}
 use Rattle.ec_check_expressions.specs.Known.{Known}
 use Rattle.ec_check_expressions.specs.TypeNames.{said_type, void_said}
+use Rattle.ec_check_meanings.specs.Bindings.{Binds}
 use Rattle.ec_check_meanings.specs.Conversions.{IsConverted, IsBrought, IsPassed, Results, IsOperation, IsChoice}
 use Rattle.ec_check_meanings.specs.Terms as term
 
@@ -205,12 +209,22 @@ mutual
         (value (made k.modes (port_result (port_operation op).action (port_value (port_operation op)))
         (io op p.number index contents)) false)
     -- operations on groups
-    acquired : {at g : ℕ} {n : List ℕ} → group_named k.ports n ≡ Some g
+    acquired : {at g : ℕ} {n : List ℕ} → group_named k.ports n ≡ Some (named_groups.Group g)
         → Means k (term.operation at (operations.Group groups.Acquire) n term.no_terms)
         (value (made k.modes void (group true g)) false)
-    released : {at g : ℕ} {n : List ℕ} → group_named k.ports n ≡ Some g
+    released : {at g : ℕ} {n : List ℕ} → group_named k.ports n ≡ Some (named_groups.Group g)
         → Means k (term.operation at (operations.Group groups.Release) n term.no_terms)
         (value (made k.modes void (group false g)) false)
+    -- operations on dynamic groups
+    acquired_choice : {at d : ℕ} {n : List ℕ} → group_named k.ports n ≡ Some (named_groups.Dynamic d)
+        → Means k (term.operation at (operations.Group groups.Acquire) n term.no_terms)
+        (value (made k.modes void (dynamic_group true d)) false)
+    released_choice : {at d : ℕ} {n : List ℕ} → group_named k.ports n ≡ Some (named_groups.Dynamic d)
+        → Means k (term.operation at (operations.Group groups.Release) n term.no_terms)
+        (value (made k.modes void (dynamic_group false d)) false)
+    mapped : {at : ℕ} {n : List ℕ} {ys : term.Terms} {b : Binding} → Binds k.ports n ys b
+        → Means k (term.operation at (operations.Group groups.Map) n ys)
+        (value (made k.modes void (bind b.dynamic b.choice)) false)
 
   -- a value that is used is not void
   pub data Uses (k : Known) : term.Term → Operand → Type 0 where

@@ -5,8 +5,8 @@ use Rattle.ec_fx.specs.declared.numbers.Mode.{Mode}
 use Rattle.ec_fx.specs.Formats.{format_of, is_fract}
 use Rattle.ec_core.specs.Plain.{PlainType, fixed, PlainExpr, expression, PlainNode, number, null, load, address_of, unary}
 use Rattle.ec_core.specs.Plain.{binary, convert, assign, compound, step, logical_not, logical_and, logical_or, conditional}
-use Rattle.ec_core.specs.Plain.{comma, call, io, group, PlainPlace, object, deref, member, OptionPlainExpr, no_expr, an_expr}
-use Rattle.ec_core.specs.Plain.{PlainExprs, last_expr, next_expr}
+use Rattle.ec_core.specs.Plain.{comma, call, io, group, bind, dynamic_group, PlainPlace, object, deref, member}
+use Rattle.ec_core.specs.Plain.{OptionPlainExpr, no_expr, an_expr, PlainExprs, last_expr, next_expr}
 use Rattle.ec_core.specs.Typing.{type_of_expr}
 use Rattle.ec_check_operands.specs.declared.operands.Modes.{Modes}
 use Rattle.ec_check_operands.specs.Operands.{Operand, place, value}
@@ -42,6 +42,8 @@ abbrev mutual
   NodeHas m ty (call f args) = RowHas m args
   NodeHas m ty (io op port index contents) = OptionHas m index × OptionHas m contents
   NodeHas m ty (group acquire index) = ⊤
+  NodeHas m ty (bind dynamic choice) = ⊤
+  NodeHas m ty (dynamic_group acquire index) = ⊤
 
   pub PlaceHas : Modes → PlainPlace → Type 0
   PlaceHas m (object n) = ⊤

@@ -1,12 +1,12 @@
--- The parts of an expression whose meanings it asks for: all that stand directly in it, but for what is called, which is a
--- name (ISO/IEC 9899:1999, 6.5).
+-- The parts of an expression whose meanings it asks for: all that stand directly in it, but for names, as of what is
+-- called or of what `iogroup_map` binds (ISO/IEC 9899:1999, 6.5).
 use Rattle.std.specs.Prelude.{ℕ, Bool, List}
 use Rattle.ec_grammar.specs.declared.Operation.{Operation}
 use Rattle.ec_grammar.specs.Trees.{TypeName}
 use Rattle.ec_core.specs.declared.expressions.BinOp.{BinOp}
 use Rattle.ec_check_forms.specs.declared.prefixes.PrefixOp.{PrefixOp}
 use Rattle.ec_check_meanings.specs.Terms as term
-use Rattle.ec_check_meanings.specs.Terms.{Term, Terms}
+use Rattle.ec_check_meanings.specs.Terms.{Term, Terms, TakesValues}
 
 pub data IsAmong (x : Term) : Terms → Type 0 where
   here : {ys : Terms} → IsAmong x (term.terms x ys)
@@ -14,7 +14,8 @@ pub data IsAmong (x : Term) : Terms → Type 0 where
 
 pub data IsPart (x : Term) : Term → Type 0 where
   in_parentheses : {at : ℕ} → IsPart x (term.parenthesised at x)
-  operand_of_port : {at : ℕ} {op : Operation} {n : List ℕ} {ys : Terms} → IsAmong x ys → IsPart x (term.operation at op n ys)
+  operand : {at : ℕ} {op : Operation} {n : List ℕ} {ys : Terms} → TakesValues op → IsAmong x ys
+      → IsPart x (term.operation at op n ys)
   before_index : {at : ℕ} {y : Term} → IsPart x (term.index x at y)
   in_index : {at : ℕ} {y : Term} → IsPart x (term.index y at x)
   argument : {at : ℕ} {y : Term} {ys : Terms} → IsAmong x ys → IsPart x (term.call y at ys)

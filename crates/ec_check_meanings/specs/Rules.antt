@@ -48,7 +48,9 @@ pub data IsBroken (k : Known) (x : Term) (token : ℕ) : (rule : ℕ) → Type 0
   nothing_reached : {s : operands.Site} → SiteIn k x (on s) → ReachesNothing s token → IsBroken k x token 34
   -- a struct has no such member
   no_member : {s : operands.Site} → SiteIn k x (on s) → NamesNoMember s token → IsBroken k x token 35
-  -- an operation names no port or no group, has the wrong number of operands, or is `iogroup_map`
+  -- the first argument of an operation names no port, or neither a group nor a dynamic group; or it has the wrong
+  -- number of arguments; or those of `iogroup_map` are not the name of a dynamic group and then, as a bare identifier,
+  -- the name of a group among its choices
   no_port : {s : operands.Site} → SiteIn k x (on s) → NamesNoPort s token → IsBroken k x token 36
   -- an operation that is not long names a port of width 4
   wide_port : {s : operands.Site} → SiteIn k x (on s) → NamesWidePort s token → IsBroken k x token 37

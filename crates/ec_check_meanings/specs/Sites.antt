@@ -4,26 +4,27 @@ use Rattle.std.specs.Prelude.{ℕ, suc, ◌+◌, Bool, true, false, is_some, Opt
 use Rattle.ec_iohw.specs.declared.operations.IoOp.{IoOp}
 use Rattle.ec_grammar.specs.declared.Operation.{Operation}
 use Rattle.ec_grammar.specs.declared.Operation.TheVariants as operations
-use Rattle.ec_grammar.specs.declared.token.GroupOp.{GroupOp}
+use Rattle.ec_grammar.specs.declared.token.GroupOp.TheVariants as groups
 use Rattle.ec_grammar.specs.Trees.{TypeName}
 use Rattle.ec_core.specs.declared.expressions.BinOp.{BinOp}
 use Rattle.ec_core.specs.Plain.{PlainType}
 use Rattle.ec_core.specs.PortOperations.{port_operation}
 use Rattle.ec_check_names.specs.Names.{a_function, found}
 use Rattle.ec_check_operands.specs.Operands.{Operand}
+use Rattle.ec_check_forms.specs.declared.ports.Binding.{Binding}
 use Rattle.ec_check_forms.specs.declared.prefixes.PrefixOp.{PrefixOp}
 use Rattle.ec_check_forms.specs.Calls.{operand_type, port_named, group_named}
 use Rattle.ec_check_forms.specs.Sites.{a_name, a_callee, a_call, a_use, a_part, an_operation, a_logical, a_prefix, a_step}
 use Rattle.ec_check_forms.specs.Sites.{an_index, a_member, an_assignment, a_compound, a_passing, a_choice, a_cast, a_port}
-use Rattle.ec_check_forms.specs.Sites.{a_group, a_function as a_function_name}
-use Rattle.ec_check_expressions.specs.Arguments.{group_action}
+use Rattle.ec_check_forms.specs.Sites.{a_group, a_binding, a_function as a_function_name}
 use Rattle.ec_check_expressions.specs.Known.{Known}
 use Rattle.ec_check_expressions.specs.Names.{what_is_meant}
 use Rattle.ec_check_expressions.specs.Sites.{Site, on, a_type_name}
 use Rattle.ec_check_expressions.specs.TypeNames.{said_type}
+use Rattle.ec_check_meanings.specs.Bindings.{SeesBinding}
 use Rattle.ec_check_meanings.specs.Means.{Means, Uses, HasNone, IsName}
 use Rattle.ec_check_meanings.specs.Terms as term
-use Rattle.ec_check_meanings.specs.Terms.{Term, Terms, first}
+use Rattle.ec_check_meanings.specs.Terms.{Term, Terms, TakesValues, first}
 
 -- ---- what is seen of a part
 
@@ -74,7 +75,8 @@ type_of_operand (operations.Group op) i = None
 
 -- a part that is used as a value: each operand but the second and third of `?:`
 pub data IsUsed (x : Term) : Term → Type 0 where
-  operand : {at i : ℕ} {op : Operation} {n : List ℕ} {ys : Terms} → IsAt x i ys → IsUsed x (term.operation at op n ys)
+  operand : {at i : ℕ} {op : Operation} {n : List ℕ} {ys : Terms} → TakesValues op → IsAt x i ys
+      → IsUsed x (term.operation at op n ys)
   before_index : {at : ℕ} {y : Term} → IsUsed x (term.index x at y)
   in_index : {at : ℕ} {y : Term} → IsUsed x (term.index y at x)
   argument : {at i : ℕ} {y : Term} {ys : Terms} → IsAt x i ys → IsUsed x (term.call y at ys)
@@ -111,10 +113,16 @@ pub data SiteOf (k : Known) : Term → Site → Type 0 where
   of_name : {at : ℕ} {n : List ℕ} → SiteOf k (term.name at n) (on (a_name (what_is_meant (found n k.names)) at))
   of_port : {at : ℕ} {op : IoOp} {n : List ℕ} {ys : Terms}
       → SiteOf k (term.operation at (operations.Port op) n ys) (on (a_port op (port_named k.ports n) (count ys) at))
-  of_group : {at : ℕ} {op : GroupOp} {n : List ℕ} {ys : Terms}
-      → SiteOf k (term.operation at (operations.Group op) n ys)
-      (on (a_group (group_action op) (group_named k.ports n) (count ys) at))
-  of_operand : {at i : ℕ} {op : Operation} {n : List ℕ} {x : Term} {ys : Terms} {m : Option Operand} → IsAt x i ys
+  of_acquire : {at : ℕ} {n : List ℕ} {ys : Terms}
+      → SiteOf k (term.operation at (operations.Group groups.Acquire) n ys)
+      (on (a_group (group_named k.ports n) (count ys) at))
+  of_release : {at : ℕ} {n : List ℕ} {ys : Terms}
+      → SiteOf k (term.operation at (operations.Group groups.Release) n ys)
+      (on (a_group (group_named k.ports n) (count ys) at))
+  of_map : {at : ℕ} {n : List ℕ} {ys : Terms} {b : Option Binding} → SeesBinding k.ports n ys b
+      → SiteOf k (term.operation at (operations.Group groups.Map) n ys) (on (a_binding b at))
+  of_operand : {at i : ℕ} {op : Operation} {n : List ℕ} {x : Term} {ys : Terms} {m : Option Operand} → TakesValues op
+      → IsAt x i ys
       → SeesUsed k x m → SiteOf k (term.operation at op n ys) (on (a_passing m (type_of_operand op i) (first x)))
   of_callee : {at : ℕ} {x : Term} {ys : Terms} → CallsFunction k x
       → SiteOf k (term.call x at ys) (on (a_callee true (first x)))

@@ -1,13 +1,22 @@
 -- Expressions by their operators alone: one node for an operator, whatever productions of the grammar lead to it
 -- (ISO/IEC 9899:1999, 6.5).
-use Rattle.std.specs.Prelude.{ℕ, Bool, Option, Some, None, List}
+use Rattle.std.specs.Prelude.{ℕ, Bool, ⊤, Option, Some, None, List}
 use Rattle.ec_grammar.specs.declared.Constant.{Constant}
 use Rattle.ec_grammar.specs.declared.Operation.{Operation}
+use Rattle.ec_grammar.specs.declared.Operation.TheVariants as operations
+use Rattle.ec_grammar.specs.declared.token.GroupOp.TheVariants as groups
 use Rattle.ec_grammar.specs.declared.token.PunctKind.{PunctKind}
 use Rattle.ec_grammar.specs.Trees as t
 use Rattle.ec_core.specs.declared.expressions.BinOp.{BinOp}
 use Rattle.ec_check_forms.specs.declared.prefixes.PrefixOp.{PrefixOp}
 use Rattle.ec_check_expressions.specs.Tokens.{operator_of, is_and, compound_operator, prefix_operator, is_up, is_arrow}
+
+-- the operations of `<iohw.h>` whose arguments behind the first one are values; those of `iogroup_map` are names
+abbrev pub TakesValues : Operation → Type 0
+TakesValues (operations.Port op) = ⊤
+TakesValues (operations.Group groups.Acquire) = ⊤
+TakesValues (operations.Group groups.Release) = ⊤
+TakesValues (operations.Group groups.Map) = ⊥
 
 mutual
   -- `at` is the index of the token at which a rule is told: a name, the word or the operator, or the `[`, the `(` of a
@@ -16,7 +25,7 @@ mutual
     name : (at : ℕ) → List ℕ → Term
     constant : (at : ℕ) → Constant → Term
     parenthesised : (at : ℕ) → Term → Term
-    -- an operation of `<iohw.h>` on what its first argument names
+    -- an operation of `<iohw.h>` on what its first argument names, and the other arguments
     operation : (at : ℕ) → Operation → List ℕ → Terms → Term
     index : Term → (at : ℕ) → Term → Term
     call : Term → (at : ℕ) → Terms → Term

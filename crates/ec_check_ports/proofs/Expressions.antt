@@ -2,23 +2,24 @@
 use Rattle.std.specs.Prelude.{ℕ, ◌+◌, true, false, Some, None, List, [], ◌∷◌}
 use Rattle.ec_grammar.specs.declared.Operation.{Operation}
 use Rattle.ec_check_names.specs.Firsts.{first_expression, first_assignment, first_binary, first_cast, first_unary, first_postfix}
-use Rattle.ec_check_forms.specs.Calls.{group_operation}
+use Rattle.ec_check_forms.specs.Calls.{group_operation, binding_operation}
 use Rattle.ec_check_forms.specs.Nodes.{used, used_part, condition, prefixed, stepped}
 use Rattle.ec_check_forms.specs.Accesses.{indexed, member_of}
 use Rattle.ec_check_forms.specs.Choices.{sequence, chosen, cast}
 use Rattle.ec_check_operands.specs.Operands.{with_one, with_both}
 use Rattle.ec_check_operands.specs.Passing.{passed}
 use Rattle.ec_check_forms.specs.Sites.{a_use, a_part, a_prefix, a_step, an_index, a_member, a_passing, a_choice, a_cast, a_port, a_group}
+use Rattle.ec_check_forms.specs.Sites.{a_binding}
 use Rattle.ec_check_expressions.specs.Counts.{further_count, argument_count}
 use Rattle.ec_check_expressions.specs.Tokens.{prefix_operator, is_up, is_arrow, joined, a_join, stored, a_storing}
 use Rattle.ec_check_expressions.specs.Types.{meant_type}
 use Rattle.ec_check_expressions.specs.Arguments.{Wanted, wanted_of, wanted_type, Passed, arguments, operands, with_argument}
-use Rattle.ec_check_expressions.specs.Arguments.{arguments_in, access_of, group_action}
+use Rattle.ec_check_expressions.specs.Arguments.{arguments_in, access_of}
 use Rattle.ec_check_expressions.specs.Callees.{callee, call_of}
 use Rattle.ec_check_expressions.specs.Known.{Known}
 use Rattle.ec_check_expressions.specs.Sites.{Site, on, a_type_name}
 use Rattle.ec_check_expressions.specs.TypeNames.{said_type, void_said}
-use Rattle.ec_check_expressions.specs.Expressions.{wanted_by, callee_site, call_sites, wanted_for, operation_of, operation_site}
+use Rattle.ec_check_expressions.specs.Expressions.{wanted_by, callee_site, call_sites, wanted_for, operation_of, operation_sites}
 use Rattle.ec_check_expressions.specs.Expressions.{of_expression, of_assignment, of_conditional, of_binary, of_cast, of_unary}
 use Rattle.ec_check_expressions.specs.Expressions.{of_postfix, passed_arguments, passed_further, of_primary, expression_sites}
 use Rattle.ec_check_expressions.specs.Expressions.{assignment_sites, conditional_sites, binary_sites, cast_sites, unary_sites}
@@ -26,22 +27,34 @@ use Rattle.ec_check_expressions.specs.Expressions.{postfix_sites, arguments_site
 use Rattle.std.proofs.Common.{◌≡◌, refl}
 use Rattle.ec_iohw.specs.declared.table.IoTable.{IoTable}
 use Rattle.ec_check_ports.specs.Ports.{LookAlike}
-use Rattle.ec_check_ports.proofs.Tables.{known_by, port_named_same, group_named_same}
+use Rattle.ec_check_ports.proofs.Tables.{known_by, port_named_same, group_named_same, binding_of_same}
 use Rattle.ec_grammar.specs.declared.Operation.TheVariants as operations
+use Rattle.ec_grammar.specs.declared.token.GroupOp.TheVariants as groups
 use Rattle.ec_grammar.specs.Trees as t
 
 module _ (here there : IoTable) (same : LookAlike here there) where
-  pub operation_of_same : (k : Known) (operation : Operation) (n : List ℕ) (count : ℕ) (args : Passed)
-      → operation_of (known_by here k) operation n count args ≡ operation_of (known_by there k) operation n count args
-  operation_of_same k (operations.Port op) n count args = λ j. access_of k.modes op (port_named_same here there same n j) count args
-  operation_of_same k (operations.Group op) n count args =
-      λ j. group_operation k.modes (group_action op) (group_named_same here there same n j) count
+  pub operation_of_same : (k : Known) (operation : Operation) (n : List ℕ) (more : t.Further) (args : Passed)
+      → operation_of (known_by here k) operation n more args ≡ operation_of (known_by there k) operation n more args
+  operation_of_same k (operations.Port op) n more args =
+      λ j. access_of k.modes op (port_named_same here there same n j) (further_count more) args
+  operation_of_same k (operations.Group groups.Acquire) n more args =
+      λ j. group_operation k.modes true (group_named_same here there same n j) (further_count more)
+  operation_of_same k (operations.Group groups.Release) n more args =
+      λ j. group_operation k.modes false (group_named_same here there same n j) (further_count more)
+  operation_of_same k (operations.Group groups.Map) n more args =
+      λ j. binding_operation k.modes (binding_of_same here there same n more j)
 
-  pub operation_site_same : (k : Known) (operation : Operation) (n : List ℕ) (count : ℕ) (at : ℕ)
-      → operation_site (known_by here k) operation n count at ≡ operation_site (known_by there k) operation n count at
-  operation_site_same k (operations.Port op) n count at = λ j. on (a_port op (port_named_same here there same n j) count at)
-  operation_site_same k (operations.Group op) n count at =
-      λ j. on (a_group (group_action op) (group_named_same here there same n j) count at)
+  module _ (f g : List Site → List Site) (h : (rest : List Site) → f rest ≡ g rest) where
+    pub operation_sites_same : (k : Known) (operation : Operation) (n : List ℕ) (more : t.Further) (at : ℕ) (rest : List Site)
+        → operation_sites (known_by here k) operation n more at f rest ≡ operation_sites (known_by there k) operation n more at g rest
+    operation_sites_same k (operations.Port op) n more at rest =
+        λ j. h (on (a_port op (port_named_same here there same n j) (further_count more) at) ∷ rest) j
+    operation_sites_same k (operations.Group groups.Acquire) n more at rest =
+        λ j. h (on (a_group (group_named_same here there same n j) (further_count more) at) ∷ rest) j
+    operation_sites_same k (operations.Group groups.Release) n more at rest =
+        λ j. h (on (a_group (group_named_same here there same n j) (further_count more) at) ∷ rest) j
+    operation_sites_same k (operations.Group groups.Map) n more at rest =
+        λ j. on (a_binding (binding_of_same here there same n more j) at) ∷ rest
 
   module _ (k : Known) where
     mutual
@@ -106,7 +119,7 @@ module _ (here there : IoTable) (same : LookAlike here there) where
       of_primary_same (t.constant s c) = refl
       of_primary_same (t.parenthesised l e r) = λ j. of_expression_same e j
       of_primary_same (t.operation s op l (t.identifier at n) more r) =
-          λ j. operation_of_same k op n (further_count more) (passed_further_same (wanted_for op) (operands None None) 1 more j) j
+          λ j. operation_of_same k op n more (passed_further_same (wanted_for op) (operands None None) 1 more j) j
 
     mutual
       pub expression_sites_same : (expression : t.Expression) (rest : List Site)
@@ -193,4 +206,5 @@ module _ (here there : IoTable) (same : LookAlike here there) where
       primary_sites_same (t.constant s c) rest = refl
       primary_sites_same (t.parenthesised l e r) rest = λ j. expression_sites_same e rest j
       primary_sites_same (t.operation s op l (t.identifier at n) more r) rest =
-          λ j. further_sites_same (wanted_for op) 1 more (operation_site_same k op n (further_count more) s.index j ∷ rest) j
+          operation_sites_same (further_sites (known_by here k) (wanted_for op) 1 more) (further_sites (known_by there k) (wanted_for op)
+          1 more) (λ r. further_sites_same (wanted_for op) 1 more r) k op n more s.index rest

@@ -58,8 +58,9 @@ pub static CONSTRAINTS: [&str; 40] = [
     "`*`, `[ ]` and `->` need a pointer (to a struct for `->`), `.` a struct, and an index is an integer (C99 \
     6.5.2.1, 6.5.2.3, 6.5.3.2)",
     "the struct has no such member (C99 6.5.2.3)",
-    "the first argument of a port operation names a port of the map, or a group of it; and the operation has its \
-    own number of arguments (Embedded C 6.3)",
+    "the first argument of a port operation names a port of the map, and that of `iogroup_acquire` or `iogroup_release` a group \
+    or a dynamic group of it; the operation has its own number of arguments; and those of `iogroup_map` are the name of a dynamic \
+    group and then, without parentheses, that of a group among its choices (Embedded C 6.3)",
     "a port of width 4 is read and written by the operations that end in `l` or `bufl` (Embedded C 6.3)",
     "`break` and `continue` stand in a loop (C99 6.8.6.2, 6.8.6.3)",
     "`return` has a value exactly where the function has a result (C99 6.8.6.4)",
@@ -68,8 +69,8 @@ pub static CONSTRAINTS: [&str; 40] = [
 ];
 
 /// What each rule of a map asks, by its number. The first row is rule 1.
-pub static MAP_RULES: [&str; 18] = [
-    "a map has the keys `core` and `region`, and may have `port`, `group` and `place`, and no other",
+pub static MAP_RULES: [&str; 22] = [
+    "a map has the keys `core` and `region`, and may have `port`, `group`, `place` and `dynamic`, and no other",
     "`core` is the string \"small\" or \"large\"",
     "`region` is a table with the keys `code`, `tables`, `data` and `stack`, and no other but `far` on the core large",
     "each region is an array of two integers: the first address from 0, and the size from 1, each at most 131072",
@@ -81,15 +82,20 @@ pub static MAP_RULES: [&str; 18] = [
     `group`",
     "the name of each port is an identifier, and no two ports have one name",
     "a width is 1, 2 or 4, and a count is from 1 to 220",
-    "an address is an integer, and all bytes of the port are ports: 0x20 to 0xFF but for 0x5D, 0x5E and 0x5F, and on the core large \
-    0x5B",
+    "an address is an integer from 0 to 255, and all bytes of a port that is of no dynamic group are ports: 0x20 to 0xFF but for \
+    0x5D, 0x5E and 0x5F, and on the core large 0x5B",
     "`group` is an array of at most 16 tables with exactly `name`, `acquire` and `release`",
     "the name of each group is an identifier, and no two groups have one name",
     "`acquire` and `release` are arrays of at most 32 arrays of two integers",
     "each pair is the address of a port and a byte from 0 to 255",
-    "the `group` of a port is a string that names a group of the map",
+    "the `group` of a port is a string that names a group or a dynamic group of the map",
     "`place` is a table",
     "a place is an integer from 1 to 65535, and on the core large to 131071",
+    "`dynamic` is an array of at most 8 tables with exactly `name` and `choices`",
+    "the name of each dynamic group is an identifier, and no two among dynamic groups and groups have one name",
+    "`choices` is an array of 1 to 8 arrays of the name of a group and a base from 0 to 255; no group and no base stands twice in it",
+    "from the base of each choice on, all bytes of each port of the dynamic group are ports: 0x20 to 0xFF but for 0x5D, 0x5E and \
+    0x5F, and on the core large 0x5B",
 ];
 
 /// What each rule of a line of a script asks, by its number. The first row is rule 1.
@@ -109,7 +115,7 @@ pub static LISTING_RULES: [&str; 3] = [
 ];
 
 /// What each undefined point is, by its number. The first row is point 1, and the last one is met by no program of a build.
-pub static POINTS: [&str; 15] = [
+pub static POINTS: [&str; 16] = [
     "the divisor is 0 (C99 6.5.5)",
     "the count of a shift is negative, or not below the width of the left operand in bits (C99 6.5.7)",
     "a fixed-point result lies outside its type, which does not saturate: write `_Sat`, or bring the operands into range \
@@ -125,9 +131,11 @@ pub static POINTS: [&str; 15] = [
     "a pointer past the end of an object is compared with one into another, or a pointer is used whose object lives no \
     more (C99 6.5.9, 6.2.4)",
     "a pointer is moved out of its object, where the place behind its end is allowed, or from null (C99 6.5.6)",
-    "a port is accessed whose group is not acquired (Embedded C 6.3)",
+    "a port is accessed whose group is not acquired, or whose dynamic group is bound to a group that is not (Embedded C 6.3)",
     "the index of a port is not below the port's count (Embedded C 6.3)",
     "a function with a result, other than `main`, ends without `return` (C99 6.9.1)",
+    "a port is accessed whose dynamic group is not bound, or such a dynamic group is acquired or released: bind it before by \
+    `iogroup_map` (Embedded C 6.3)",
     "the typed program is not valid",
 ];
 
