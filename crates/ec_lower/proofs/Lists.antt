@@ -1,9 +1,11 @@
 -- Lists item by item, as plain trees, and the sizes of items.
 use Rattle.std.proofs.Common.{◌≡◌, ◌<◌, ◌+◌, ℕ, zero, suc, List, [], ◌∷◌, length, get_or, drop, map, Some, ap, sym}
-use Rattle.std.proofs.Common.{subst, ◌∙◌, arith, rules}
+use Rattle.std.proofs.Common.{Bool, false, refl, subst, ◌∙◌, arith, rules}
 use Rattle.std.proofs.Math.Seq.{drop-cons}
-use Rattle.std.specs.Prelude.{slice_get}
+use Rattle.std.specs.Prelude.{◌==◌, slice_get}
 use Rattle.std.specs.List.{AllByRecursion}
+use Rattle.ec_fx.specs.declared.numbers.Mode.{Mode}
+use Rattle.ec_iohw.specs.declared.table.Choice.{Choice}
 use Rattle.ec_space.specs.Listed.{Listed}
 use Rattle.ec_core.specs.declared.expressions.Expr.{Expr}
 use Rattle.ec_core.specs.declared.expressions.Node.{Call, the_lemmas as node_lemmas}
@@ -14,7 +16,10 @@ use Rattle.ec_core.specs.Layout.{IsObjectType}
 use Rattle.ec_core.specs.Valid.{IsObject}
 use Rattle.ec_core.specs.Plain.{call, block, plain_node, plain_kind, plain_expr, plain_exprs, plain_stmt}
 use Rattle.ec_core.specs.Plain.{plain_stmts, plain_object, PlainObject, PlainProgram}
+use Rattle.ec_core.specs.PortTable.{PlainTable}
 use Rattle.ec_core.proofs.Rows.{plain_expr_row-row, plain_stmt_row-row}
+use Rattle.ec_ir.specs.Operations.{PlainIr, jump, label}
+use Rattle.ec_lower_code.specs.Code.{group_code, base_test, choices_code}
 use Rattle.ec_lower.specs.Sizes.{expr_size, exprs_size, stmt_size, stmts_size}
 
 pub plain_call : (f : ℕ) (args : Listed Expr) → plain_node (Call f args) ≡ call f (plain_exprs args.items)
@@ -63,3 +68,12 @@ pub object_at : (P : PlainObject → Type 0) (objs : List Obj) (o : ℕ) (x : Ob
 object_at P [] o x e h = cc
 object_at P (y ∷ ys) zero x e h = let s : y ≡ x = cc in subst (λ (z : Obj). P (plain_object z)) s h.0
 object_at P (y ∷ ys) (suc o) x e h = object_at P ys o x e h.1
+
+-- the operations of a choice that is not the last one
+pub choices_more : (acquire : Bool) (table : PlainTable) (mode : Mode) (d : ℕ) (c : Choice) (cs : List Choice) (l t : ℕ)
+    (rest : List PlainIr) → (length cs == 0) ≡ false
+    → choices_code acquire table mode d (c ∷ cs) l t rest
+    ≡ base_test mode d c.base l t (choices_code acquire table mode d cs (l + 2) t (jump (l + 1) ∷ label l
+    ∷ group_code acquire (slice_get table.groups c.group) t (label (l + 1) ∷ rest)))
+choices_more acquire table mode d c [] l t rest e = cc
+choices_more acquire table mode d c (other ∷ cs) l t rest e = refl

@@ -6,7 +6,7 @@ use Rattle.ec_fx.specs.declared.numbers.Mode.{Mode}
 use Rattle.ec_core.specs.declared.expressions.Expr.{Expr}
 use Rattle.ec_core.specs.declared.expressions.Node.{Node, Number, Null, Load, AddressOf, Unary', Binary', Convert', Assign'}
 use Rattle.ec_core.specs.declared.expressions.Node.{Compound', Step, Not, Not', And, And', Or, Or', Cond', Comma, Comma'}
-use Rattle.ec_core.specs.declared.expressions.Node.{Call', Io', Group}
+use Rattle.ec_core.specs.declared.expressions.Node.{Call', Io', Group, Bind, DynGroup}
 use Rattle.ec_core.specs.declared.expressions.PlaceExpr.{PlaceExpr}
 use Rattle.ec_core.specs.Plain.{PlainExpr, expression, PlainNode, PlainProgram, PlainType, plain_node}
 use Rattle.ec_core.specs.PortTable.{PlainTable}
@@ -67,6 +67,8 @@ module _ (program : PlainProgram) (table : PlainTable) (ty : PlainType) (mode : 
   unread_else (Call' f shape args) no_step no_comma rest = refl
   unread_else (Io' op port index value) no_step no_comma rest = refl
   unread_else (Group acquire g) no_step no_comma rest = refl
+  unread_else (Bind d choice) no_step no_comma rest = refl
+  unread_else (DynGroup acquire d) no_step no_comma rest = refl
 
   -- a condition that is no `!`, `&&` or `||` is worked out, and its value leads on
   pub branch_else : (node : Node) → ((a : Box Expr Global) → node ≡ Not a → ⊥) → ((a b : Box Expr Global) → node ≡ And a b → ⊥)
@@ -91,3 +93,5 @@ module _ (program : PlainProgram) (table : PlainTable) (ty : PlainType) (mode : 
   branch_else (Call' f shape args) no_not no_and no_or to rest = refl
   branch_else (Io' op port index value) no_not no_and no_or to rest = refl
   branch_else (Group acquire g) no_not no_and no_or to rest = refl
+  branch_else (Bind d choice) no_not no_and no_or to rest = refl
+  branch_else (DynGroup acquire d) no_not no_and no_or to rest = refl

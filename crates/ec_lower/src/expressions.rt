@@ -16,6 +16,7 @@ use crate::branches::{
     Branch, opposite, other_label, put_and_end, put_branch, put_or_end, zero_label,
 };
 use crate::calls::store_call;
+use crate::dynamics::lower_dynamic;
 use crate::emit::{
     above, behind, put, put_binary, put_conversion, put_null, put_number, put_turn, put_unary,
     result_temp, temp, truth,
@@ -317,7 +318,7 @@ pub fn lower_branch(
     }
 }
 
-/// Those of an operation on a port or a group. There is no other form.
+/// Those of an operation on a port, a group or a dynamic group. There is no other form.
 #[cycle(lower)]
 fn lower_port(
     code: &mut Seq<Ir>,
@@ -392,7 +393,7 @@ fn lower_port(
             put_group(code, io, *acquire, *group, t)?;
             Ok(l)
         }
-        _ => Err(NoMemory),
+        _ => lower_dynamic(code, alloc, io, mode, node, l, t),
     }
 }
 

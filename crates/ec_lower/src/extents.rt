@@ -235,7 +235,7 @@ fn choice_extent(node: &Node) -> Result<Extent, NoMemory>
     }
 }
 
-/// That of an operation on a port or a group. There is no other form.
+/// That of an operation on a port, a group or a dynamic group. There is no other form.
 #[cycle(extents)]
 fn port_extent(node: &Node) -> Result<Extent, NoMemory>
     ensures labels { IfOk result (λ x. x.labels ≡ node_labels (plain_node node.now)) }
@@ -257,9 +257,13 @@ fn port_extent(node: &Node) -> Result<Extent, NoMemory>
                 Some(v) => io_extent(*op, Some(i), Some(v)),
             },
         },
-        Node::Group { .. } => Ok(Extent {
+        Node::Group { .. } | Node::Bind { .. } => Ok(Extent {
             labels: 0,
             places: 1,
+        }),
+        Node::DynGroup { .. } => Ok(Extent {
+            labels: 16,
+            places: 2,
         }),
         _ => Err(NoMemory),
     }

@@ -2,12 +2,13 @@
 //! and then those of expressions, statements and whole programs.
 //!
 //! `lower` gives the operations of a program. What these are stands in `specs/Code.antt` of `ec_lower_code`.
-//! `read_groups` tells of a table that the numbers of its pairs are bytes, which laws ask for.
+//! `read_groups` tells of a table that the numbers of its pairs and the bases of its choices are bytes, which laws ask for.
 #![tactic(auto)]
 
 mod branches;
 mod calls;
 mod copies;
+mod dynamics;
 mod emit;
 mod ends;
 mod expressions;

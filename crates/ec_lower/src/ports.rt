@@ -1,17 +1,17 @@
 //! The operations on ports, and what the numbers of a table are.
-ghost use Rattle.std.specs.Prelude.{◌≡◌, ◌+◌, ◌∷◌, None, pos, map, slice_get, OnOk};
+ghost use Rattle.std.specs.Prelude.{◌≡◌, ◌+◌, ◌∷◌, None, pos, map, slice_get, OnOk, IfOk};
 ghost use Rattle.ec_core.specs.Plain.{plain_type};
 ghost use Rattle.ec_core.specs.PortAccesses.{pairs_of};
 ghost use Rattle.ec_core.specs.PortOperations.{updates};
 ghost use Rattle.ec_core.specs.PortTable.{plain_port, plain_group, plain_table};
-ghost use Rattle.ec_ir.specs.Operations.{constant, port_in, port_out};
+ghost use Rattle.ec_ir.specs.Operations.{constant, port_out, cell_port};
 ghost use Rattle.ec_lower.specs.Emits.{Emits};
-ghost use Rattle.ec_lower_code.specs.Code.{temp, port_code, byte_type, pairs_code, group_code};
+ghost use Rattle.ec_lower_code.specs.Code.{temp, read_from, write_to, port_code, byte_type, pairs_code, group_code};
 ghost use Rattle.std.specs.List.{AllByRecursion};
 ghost use Rattle.std.specs.Option.{option_copied};
 ghost use Rattle.ec_lower.specs.Emits.{plain_action, plain_operand};
 ghost use Rattle.ec_lower_code.specs.Code.{access_code};
-ghost use Rattle.ec_lower_code.specs.Correct.{IsBytePair, HasBytePairs, GroupsHaveBytes};
+ghost use Rattle.ec_lower_code.specs.Correct.{IsBytePair, HasBytePairs, HasByteBase, HasByteBases, GroupsHaveBytes};
 
 use crate::emit::{above, put, put_binary, temp};
 use crate::port_operations::{
@@ -19,12 +19,49 @@ use crate::port_operations::{
 };
 use ec_core::{BinOp, CType, Expr};
 use ec_fx::Mode;
-use ec_iohw::{IoOp, IoTable, Pair, Port, PortGroup};
+use ec_iohw::{Choice, Dynamic, IoOp, IoTable, Pair, Port, PortGroup};
 use ec_ir::{Ir, Temp};
 use ec_space::{NoMemory, Seq};
 use std::alloc::Global;
 
 // ---- ports
+
+/// The cell of a dynamic group. There are fewer than 256.
+pub fn cell_of(dynamic: u16) -> Result<u8, NoMemory>
+    ensures { IfOk result (λ cell. cell ≡ dynamic) }
+{
+    if dynamic < 256 {
+        Ok(dynamic as u8)
+    } else {
+        Err(NoMemory)
+    }
+}
+
+/// A read or a write of a port's bytes so far behind what a cell holds, with the index in its temporary.
+fn put_cell_port(
+    code: &mut Seq<Ir>,
+    read: bool,
+    temp: Temp,
+    cell: u8,
+    offset: u8,
+    index: Option<Temp>,
+    width: u8,
+) -> Result<(), NoMemory>
+    ensures { OnOk result (Emits code.old.items code.new.items
+        (λ rest. cell_port read temp cell offset index width ∷ rest)) }
+{
+    put(
+        code,
+        Ir::CellPort {
+            read,
+            temp,
+            cell,
+            offset,
+            index,
+            width,
+        },
+    )
+}
 
 /// A read of a port's bytes, with the index in its temporary.
 pub fn put_in(
@@ -34,18 +71,24 @@ pub fn put_in(
     index: Option<Temp>,
 ) -> Result<(), NoMemory>
     ensures { OnOk result (Emits code.old.items code.new.items (λ rest. let port = plain_port port.now in
-        port_in to port.address index port.width ∷ rest)) }
+        read_from port.dynamic to port.address index port.width ∷ rest)) }
 {
     let (address, width) = (port.address, port.width);
-    put(
-        code,
-        Ir::PortIn {
-            to,
-            address,
-            index,
-            width,
-        },
-    )
+    match port.dynamic {
+        None => put(
+            code,
+            Ir::PortIn {
+                to,
+                address,
+                index,
+                width,
+            },
+        ),
+        Some(d) => {
+            let cell = cell_of(d)?;
+            put_cell_port(code, true, to, cell, address, index, width)
+        }
+    }
 }
 
 /// A write of a port's bytes, with the index in its temporary.
@@ -56,18 +99,24 @@ pub fn put_out(
     index: Option<Temp>,
 ) -> Result<(), NoMemory>
     ensures { OnOk result (Emits code.old.items code.new.items (λ rest. let port = plain_port port.now in
-        port_out from port.address index port.width ∷ rest)) }
+        write_to port.dynamic from port.address index port.width ∷ rest)) }
 {
     let (address, width) = (port.address, port.width);
-    put(
-        code,
-        Ir::PortOut {
-            from,
-            address,
-            index,
-            width,
-        },
-    )
+    match port.dynamic {
+        None => put(
+            code,
+            Ir::PortOut {
+                from,
+                address,
+                index,
+                width,
+            },
+        ),
+        Some(d) => {
+            let cell = cell_of(d)?;
+            put_cell_port(code, false, from, cell, address, index, width)
+        }
+    }
 }
 
 /// A read of a port's bytes to the place above the value at `v`, the operation on both, and a write of its result.
@@ -211,7 +260,7 @@ pub fn put_access(
     }
 }
 
-// ---- the numbers of pairs are bytes
+// ---- the numbers of pairs, and the bases of choices, are bytes
 
 fn read_pair(pair: &Pair)
     ensures { IsBytePair pair.now }
@@ -235,11 +284,40 @@ fn read_group(group: &PortGroup)
     read_pairs(group.release.as_slice());
 }
 
-/// Reads all pairs of a table, whose numbers are bytes, and does nothing with them.
+fn read_all_pairs(groups: &[PortGroup])
+    ensures { AllByRecursion HasBytePairs groups.now }
+{
+    for group in groups {
+        read_group(group);
+    }
+}
+
+fn read_choice(choice: &Choice)
+    ensures { HasByteBase choice.now }
+{
+    let _base = choice.base;
+}
+
+fn read_choices(choices: &[Choice])
+    ensures { AllByRecursion HasByteBase choices.now }
+{
+    for choice in choices {
+        read_choice(choice);
+    }
+}
+
+fn read_all_bases(dynamics: &[Dynamic])
+    ensures { AllByRecursion HasByteBases dynamics.now }
+{
+    for dynamic in dynamics {
+        read_choices(dynamic.choices.as_slice());
+    }
+}
+
+/// Reads all pairs and all choices of a table, whose numbers are bytes, and does nothing with them.
 pub fn read_groups(io: &IoTable)
     ensures { GroupsHaveBytes io.now }
 {
-    for group in io.groups.as_slice() {
-        read_group(group);
-    }
+    read_all_pairs(io.groups.as_slice());
+    read_all_bases(io.dynamics.as_slice());
 }

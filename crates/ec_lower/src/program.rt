@@ -1,5 +1,5 @@
 //! The operations of a program.
-ghost use Rattle.std.specs.Prelude.{◌≡◌, ◌∷◌, ◌++◌, map, OnOk, IfOk};
+ghost use Rattle.std.specs.Prelude.{◌≡◌, ◌∷◌, ◌++◌, length, map, OnOk, IfOk};
 ghost use Rattle.ec_core.specs.Plain.{plain_function, plain_program, plain_stmt};
 ghost use Rattle.ec_core.specs.Valid.{Valid};
 ghost use Rattle.ec_core.specs.PortTable.{plain_table};
@@ -100,7 +100,7 @@ pub fn lower(alloc: Global, program: &Program, io: &IoTable) -> Result<IrProgram
     ensures code { IfOk result (λ ir. plain_ir_program ir ≡ lowered (plain_program program.now) (plain_table io.now)) }
     ensures follows { IfOk result (λ ir. Follows (plain_program program.now) io.now (plain_ir_program ir)) }
     ensures made { IfOk result (λ ir. IsMadeOf (plain_program program.now) io.now (plain_ir_program ir)) }
-    ensures valid { IfOk result (λ ir. ValidIr (plain_ir_program ir)) }
+    ensures valid { IfOk result (λ ir. ValidIr (length io.now.dynamics.items) (plain_ir_program ir)) }
     ensures shapes { IfOk result (λ ir. CountsByShapes (plain_program program.now) io.now (plain_ir_program ir)) }
 {
     read_groups(io);

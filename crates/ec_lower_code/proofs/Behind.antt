@@ -5,24 +5,27 @@ use Rattle.ec_core.specs.declared.expressions.BinOp.{BinOp}
 use Rattle.ec_core.specs.Layout.{PlainLeaf}
 use Rattle.ec_core.specs.Operators.{OperationTypes, number_type, step_operator}
 use Rattle.ec_core.specs.PortOperations.{PortAction, reads, writes, updates, port_operation}
-use Rattle.ec_core.specs.PortTable.{PlainPort, PlainGroup, PlainTable}
+use Rattle.ec_core.specs.PortTable.{PlainPort, PlainGroup, PlainTable, choices_of}
 use Rattle.ec_core.specs.Typing.{int, type_of_expr, port_value}
 use Rattle.ec_core.specs.PortAccesses.{pairs_of}
 use Rattle.ec_iohw.specs.declared.operations.IoOp.{IoOp}
+use Rattle.ec_iohw.specs.declared.table.Choice.{Choice}
 use Rattle.ec_iohw.specs.declared.table.Pair.{Pair}
 use Rattle.ec_ir.specs.declared.operations.Temp.{Temp}
 use Rattle.ec_core.specs.Plain.{PlainType, void, integer, fixed, pointer, array, struct, PlainExpr, expression, PlainNode}
 use Rattle.ec_core.specs.Plain.{number, null, load, address_of, unary, binary, convert, assign, compound, step, logical_not}
-use Rattle.ec_core.specs.Plain.{logical_and, logical_or, conditional, comma, call, io, group, PlainPlace, object, deref, member}
+use Rattle.ec_core.specs.Plain.{logical_and, logical_or, conditional, comma, call, io, group, bind, dynamic_group}
+use Rattle.ec_core.specs.Plain.{PlainPlace, object, deref, member}
 use Rattle.ec_core.specs.Plain.{OptionPlainExpr, no_expr, an_expr, PlainExprs, last_expr, next_expr, PlainStmt, statement}
 use Rattle.ec_core.specs.Plain.{PlainKind, empty, evaluate, block, declare, branch, while_loop, do_loop, for_loop, break_loop}
 use Rattle.ec_core.specs.Plain.{continue_loop, return_value, OptionPlainStmt, no_stmt, a_stmt, PlainStmts, last_stmt, next_stmt}
 use Rattle.ec_core.specs.Plain.{PlainProgram}
-use Rattle.ec_ir.specs.Operations.{PlainIr}
+use Rattle.ec_ir.specs.Operations.{PlainIr, label}
 use Rattle.ec_lower_code.specs.Code.{truth_code, Site, named, pointed, further_code, value_place, settled_code, address_code}
 use Rattle.ec_lower_code.specs.Code.{update_types, update_code, keeping_code, change_code, postfix_code, step_code, params_code}
 use Rattle.ec_lower_code.specs.Code.{params_of, offset_of, site, port_operator, port_code, place_behind as value_behind}
-use Rattle.ec_lower_code.specs.Code.{operand_temp, access_code, pairs_code, group_code, option_code, expr_labels}
+use Rattle.ec_lower_code.specs.Code.{operand_temp, access_code, pairs_code, group_code, bind_code, base_test, choices_code}
+use Rattle.ec_lower_code.specs.Code.{option_code, expr_labels}
 use Rattle.ec_lower_code.specs.Code.{optional_labels, option_stmt_labels, expr_code, node_code, place_code, args_code}
 use Rattle.ec_lower_code.specs.Code.{init_code, test_code, last_code, leaves_of_object, loop_code, stmt_code, kind_code}
 use Rattle.ec_lower_code.specs.Code.{option_stmt_code, stmts_code}
@@ -132,10 +135,27 @@ module _ (program : PlainProgram) (table : PlainTable) (code : List PlainIr) whe
   pairs_behind [] t rest s = s
   pairs_behind (pair ∷ pairs) t rest s = pairs_behind pairs t rest (behind code _ _ (behind code _ _ s))
 
-  group_behind : (acquire : Bool) (x : Option PlainGroup) (t : ℕ) (rest : List PlainIr) → Stands code (group_code acquire x t rest)
+  pub group_behind : (acquire : Bool) (x : Option PlainGroup) (t : ℕ) (rest : List PlainIr) → Stands code (group_code acquire x t rest)
       → Stands code rest
   group_behind acquire None t rest s = s
   group_behind acquire (Some x) t rest s = pairs_behind (pairs_of acquire x) t rest s
+
+  bind_behind : (d : ℕ) (c : Option Choice) (t : ℕ) (rest : List PlainIr) → Stands code (bind_code d c t rest) → Stands code rest
+  bind_behind d None t rest s = s
+  bind_behind d (Some c) t rest s = behind code _ rest (behind code _ _ s)
+
+  pub test_behind_base : (mode : Mode) (d base l t : ℕ) (rest : List PlainIr) → Stands code (base_test mode d base l t rest)
+      → Stands code rest
+  test_behind_base mode d base l t rest s = behind code _ rest (behind code _ _ (behind code _ _ (behind code _ _ s)))
+
+  pub choices_behind : (acquire : Bool) (mode : Mode) (d : ℕ) (cs : List Choice) (l t : ℕ) (rest : List PlainIr)
+      → Stands code (choices_code acquire table mode d cs l t rest) → Stands code rest
+  choices_behind acquire mode d [] l t rest s = s
+  choices_behind acquire mode d (c ∷ []) l t rest s = group_behind acquire (slice_get table.groups c.group) t rest s
+  choices_behind acquire mode d (c ∷ other ∷ cs) l t rest s =
+      behind code (label (l + 1)) rest (group_behind acquire (slice_get table.groups c.group) t (label (l + 1) ∷ rest)
+      (behind code _ _ (behind code _ _ (choices_behind acquire mode d (other ∷ cs) (l + 2) t _
+      (test_behind_base mode d c.base l t _ s)))))
 
   mutual
     pub expr_behind : (e : PlainExpr) (l t : ℕ) (rest : List PlainIr) → Stands code (expr_code program table e l t rest) → Stands code rest
@@ -170,6 +190,8 @@ module _ (program : PlainProgram) (table : PlainTable) (code : List PlainIr) whe
     node_behind ty mode (io op port i v) l t rest h = access_behind op mode (slice_get table.ports port) i t rest
         (operand_behind v _ _ _ (operand_behind i l t _ h))
     node_behind ty mode (group acquire g) l t rest h = group_behind acquire (slice_get table.groups g) t rest h
+    node_behind ty mode (bind d choice) l t rest h = bind_behind d (slice_get (choices_of table d) choice) t rest h
+    node_behind ty mode (dynamic_group acquire d) l t rest h = choices_behind acquire mode d (choices_of table d) l t rest h
 
     pub unread_behind : (e : PlainExpr) (l t : ℕ) (rest : List PlainIr) → Stands code (unread_code program table e l t rest)
         → Stands code rest

@@ -54,17 +54,18 @@ module _ (wd : World) (sc : Scene wd) (ret : Returns wd sc) where
 
   -- a jump or a label behind a part
   jump_behind : (d l : ℕ) (after_code rest out on : List PlainIr) → find l sc.code ≡ Some rest → (s : State) (u : Mach)
-      → Match (homes wd) (around (W wd sc)) (d + 5) s u → Goes (jump l ∷ after_code) u rest out on d (got at_end s)
+      → Match (homes wd) (ports wd) (around (W wd sc)) (d + 5) s u → Goes (jump l ∷ after_code) u rest out on d (got at_end s)
   jump_behind d l after_code rest out on f s u h =
       after (W wd sc) (left_to wd sc ret rest out on) (Left wd sc ret d) wd.n (Spots (jump l ∷ after_code)) (Spots rest) u _ (got at_end s)
       (jumps (W wd sc) l after_code rest u f)
-      (at_rest wd sc ret d rest out on wd.n s _ (spent_on (homes wd) (d + 5) d (jump l) u.temps s u (omega arith) h))
+      (at_rest wd sc ret d rest out on wd.n s _ (spent_on (homes wd) (ports wd) (d + 5) d (jump l) u.temps s u (omega arith) h))
 
-  label_behind : (d e l : ℕ) (rest out on : List PlainIr) → d ≤ e → (s : State) (u : Mach) → Match (homes wd) (around (W wd sc)) e s u
+  label_behind : (d e l : ℕ) (rest out on : List PlainIr) → d ≤ e → (s : State) (u : Mach)
+      → Match (homes wd) (ports wd) (around (W wd sc)) e s u
       → Goes (label l ∷ rest) u rest out on d (got at_end s)
   label_behind d e l rest out on le s u h =
       past_label (W wd sc) wd.n l rest u (left_to wd sc ret rest out on) (Left wd sc ret d) (got at_end s)
-      (at_rest wd sc ret d rest out on wd.n s u (less (homes wd) e d s u le h))
+      (at_rest wd sc ret d rest out on wd.n s u (less (homes wd) (ports wd) e d s u le h))
 
   -- from a value to the return
   return_runs : (d : ℕ) (e : PlainExpr) (b : Temps) (v : Value) (s : State) (u : Mach) (rest out on more_code : List PlainIr)
@@ -81,7 +82,7 @@ module _ (wd : World) (sc : Scene wd) (ret : Returns wd sc) where
         g.0,
         record {
           match = g.1 d s
-              (spent_on (homes wd) (d + return_of (Some e)) d i u.temps s u (omega (arith, a, size)) r.has.match);
+              (spent_on (homes wd) (ports wd) (d + return_of (Some e)) d i u.temps s u (omega (arith, a, size)) r.has.match);
           back = g.2;
         },
         g.3,
@@ -91,14 +92,14 @@ module _ (wd : World) (sc : Scene wd) (ret : Returns wd sc) where
   declared_runs : (o : ℕ) (es : PlainExprs) (l d : ℕ) (rest out on : List PlainIr) → CallsOfExprs (IsOther wd.program) es
       → ValidKind wd.program wd.io sc.f ret.returns true (declare o es)
       → Stands sc.code (kind_code wd.program (ports wd) (declare o es) l 0 0 rest) → (s : State) (m : Mach)
-      → Match (homes wd) (around (W wd sc)) d s m
+      → Match (homes wd) (ports wd) (around (W wd sc)) d s m
       → IsTypedState wd.program s → Goes (init_code wd.program (ports wd) (leaves_of_object wd.program o) o es l rest) m rest out on d
       (initialising (set wd) calls o 0 es (begun wd.program o s))
   declared_runs o es l d rest out on p v stands s m h st =
       let x = some_and (slice_get wd.program.objects o) (IsDeclared wd.program wd.io sc.f es) v.0 in
       by_values x.0 x.1 x.2.0 x.2.1 (leaves_are wd.program o x.0 x.1)
     where
-      begins : Match (homes wd) (around (W wd sc)) d (begun wd.program o s) m
+      begins : Match (homes wd) (ports wd) (around (W wd sc)) d (begun wd.program o s) m
       begins = begun_match wd o d s m (λ y e. kept y e) h
         where
           kept : (y : PlainObject) → slice_get wd.program.objects o ≡ Some y → is_kept (around (W wd sc)) y.storage ≡ true
@@ -136,7 +137,8 @@ module _ (wd : World) (sc : Scene wd) (ret : Returns wd sc) where
   mutual
     pub stmt_runs : (a : PlainStmt) (in_loop : Bool) (l lo lc d : ℕ) (rest out on : List PlainIr) → CallsOfStmt (IsOther wd.program) a
         → ValidStmt wd.program wd.io sc.f ret.returns in_loop a → Stands sc.code (stmt_code wd.program (ports wd) a l lo lc rest)
-        → find lo sc.code ≡ Some out → find lc sc.code ≡ Some on → (s : State) (m : Mach) → Match (homes wd) (around (W wd sc)) d s m
+        → find lo sc.code ≡ Some out → find lc sc.code ≡ Some on → (s : State) (m : Mach)
+        → Match (homes wd) (ports wd) (around (W wd sc)) d s m
         → IsTypedState wd.program s → Keeps (stmt_code wd.program (ports wd) a l lo lc rest) m rest out on d
         (effect_of (set wd) calls wd.n a s)
     stmt_runs (statement unit k kind) in_loop l lo lc d rest out on p v stands fo fc s m h st =
@@ -147,7 +149,8 @@ module _ (wd : World) (sc : Scene wd) (ret : Returns wd sc) where
 
     kind_runs : (kind : PlainKind) (in_loop : Bool) (l lo lc d : ℕ) (rest out on : List PlainIr) → CallsOfKind (IsOther wd.program) kind
         → ValidKind wd.program wd.io sc.f ret.returns in_loop kind → Stands sc.code (kind_code wd.program (ports wd) kind l lo lc rest)
-        → find lo sc.code ≡ Some out → find lc sc.code ≡ Some on → (s : State) (m : Mach) → Match (homes wd) (around (W wd sc)) d s m
+        → find lo sc.code ≡ Some out → find lc sc.code ≡ Some on → (s : State) (m : Mach)
+        → Match (homes wd) (ports wd) (around (W wd sc)) d s m
         → IsTypedState wd.program s → Goes (kind_code wd.program (ports wd) kind l lo lc rest) m rest out on d
         (kind_effect (set wd) calls wd.n kind s)
     kind_runs empty in_loop l lo lc d rest out on p v stands fo fc s m h st = at_rest wd sc ret d rest out on wd.n s m h
@@ -169,7 +172,7 @@ module _ (wd : World) (sc : Scene wd) (ret : Returns wd sc) where
         (left_to wd sc ret rest out on) (Left wd sc ret d) (λ s2. effect_of (set wd) calls wd.n a s2) (λ s2. got at_end s2)
         (omega (arith, size))
         (branch_whole wd sc ret wd.n c (l + 2) (where_zero l) e (worked branch_words s) m rest then_code (omega arith) p.0 v.0.0 v.0.1 st
-        stands (sc.resolves l rest end) (credited (homes wd) branch_words d s m h))
+        stands (sc.resolves l rest end) (credited (homes wd) (ports wd) branch_words d s m h))
         (λ s1 u1 st1 k below. joins wd sc ret wd.n d d then_code u1 (label l ∷ rest) rest out on (effect_of (set wd) calls wd.n a s1)
         (omega arith)
         (stmt_runs a in_loop (l + 2 + expr_labels c) lo lc d (label l ∷ rest) out on p.1 v.1 then_at fo fc s1 u1 k st1)
@@ -192,7 +195,7 @@ module _ (wd : World) (sc : Scene wd) (ret : Returns wd sc) where
         (condition (set wd) c (value wd sc c (worked branch_words s))) (left_to wd sc ret rest out on) (Left wd sc ret d)
         (λ s2. effect_of (set wd) calls wd.n a s2) (λ s2. effect_of (set wd) calls wd.n a2 s2) (omega (arith, size))
         (branch_whole wd sc ret wd.n c (l + 2) (where_zero l) e (worked branch_words s) m else_code then_code (omega arith) p.0 v.0.0 v.0.1
-        st stands (sc.resolves l else_code label_at) (credited (homes wd) branch_words d s m h))
+        st stands (sc.resolves l else_code label_at) (credited (homes wd) (ports wd) branch_words d s m h))
         (λ s1 u1 st1 k below. joins wd sc ret wd.n (d + 5) d then_code u1 (jump (l + 1) ∷ label l ∷ else_code) rest out on
         (effect_of (set wd) calls wd.n a s1) (omega arith) (stmt_runs a in_loop (l + 2 + expr_labels c) lo lc (d + 5) (jump (l + 1)
         ∷ label l ∷ else_code) out on p.1 v.1 then_at fo fc s1 u1 k st1)
@@ -204,8 +207,8 @@ module _ (wd : World) (sc : Scene wd) (ret : Returns wd sc) where
     kind_runs break_loop in_loop l lo lc d rest out on p v stands fo fc s m h st = (
       machine m.temps (worked (op_steps (jump lo)) m.state),
       record {
-        match = spent_on (homes wd) (d + 10) d (jump lo) m.temps
-            (worked jump_words s) m (omega arith) (credited (homes wd) jump_words d s m h);
+        match = spent_on (homes wd) (ports wd) (d + 10) d (jump lo) m.temps
+            (worked jump_words s) m (omega arith) (credited (homes wd) (ports wd) jump_words d s m h);
         back = tt;
       },
       jumps (W wd sc) lo rest out m fo,
@@ -213,8 +216,8 @@ module _ (wd : World) (sc : Scene wd) (ret : Returns wd sc) where
     kind_runs continue_loop in_loop l lo lc d rest out on p v stands fo fc s m h st = (
       machine m.temps (worked (op_steps (jump lc)) m.state),
       record {
-        match = spent_on (homes wd) (d + 10) d (jump lc) m.temps
-            (worked jump_words s) m (omega arith) (credited (homes wd) jump_words d s m h);
+        match = spent_on (homes wd) (ports wd) (d + 10) d (jump lc) m.temps
+            (worked jump_words s) m (omega arith) (credited (homes wd) (ports wd) jump_words d s m h);
         back = tt;
       },
       jumps (W wd sc) lc rest on m fc,
@@ -225,8 +228,8 @@ module _ (wd : World) (sc : Scene wd) (ret : Returns wd sc) where
           g.0,
           record {
             match = g.1 d (worked (return_words 1) s)
-                (spent_on (homes wd) (d + return_words 1) d i m.temps (worked (return_words 1) s) m (omega arith)
-                (credited (homes wd) (return_words 1) d s m h));
+                (spent_on (homes wd) (ports wd) (d + return_words 1) d i m.temps (worked (return_words 1) s) m (omega arith)
+                (credited (homes wd) (ports wd) (return_words 1) d s m h));
             back = g.2;
           },
           g.3,
@@ -238,7 +241,7 @@ module _ (wd : World) (sc : Scene wd) (ret : Returns wd sc) where
         (Has wd sc (type_of_expr x) 0 e m.temps) (left_to wd sc ret rest out on) (Left wd sc ret d) (Spots (i ∷ rest))
         (value wd sc x (worked (return_of (Some x)) s)) _ (λ z. refl)
         (whole_runs wd sc ret wd.n x l e (worked (return_of (Some x)) s) m (i ∷ rest) (omega arith) p v.1 st stands
-        (credited (homes wd) (return_of (Some x)) d s m h))
+        (credited (homes wd) (ports wd) (return_of (Some x)) d s m h))
         (λ y s1 u r. return_runs d x m.temps y s1 u rest out on rest v.0.0 v.0.1 r)
     kind_runs (while_loop c a) in_loop l lo lc d rest out on p v stands fo fc s m h st =
         let q : List PlainIr = jump l ∷ label (l + 1) ∷ rest in
@@ -312,7 +315,7 @@ module _ (wd : World) (sc : Scene wd) (ret : Returns wd sc) where
     first_runs : (a : OptionPlainStmt) (in_loop : Bool) (l lo lc d : ℕ) (rest out on : List PlainIr)
         → CallsOfOptionStmt (IsOther wd.program) a → ValidOptionStmt wd.program wd.io sc.f ret.returns in_loop a
         → Stands sc.code (option_stmt_code wd.program (ports wd) a l lo lc rest) → find lo sc.code ≡ Some out → find lc sc.code ≡ Some on
-        → (s : State) (m : Mach) → Match (homes wd) (around (W wd sc)) d s m → IsTypedState wd.program s
+        → (s : State) (m : Mach) → Match (homes wd) (ports wd) (around (W wd sc)) d s m → IsTypedState wd.program s
         → Goes (option_stmt_code wd.program (ports wd) a l lo lc rest) m rest out on d (first_effect (set wd) calls wd.n a s)
     first_runs no_stmt in_loop l lo lc d rest out on p v stands fo fc s m h st = at_rest wd sc ret d rest out on wd.n s m h
     first_runs (a_stmt (statement unit k empty)) in_loop l lo lc d rest out on p v stands fo fc s m h st =
@@ -340,7 +343,8 @@ module _ (wd : World) (sc : Scene wd) (ret : Returns wd sc) where
 
     stmts_runs : (ss : PlainStmts) (in_loop : Bool) (l lo lc d : ℕ) (rest out on : List PlainIr) → CallsOfStmts (IsOther wd.program) ss
         → ValidStmts wd.program wd.io sc.f ret.returns in_loop ss → Stands sc.code (stmts_code wd.program (ports wd) ss l lo lc rest)
-        → find lo sc.code ≡ Some out → find lc sc.code ≡ Some on → (s : State) (m : Mach) → Match (homes wd) (around (W wd sc)) d s m
+        → find lo sc.code ≡ Some out → find lc sc.code ≡ Some on → (s : State) (m : Mach)
+        → Match (homes wd) (ports wd) (around (W wd sc)) d s m
         → IsTypedState wd.program s → Goes (stmts_code wd.program (ports wd) ss l lo lc rest) m rest out on d
         (effects_of (set wd) calls wd.n ss s)
     stmts_runs last_stmt in_loop l lo lc d rest out on p v stands fo fc s m h st = at_rest wd sc ret d rest out on wd.n s m h

@@ -5,7 +5,8 @@ use Rattle.ec_core.specs.Needs.{expr_calls, node_calls, place_calls, option_call
 use Rattle.ec_core.specs.Needs.{kind_calls, option_stmt_calls, stmts_calls}
 use Rattle.ec_core.specs.Plain.{PlainExpr, expression, PlainNode, number, null, load, address_of, unary, binary, convert}
 use Rattle.ec_core.specs.Plain.{assign, compound, step, logical_not, logical_and, logical_or, conditional, comma, call, io}
-use Rattle.ec_core.specs.Plain.{group, PlainPlace, object, deref, member, OptionPlainExpr, no_expr, an_expr, PlainExprs}
+use Rattle.ec_core.specs.Plain.{group, bind, dynamic_group, PlainPlace, object, deref, member, OptionPlainExpr}
+use Rattle.ec_core.specs.Plain.{no_expr, an_expr, PlainExprs}
 use Rattle.ec_core.specs.Plain.{last_expr, next_expr, PlainStmt, statement, PlainKind, empty, evaluate, block, declare, branch}
 use Rattle.ec_core.specs.Plain.{while_loop, do_loop, for_loop, break_loop, continue_loop, return_value, OptionPlainStmt}
 use Rattle.ec_core.specs.Plain.{no_stmt, a_stmt, PlainStmts, last_stmt, next_stmt, PlainFunction, PlainProgram}
@@ -46,6 +47,8 @@ module _ (C : ℕ → Type 0) where
     CallsOfNode (call f args) = C f × CallsOfExprs args
     CallsOfNode (io op port index value) = CallsOfOption index × CallsOfOption value
     CallsOfNode (group acquire g) = ⊤
+    CallsOfNode (bind d choice) = ⊤
+    CallsOfNode (dynamic_group acquire d) = ⊤
 
     pub CallsOfPlace : PlainPlace → Type 0
     CallsOfPlace (object o) = ⊤
@@ -146,6 +149,8 @@ module _ (C : ℕ → Type 0) where
         let y = operand_suits value rest x.1 in
         ((x.0, y.0), y.1)
     node_suits (group acquire g) rest h = (tt, h)
+    node_suits (bind d choice) rest h = (tt, h)
+    node_suits (dynamic_group acquire d) rest h = (tt, h)
 
     place_suits : (q : PlainPlace) (rest : List ℕ) → AllOf (place_calls q rest) → CallsOfPlace C q × AllOf rest
     place_suits (object o) rest h = (tt, h)

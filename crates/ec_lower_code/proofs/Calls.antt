@@ -32,7 +32,7 @@ use Rattle.ec_lower_code.proofs.Facts.{param_home, scalar_leaf, result_scalar}
 use Rattle.ec_lower_code.proofs.Labels.{function_resolves}
 use Rattle.ec_lower_code.proofs.Objects.{frame_one, AreAmong, among_more, kept_shown}
 use Rattle.ec_lower_code.proofs.Ops.{to_rest, Below, HasValue, label_comes, storage_of, stored_in}
-use Rattle.ec_lower_code.proofs.Scene.{World, ports, homes, set, calls_to, spot, law, apart, AreHeld, Callee, Scene}
+use Rattle.ec_lower_code.proofs.Scene.{World, ports, homes, set, calls_to, spot, law, few, apart, AreHeld, Callee, Scene}
 use Rattle.ec_lower_code.proofs.Shown.{held_of, Match}
 use Rattle.ec_lower_code.proofs.Statements.{Ends, Returns, begun_match, own_store, Typed}
 use Rattle.ec_lower_code.proofs.Steps.{held_at, held_below, held_is, Target, at, over, Stands, Spot, around, here, goes, execs, Comes}
@@ -40,19 +40,21 @@ use Rattle.ec_lower_code.proofs.Steps.{Does, Runs, stays, counts, after, bind, c
 
 -- the end of a function, where the functions that are active are others
 pub frame_match : (wd : World) (f d : ℕ) (fs : List ℕ) (s : State) (temps : Temps) (t : State)
-    → Match (homes wd) (f ∷ fs) d s (machine temps t)
-    → (temps1 : Temps) → Match (homes wd) fs d (frame_ended wd.program f s) (machine temps1 t)
+    → Match (homes wd) (ports wd) (f ∷ fs) d s (machine temps t)
+    → (temps1 : Temps) → Match (homes wd) (ports wd) fs d (frame_ended wd.program f s) (machine temps1 t)
 frame_match wd f d fs s temps t h temps1 = record {
   objects = frame_one (homes wd) f fs wd.program.objects s.objects t.objects h.objects;
+  cells = h.cells;
   events = h.events;
   spent = h.spent;
 }
 
 -- frames stand for more functions
 kept_match : (wd : World) (fs gs : List ℕ) (d : ℕ) (s : State) (temps : Temps) (t : State) → AreAmong fs gs
-    → Match (homes wd) fs d s (machine temps t) → Match (homes wd) gs d s (machine temps (kept_for (homes wd) gs t))
+    → Match (homes wd) (ports wd) fs d s (machine temps t) → Match (homes wd) (ports wd) gs d s (machine temps (kept_for (homes wd) gs t))
 kept_match wd fs gs d s temps t l h = record {
   objects = kept_shown (homes wd) fs gs gs l (λ f e. e) wd.program.objects s.objects t.objects h.objects;
+  cells = h.cells;
   events = h.events;
   spent = h.spent;
 }
@@ -69,7 +71,7 @@ module _ (wd : World) (code : List PlainIr) (stack : List Frame) (g : ℕ) where
 
   -- the machine is beside the program, once the frame of that function stands
   abbrev Beside : ℕ → State → Mach → Type 0
-  Beside d s u = Match (homes wd) fs d s (machine u.temps (kept_for (homes wd) fs u.state))
+  Beside d s u = Match (homes wd) (ports wd) fs d s (machine u.temps (kept_for (homes wd) fs u.state))
 
   -- parameters were written
   record Written (d : ℕ) (temps : Temps) (y : Value) (s : State) (u : Mach) : Type 0 where
@@ -103,12 +105,13 @@ module _ (wd : World) (code : List PlainIr) (stack : List Frame) (g : ℕ) where
       i : PlainIr
       i = store_object o 0 (temp t ty)
 
-      stored : Match (homes wd) fs d (begun wd.program o s)
+      stored : Match (homes wd) (ports wd) fs d (begun wd.program o s)
           (machine u.temps (stored_in (spot wd code stack) (apart wd) o 0 (temp t ty) u))
       stored =
-          subst (λ z. Match (homes wd) fs d (begun wd.program o s)
+          subst (λ z. Match (homes wd) (ports wd) fs d (begun wd.program o s)
           (machine u.temps (before_store (homes wd) (around (spot wd code stack)) z (worked (op_steps i) u.state)))) (sym storage_at)
-          (spent_on (homes wd) (d + 5 * scalar_size ty) d i u.temps (begun wd.program o s) (machine u.temps (kept_for (homes wd) fs
+          (spent_on (homes wd) (ports wd) (d + 5 * scalar_size ty) d i u.temps (begun wd.program o s) (machine u.temps (kept_for (homes
+          wd) fs
           u.state))
           (omega arith)
           (begun_match wd o (d + 5 * scalar_size ty) s (machine u.temps (kept_for (homes wd) fs u.state)) kept h))
@@ -127,7 +130,8 @@ module _ (wd : World) (code : List PlainIr) (stack : List Frame) (g : ℕ) where
 
       sound : (z : Outcome Value) → IsSoundOutcome wd.program (HasType wd.program x.ty) z → Runs (spot wd code stack) wd.n
           (store_object o 0 (temp t ty) ∷ rest) u (to_rest (spot wd code stack) rest)
-          (λ y s1 u1. Match (homes wd) fs d s1 u1 × (u1.temps ≡ u.temps)) z → Runs (spot wd code stack) wd.n (store_object o 0 (temp t ty)
+          (λ y s1 u1. Match (homes wd) (ports wd) fs d s1 u1 × (u1.temps ≡ u.temps)) z
+          → Runs (spot wd code stack) wd.n (store_object o 0 (temp t ty)
           ∷ rest) u (to_rest (spot wd code stack) rest) (Written d u.temps) z
       sound (got y s1) q r = (
         r.0,
@@ -152,7 +156,7 @@ module _ (wd : World) (code : List PlainIr) (stack : List Frame) (g : ℕ) where
   params_run d [] last_expr vs t s u rest ps args hd h st = (
     u,
     record {
-      match = less (homes wd) (d + 5 * 0) d s (machine u.temps (kept_for (homes wd) fs u.state)) (omega arith) h;
+      match = less (homes wd) (ports wd) (d + 5 * 0) d s (machine u.temps (kept_for (homes wd) fs u.state)) (omega arith) h;
       state = st;
       kept = refl;
     },
@@ -174,7 +178,7 @@ module _ (wd : World) (code : List PlainIr) (stack : List Frame) (g : ℕ) where
       bind w wd.n (here w (params_code (o ∷ os) (next_expr e es) t rest)) u (to_rest w more_code) (Written d1 u.temps) (to_rest w rest)
       (Written d u.temps) (here w more_code) (initialised wd.program o 0 v (begun wd.program o s)) _ (λ z. refl)
       (param_store d1 o t x.0 (type_of_expr e) v s u more_code x.1 x.2 ty_is hd.1 hd.0
-      (less (homes wd) (d + 5 * (scalar_size (type_of_expr e) + total_size es)) (d1 + 5 * scalar_size (type_of_expr e)) s
+      (less (homes wd) (ports wd) (d + 5 * (scalar_size (type_of_expr e) + total_size es)) (d1 + 5 * scalar_size (type_of_expr e)) s
       (machine u.temps (kept_for (homes wd) fs u.state)) (omega arith) h)
       st)
       (λ y s1 u1 r. subst (λ (q : Temps). Runs w wd.n more_code u1 (to_rest w rest) (Written d q) (parameters_written (set wd) os vs s1))
@@ -227,7 +231,7 @@ module _ (wd : World) (depth : ℕ) (callee : Callee wd depth) (g : ℕ) (f : Pl
     depth = depth;
     f = g;
     code = body_code;
-    resolves = function_resolves wd.program (ports wd) f;
+    resolves = function_resolves wd.program (ports wd) (few wd) f;
     stack = frame_of code rest temps t f.returns g ∷ stack;
     runs = first_among g outer;
     callee = callee;
@@ -308,11 +312,12 @@ module _ (wd : World) (depth : ℕ) (callee : Callee wd depth) (g : ℕ) (f : Pl
   Finishes d q m o = Does w wd.n q m (λ v. at (place code stack rest)) (Result d) o
 
   -- a void result
-  void_result : (d : ℕ) (s : State) (u : Mach) → f.returns ≡ void → Match (homes wd) outer d s u → Below w t temps u → Result d no_value s u
+  void_result : (d : ℕ) (s : State) (u : Mach) → f.returns ≡ void → Match (homes wd) (ports wd) outer d s u → Below w t temps u
+      → Result d no_value s u
   void_result d s u e h b = record { match = h; value = λ i. absurd (subst IsScalar e i); same = b }
 
   -- the body ends without a return: only where there is no result
-  falls : (d : ℕ) (r : PlainType) → f.returns ≡ r → (s : State) (u : Mach) → Match (homes wd) (around w) (d + 40) s u
+  falls : (d : ℕ) (r : PlainType) → f.returns ≡ r → (s : State) (u : Mach) → Match (homes wd) (ports wd) (around w) (d + 40) s u
       → Finishes d (here w (return_from None ∷ [])) u
       (unreturned r false (frame_ended wd.program g s))
   unfolding returns_to
@@ -320,7 +325,7 @@ module _ (wd : World) (depth : ℕ) (callee : Callee wd depth) (g : ℕ) (f : Pl
       let x = returns_to.none e [] u in (
         x.0,
         void_result d (frame_ended wd.program g s) x.0 e
-            (x.1 d s (spent_on (homes wd) (d + 40) d (return_from None) u.temps s u (omega arith) h)) x.2,
+            (x.1 d s (spent_on (homes wd) (ports wd) (d + 40) d (return_from None) u.temps s u (omega arith) h)) x.2,
         x.3,
       )
   falls d (integer s1 b) e s u h = tt
@@ -331,12 +336,12 @@ module _ (wd : World) (depth : ℕ) (callee : Callee wd depth) (g : ℕ) (f : Pl
 
   -- a return without a value
   bare : (d : ℕ) (r : PlainType) → f.returns ≡ r → (s : State) (q : Place) (m u : Mach)
-      → Match (homes wd) outer (d + 40) (frame_ended wd.program g s) u → Below w t temps u
+      → Match (homes wd) (ports wd) outer (d + 40) (frame_ended wd.program g s) u → Below w t temps u
       → Comes w q m (at (place code stack rest)) u → Finishes d q m (unreturned r false (frame_ended wd.program g s))
   bare d void e s q m u h b c = (
     u,
     void_result d (frame_ended wd.program g s) u e
-        (less (homes wd) (d + 40) d (frame_ended wd.program g s) u (omega arith) h) b,
+        (less (homes wd) (ports wd) (d + 40) d (frame_ended wd.program g s) u (omega arith) h) b,
     c,
   )
   bare d (integer s1 b1) e s q m u h b c = tt
@@ -363,7 +368,7 @@ module _ (wd : World) (depth : ℕ) (callee : Callee wd depth) (g : ℕ) (f : Pl
   finishes d q m end may is (got (by_return (Some v)) s) by h = (
     h.0,
     record {
-      match = less (homes wd) (d + 40) d (frame_ended wd.program g s) h.0 (omega arith) h.1.left.match;
+      match = less (homes wd) (ports wd) (d + 40) d (frame_ended wd.program g s) h.0 (omega arith) h.1.left.match;
       value = λ i. h.1.left.back.0;
       same = h.1.left.back.1;
     },
@@ -373,14 +378,14 @@ module _ (wd : World) (depth : ℕ) (callee : Callee wd depth) (g : ℕ) (f : Pl
   finishes d q m end may is (undefined point s) by h = tt
 
   -- the body, from the first operation on
-  body_runs : (d : ℕ) (s : State) (m : Mach) → Match (homes wd) (around w) (d + 40) s m → IsTypedState wd.program s
+  body_runs : (d : ℕ) (s : State) (m : Mach) → Match (homes wd) (ports wd) (around w) (d + 40) s m → IsTypedState wd.program s
       → Finishes d (here w body_code) m
       (next (effect_of (set wd) (calls_to wd depth) wd.n f.body s) (λ x s1. call_result f.returns false x (frame_ended wd.program g s1)))
   unfolding returns_to
   body_runs d s m h st =
       let all : Stands body_code body_code = ([], refl) in
       let q = end_code f.body in
-      let end = function_resolves wd.program (ports wd) f 0 q (stmt_behind wd.program (ports wd) body_code f.body 1 0 0
+      let end = function_resolves wd.program (ports wd) (few wd) f 0 q (stmt_behind wd.program (ports wd) body_code f.body 1 0 0
       (label 0 ∷ q) all) in
       finishes d body_code m q (not (body_returns f.body)) (λ e. end_is (body_returns f.body) e)
       (effect_of (set wd) (calls_to wd depth) wd.n f.body s)
@@ -413,8 +418,9 @@ called_runs wd depth callee g f is other code stack es vs t d b rest s m args hd
     (HasValue w0 f.returns t d b) (here w0 calling) (parameters_written (set wd) f.params vs (worked function_words s)) _ (λ z. refl)
     (params_run wd code stack g d1 f.params es vs t (worked function_words s) m calling function_is.params args hd
     (kept_match wd (around w0) (g ∷ around w0) (d1 + 5 * total_size es) (worked function_words s) m.temps m.state (among_more g (around w0))
-    (less (homes wd) (d + (60 + 10 * (total_size es + scalar_size f.returns)) + 40) (d1 + 5 * total_size es) (worked function_words s) m
-    (omega arith) (credited (homes wd) function_words (d + (60 + 10 * (total_size es + scalar_size f.returns))) s m h))) st)
+    (less (homes wd) (ports wd) (d + (60 + 10 * (total_size es + scalar_size f.returns)) + 40) (d1 + 5 * total_size es) (worked
+    function_words s) m
+    (omega arith) (credited (homes wd) (ports wd) function_words (d + (60 + 10 * (total_size es + scalar_size f.returns))) s m h))) st)
     (λ y s1 u r. entered y s1 u r))
   where
     w0 : Spot
@@ -459,7 +465,7 @@ called_runs wd depth callee g f is other code stack es vs t d b rest s m args hd
         let i = call_function g (result_temp t f.returns) in
         let u1 : Mach = machine no_temps (kept u) in
         let size = call_bytes t f.returns in
-        let paid = spent_on (homes wd) d1 (d + 40) i no_temps s1 (machine u.temps (kept_for (homes wd) (g ∷ around w0) u.state))
+        let paid = spent_on (homes wd) (ports wd) d1 (d + 40) i no_temps s1 (machine u.temps (kept_for (homes wd) (g ∷ around w0) u.state))
         (omega (arith, size)) r.match in
         subst (λ (z : Bool). Runs w0 wd.n calling u (to_rest w0 rest) (HasValue w0 f.returns t d b)
         (next (effect_of (set wd) (calls_to wd depth) wd.n f.body s1) (λ x s2. call_result f.returns z x (frame_ended wd.program g s2))))

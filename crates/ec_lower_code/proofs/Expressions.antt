@@ -26,11 +26,12 @@ use Rattle.ec_core.specs.Operators.{step_operator}
 use Rattle.ec_core.proofs.HeldNumbers.{truth_number, conversion_held}
 use Rattle.ec_core.specs.Plain.{PlainType, void, integer, fixed, pointer, array, struct, PlainExpr, expression, PlainNode}
 use Rattle.ec_core.specs.Plain.{number, null, load, address_of, unary, binary, convert, assign, compound, step, logical_not}
-use Rattle.ec_core.specs.Plain.{logical_and, logical_or, conditional, comma, call, io, group, PlainPlace, object, deref, member}
+use Rattle.ec_core.specs.Plain.{logical_and, logical_or, conditional, comma, call, io, group, bind as bind_node}
+use Rattle.ec_core.specs.Plain.{dynamic_group, PlainPlace, object, deref, member}
 use Rattle.ec_core.specs.Plain.{OptionPlainExpr, no_expr, an_expr, PlainExprs, last_expr, next_expr, PlainFunction}
 use Rattle.ec_core.specs.Plain.{PlainProgram}
 use Rattle.ec_core.specs.Pointers.{Pointer as PointerValue, moved}
-use Rattle.ec_core.specs.PortAccesses.{group_effect}
+use Rattle.ec_core.specs.PortAccesses.{group_effect, bind_effect, dynamic_effect}
 use Rattle.ec_core.specs.PortOperations.{port_operation}
 use Rattle.ec_core.specs.PortTable.{plain_table}
 use Rattle.ec_core.specs.State.{ObjectState, State, worked, Outcome, got, more, undefined, next, given, choose}
@@ -71,6 +72,7 @@ use Rattle.ec_lower_code.proofs.Places.{Root, in_object, at_pointer, root, load_
 use Rattle.ec_lower_code.proofs.Places.{numbers_paid, step_paid, moving_paid, stepping_paid}
 use Rattle.ec_lower_code.proofs.Values.{moved_offset}
 use Rattle.ec_lower_code.proofs.PortNodes.{access_runs, group_runs}
+use Rattle.ec_lower_code.proofs.Choices.{bind_runs, dynamic_runs}
 use Rattle.ec_lower_code.proofs.PortRuns.{IsHeld, held_kept}
 use Rattle.ec_lower_code.proofs.Tables.{port_operated, group_pairs}
 use Rattle.ec_lower_code.proofs.Scene.{World, ports, homes, set, calls_to, spot, law, apart, AreHeld, Scene}
@@ -374,14 +376,14 @@ module _ (wd : World) (sc : Scene wd) where
 
   -- an operand that may be absent, at t
   pub record HasOperand (e : OptionPlainExpr) (t d : ℕ) (b : Temps) (v : Value) (s : State) (u : Mach) : Type 0 where
-    pub match : Match (homes wd) (around W) d s u
+    pub match : Match (homes wd) (ports wd) (around W) d s u
     pub held : IsHeld W wd.program e v t u.temps
     pub same : Below W t b u
     pub state : IsTypedState wd.program s
 
   -- arguments from t on
   pub record HasArguments (es : PlainExprs) (t d : ℕ) (b : Temps) (vs : List Value) (s : State) (u : Mach) : Type 0 where
-    pub match : Match (homes wd) (around W) d s u
+    pub match : Match (homes wd) (ports wd) (around W) d s u
     pub held : AreHeld wd es vs t u.temps
     pub same : Below W t b u
     pub state : IsTypedState wd.program s
@@ -418,7 +420,7 @@ module _ (wd : World) (sc : Scene wd) where
       (λ a s u r. (
         machine u.temps (worked (op_steps (jump l)) u.state),
         record {
-          match = spent_on (homes wd) (d + 5) d (jump l) u.temps s u
+          match = spent_on (homes wd) (ports wd) (d + 5) d (jump l) u.temps s u
               (omega arith) r.match;
           value = r.value;
           same = r.same;
@@ -428,7 +430,8 @@ module _ (wd : World) (sc : Scene wd) where
 
   -- the truth value where the branch was not taken, and where it was
   truth_on : (n t d e : ℕ) (b : Temps) (h : Bool) (ty : PlainType) (l : ℕ) (s : State) (u : Mach) (rest : List PlainIr)
-      → Stands sc.code (truth_code h ty l t rest) → 5 * scalar_size ty + (d + 5) ≤ e → Match (homes wd) (around W) e s u → Below W t b u
+      → Stands sc.code (truth_code h ty l t rest) → 5 * scalar_size ty + (d + 5) ≤ e → Match (homes wd) (ports wd) (around W) e s u
+      → Below W t b u
       → Goes n (truth_code h ty l t rest) u (on_to rest) (HasValue W ty t d b) (got (Number (truth h)) s)
   truth_on n t d e b h ty l s u rest stands le m same =
       let after : List PlainIr = label l ∷ constant (temp t ty) (truth (not h)) ∷ label (l + 1) ∷ rest in
@@ -440,7 +443,8 @@ module _ (wd : World) (sc : Scene wd) where
   off_code h ty l t rest = constant (temp t ty) (truth (not h)) ∷ label (l + 1) ∷ rest
 
   truth_off : (n t d e : ℕ) (b : Temps) (h : Bool) (ty : PlainType) (l : ℕ) (s : State) (u : Mach) (rest : List PlainIr)
-      → 5 * scalar_size ty + d ≤ e → Match (homes wd) (around W) e s u → Below W t b u → Goes n (off_code h ty l t rest) u (on_to rest)
+      → 5 * scalar_size ty + d ≤ e → Match (homes wd) (ports wd) (around W) e s u → Below W t b u
+      → Goes n (off_code h ty l t rest) u (on_to rest)
       (HasValue W ty t d b) (got (Number (truth (not h))) s)
   truth_off n t d e b h ty l s u rest le m same = past_end n (l + 1) (off_code h ty l t rest) rest u (HasValue W ty t d b)
       (got (Number (truth (not h))) s) (constant_runs W n t d e b ty (truth (not h)) s u (label (l + 1) ∷ rest) le m same)
@@ -466,11 +470,12 @@ module _ (wd : World) (sc : Scene wd) where
 
   -- before a branch of w words, which leads to `to`: whoever has these words beside what is here comes there
   pub record Leads (t d w : ℕ) (b : Temps) (to : List PlainIr) (s : State) (p : List PlainIr) (u : Mach) : Type 0 where
-    pub match : Match (homes wd) (around W) d s u
+    pub match : Match (homes wd) (ports wd) (around W) d s u
     pub same : Below W t b u
     pub state : IsTypedState wd.program s
-    pub comes : (s1 : State) (e : ℕ) → ((x : ℕ) → Match (homes wd) (around W) (d + x) s u → Match (homes wd) (around W) (e + w + x) s1 u)
-        → (v : Mach) × Match (homes wd) (around W) e s1 v × Below W t b v × Comes W (here W p) u (at (here W to)) v
+    pub comes : (s1 : State) (e : ℕ) → ((x : ℕ) → Match (homes wd) (ports wd) (around W) (d + x) s u
+        → Match (homes wd) (ports wd) (around W) (e + w + x) s1 u)
+        → (v : Mach) × Match (homes wd) (ports wd) (around W) e s1 v × Below W t b v × Comes W (here W p) u (at (here W to)) v
 
   -- what the operations of a condition do, up to the branch that decides
   abbrev pub Branches : ℕ → List PlainIr → Mach → Branch → (away rest : List PlainIr) → (t d w : ℕ) → Temps → Outcome Bool → Type 0
@@ -482,18 +487,18 @@ module _ (wd : World) (sc : Scene wd) where
   -- over the branch, within what is here
   pub leads_on : (t d e w : ℕ) (b : Temps) (to : List PlainIr) (s : State) (p : List PlainIr) (u : Mach) → e + w ≤ d
       → Leads t d w b to s p u
-      → (v : Mach) × Match (homes wd) (around W) e s v × Below W t b v × Comes W (here W p) u (at (here W to)) v
-  leads_on t d e w b to s p u le h = h.comes s e (λ x k. less (homes wd) (d + x) (e + w + x) s u (omega (arith, le)) k)
+      → (v : Mach) × Match (homes wd) (ports wd) (around W) e s v × Below W t b v × Comes W (here W p) u (at (here W to)) v
+  leads_on t d e w b to s p u le h = h.comes s e (λ x k. less (homes wd) (ports wd) (d + x) (e + w + x) s u (omega (arith, le)) k)
 
   -- what is here pays for the branch, or for a part of it
   less_leads : (t d y v w : ℕ) (b : Temps) (to : List PlainIr) (s : State) (p : List PlainIr) (u : Mach) → v ≤ w + y
       → Leads t (d + y) v b to s p u → Leads t d w b to s p u
   less_leads t d y v w b to s p u le h = record {
-    match = less (homes wd) (d + y) d s u (omega arith) h.match;
+    match = less (homes wd) (ports wd) (d + y) d s u (omega arith) h.match;
     same = h.same;
     state = h.state;
-    comes = λ s1 e k. h.comes s1 e (λ x j. less (homes wd) (e + w + (y + x)) (e + v + x) s1 u (omega (arith, le))
-        (k (y + x) (less (homes wd) (d + y + x) (d + (y + x)) s u (omega arith) j)));
+    comes = λ s1 e k. h.comes s1 e (λ x j. less (homes wd) (ports wd) (e + w + (y + x)) (e + v + x) s1 u (omega (arith, le))
+        (k (y + x) (less (homes wd) (ports wd) (d + y + x) (d + (y + x)) s u (omega arith) j)));
   }
 
   -- past a label
@@ -556,8 +561,8 @@ module _ (wd : World) (sc : Scene wd) where
         state = r.state;
         comes = λ s1 e k. (
           machine u.temps (worked (op_steps i) u.state),
-          spent_on (homes wd) (e + branch_zero_words (scalar_size ty) + 0) e i u.temps s1 u (omega arith)
-              (k 0 (less (homes wd) d (d + 0) s u (omega arith) r.test.match)),
+          spent_on (homes wd) (ports wd) (e + branch_zero_words (scalar_size ty) + 0) e i u.temps s1 u (omega arith)
+              (k 0 (less (homes wd) (ports wd) d (d + 0) s u (omega arith) r.test.match)),
           r.test.same,
           branch_on W ty t to rest u r.test.tested r.test.value r.test.zero,
         );
@@ -569,8 +574,8 @@ module _ (wd : World) (sc : Scene wd) where
         state = r.state;
         comes = λ s1 e k. (
           machine u.temps (worked (op_steps i) u.state),
-          spent_on (homes wd) (e + branch_zero_words (scalar_size ty) + 0) e i u.temps s1 u (omega arith)
-              (k 0 (less (homes wd) d (d + 0) s u (omega arith) r.test.match)),
+          spent_on (homes wd) (ports wd) (e + branch_zero_words (scalar_size ty) + 0) e i u.temps s1 u (omega arith)
+              (k 0 (less (homes wd) (ports wd) d (d + 0) s u (omega arith) r.test.match)),
           r.test.same,
           branch_off W ty t to rest away u r.test.tested f r.test.value r.test.zero,
         );
@@ -584,9 +589,9 @@ module _ (wd : World) (sc : Scene wd) where
         state = r.state;
         comes = λ s1 e k. (
           u2,
-          spent_on (homes wd) (e + 5) e (jump to) u1.temps s1 u1 (omega arith)
-              (spent_on (homes wd) (e + (branch_zero_words (scalar_size ty) + 5) + 0) (e + 5) i u.temps s1 u (omega arith)
-              (k 0 (less (homes wd) d (d + 0) s u (omega arith) r.test.match))),
+          spent_on (homes wd) (ports wd) (e + 5) e (jump to) u1.temps s1 u1 (omega arith)
+              (spent_on (homes wd) (ports wd) (e + (branch_zero_words (scalar_size ty) + 5) + 0) (e + 5) i u.temps s1 u (omega arith)
+              (k 0 (less (homes wd) (ports wd) d (d + 0) s u (omega arith) r.test.match))),
           r.test.same,
           comes_on W (here W (i ∷ jump to ∷ label past ∷ rest)) (here W (jump to ∷ label past ∷ rest)) u u1 u2 (at (here W away))
               (branch_on W ty t past (jump to ∷ label past ∷ rest) u r.test.tested r.test.value r.test.zero)
@@ -601,8 +606,8 @@ module _ (wd : World) (sc : Scene wd) where
         state = r.state;
         comes = λ s1 e k. (
           machine u.temps (worked (op_steps i) u.state),
-          spent_on (homes wd) (e + (branch_zero_words (scalar_size ty) + 5) + 0) e i u.temps s1 u (omega arith)
-              (k 0 (less (homes wd) d (d + 0) s u (omega arith) r.test.match)),
+          spent_on (homes wd) (ports wd) (e + (branch_zero_words (scalar_size ty) + 5) + 0) e i u.temps s1 u (omega arith)
+              (k 0 (less (homes wd) (ports wd) d (d + 0) s u (omega arith) r.test.match)),
           r.test.same,
           branch_off W ty t past (jump to ∷ label past ∷ rest) rest u r.test.tested other r.test.value r.test.zero,
         );
@@ -641,9 +646,9 @@ module _ (wd : World) (sc : Scene wd) where
   pub branch_choose : {B : Type 0} (n : ℕ) (p : List PlainIr) (m : Mach) (to : Branch) (away rest : List PlainIr) (t d e w : ℕ) (b : Temps)
       (o : Outcome Bool) (on : B → Target) (R : B → State → Mach → Type 0) (x y : State → Outcome B) → e + w ≤ d
       → Branches n p m to away rest t d w b o
-      → ((s : State) (u : Mach) → IsTypedState wd.program s → Match (homes wd) (around W) e s u → Below W t b u
+      → ((s : State) (u : Mach) → IsTypedState wd.program s → Match (homes wd) (ports wd) (around W) e s u → Below W t b u
       → Goes n (led to true away rest) u on R (x s))
-      → ((s : State) (u : Mach) → IsTypedState wd.program s → Match (homes wd) (around W) e s u → Below W t b u
+      → ((s : State) (u : Mach) → IsTypedState wd.program s → Match (homes wd) (ports wd) (around W) e s u → Below W t b u
       → Goes n (led to false away rest) u on R (y s))
       → Goes n p m on R (next o (λ h s. choose h x y s))
   branch_choose n p m to away rest t d e w b o on R x y le g f1 f2 =
@@ -685,7 +690,7 @@ module _ (wd : World) (sc : Scene wd) where
   and_branch : (n : ℕ) (p : List PlainIr) (m : Mach) (to : Branch) (z l : ℕ) (away next_code rest : List PlainIr) (t d row v y x w : ℕ)
       (b : Temps) (o : Outcome Bool) (f : State → Outcome Bool) → y + v ≤ row → x ≤ w + y
       → Branches n p m (where_zero z) (led to false away rest) next_code t (d + row) v b o
-      → ((s : State) (u : Mach) → IsTypedState wd.program s → Match (homes wd) (around W) (d + y) s u → Below W t b u
+      → ((s : State) (u : Mach) → IsTypedState wd.program s → Match (homes wd) (ports wd) (around W) (d + y) s u → Below W t b u
       → Branches n next_code u to away (and_end to l rest) t (d + y) x b (f s))
       → Branches n p m to away rest t d w b (next o (λ h s. choose h f (λ s1. got false s1) s))
   and_branch n p m to z l away next_code rest t d row v y x w b (got true s) f le lx g second =
@@ -703,7 +708,7 @@ module _ (wd : World) (sc : Scene wd) where
   or_branch : (n : ℕ) (p : List PlainIr) (m : Mach) (to : Branch) (z past l : ℕ) (away next_code rest : List PlainIr) (t d row v y x w : ℕ)
       (b : Temps) (o : Outcome Bool) (f : State → Outcome Bool) → y + v ≤ row → x ≤ w + y
       → Branches n p m (where_not z past) (led to true away rest) next_code t (d + row) v b o
-      → ((s : State) (u : Mach) → IsTypedState wd.program s → Match (homes wd) (around W) (d + y) s u → Below W t b u
+      → ((s : State) (u : Mach) → IsTypedState wd.program s → Match (homes wd) (ports wd) (around W) (d + y) s u → Below W t b u
       → Branches n next_code u to away (or_end to l rest) t (d + y) x b (f s))
       → Branches n p m to away rest t d w b (next o (λ h s. choose h (λ s1. got true s1) f s))
   or_branch n p m to z past l away next_code rest t d row v y x w b (got true s) f le lx g second =
@@ -818,17 +823,19 @@ module _ (wd : World) (sc : Scene wd) where
       params = sym (ap (λ z. unwrap_or (option_map (λ (h : PlainFunction). h.params) z) []) g.1)
 
       -- the callee's parameters and result are those that the call names
-      renamed : (u : Mach) (xs : List Value) (s1 : State) → (ℕ → Match (homes wd) (around W)
+      renamed : (u : Mach) (xs : List Value) (s1 : State) → (ℕ → Match (homes wd) (ports wd) (around W)
           (d + (60 + 10 * (total_size args + scalar_size g.0.returns))) s1 u
           → Goes wd.n (params_code g.0.params args t (call_function f (result_temp t g.0.returns) ∷ rest)) u (on_to rest)
           (HasValue W g.0.returns t d b) (calls_to wd sc.depth f xs s1))
-          → Match (homes wd) (around W) e s1 u → Goes wd.n calling u (on_to rest) (HasValue W ty t d b) (calls_to wd sc.depth f xs s1)
+          → Match (homes wd) (ports wd) (around W) e s1 u → Goes wd.n calling u (on_to rest) (HasValue W ty t d b) (calls_to wd sc.depth
+          f xs s1)
       renamed u xs s1 k h =
           subst (λ (z : PlainType). Goes wd.n (params_code (params_of wd.program f) args t (call_function f (result_temp t z) ∷ rest)) u
           (on_to rest) (HasValue W z t d b) (calls_to wd sc.depth f xs s1)) (sym g.2.0)
           (subst (λ (z : List ℕ). Goes wd.n (params_code z args t (call_function f (result_temp t g.0.returns) ∷ rest)) u (on_to rest)
           (HasValue W g.0.returns t d b) (calls_to wd sc.depth f xs s1)) params
-          (k 0 (subst (λ (z : PlainType). Match (homes wd) (around W) (d + (60 + 10 * (total_size args + scalar_size z))) s1 u) g.2.0 h)))
+          (k 0 (subst (λ (z : PlainType). Match (homes wd) (ports wd) (around W) (d + (60 + 10 * (total_size args + scalar_size z))) s1
+          u) g.2.0 h)))
 
   -- ---- places
 
@@ -837,7 +844,7 @@ module _ (wd : World) (sc : Scene wd) where
 
   -- a pointer to where a site is, which stands at t where the site is not in an object that is named
   record HasSite (st : Site) (t d : ℕ) (b : Temps) (q : PointerValue) (s : State) (u : Mach) : Type 0 where
-    match : Match (homes wd) (around W) d s u
+    match : Match (homes wd) (ports wd) (around W) d s u
     there : IsSite W st u.temps q
     same : Below W t b u
     state : IsTypedState wd.program s
@@ -851,7 +858,7 @@ module _ (wd : World) (sc : Scene wd) where
   stands_at q t (at_pointer space const to e f g) = subst (λ z. StandsAt W t z) (sym e) refl
 
   object_runs : (n o t d : ℕ) (b : Temps) (s : State) (m : Mach) (rest : List PlainIr) → IsTypedState wd.program s
-      → Match (homes wd) (around W) d s m
+      → Match (homes wd) (ports wd) (around W) d s m
       → Below W t b m → (z : Option ObjectState) → Goes n rest m (on_to rest) (HasSite (named o 0) t d b)
       (object_place (option_map (λ (x : ObjectState). record { object = o; instance = x.serial; offset = 0 }) z) s)
   object_runs n o t d b s m rest st h same None = tt
@@ -886,7 +893,7 @@ module _ (wd : World) (sc : Scene wd) where
       let p : ObjectPointer = record { object = o; instance = h.there.0; offset = offset } in (
         u,
         record {
-          match = less (homes wd) (d + member_words) d s u (omega arith) h.match;
+          match = less (homes wd) (ports wd) (d + member_words) d s u (omega arith) h.match;
           there = (
             h.there.0,
             moved_offset p (referent_of wd.program (Some p) s) k q (ap (λ z. moved z (referent_of wd.program z s) (pos k))
@@ -904,19 +911,21 @@ module _ (wd : World) (sc : Scene wd) where
   -- from what stands before a part to that part
   abbrev AtPlace : ℕ → PlainPlace → (l t e : ℕ) → Temps → State → Mach → Type 0
   AtPlace n q l t e b s m = (next_code : List PlainIr) → Stands sc.code (place_code wd.program (ports wd) q l t next_code)
-      → Match (homes wd) (around W) e s m → Below W t b m → Goes n (place_code wd.program (ports wd) q l t next_code) m (on_to next_code)
+      → Match (homes wd) (ports wd) (around W) e s m → Below W t b m → Goes n (place_code wd.program (ports wd) q l t next_code) m (on_to
+      next_code)
       (HasSite (site wd.program q t) t e b) (place_at q s)
 
   abbrev AtRight : ℕ → PlainExpr → (l v : ℕ) → List PlainIr → Type 0
   AtRight n a l v tail = (e : ℕ) (s1 : State) (u : Mach) → IsTypedState wd.program s1
-      → Stands sc.code (expr_code wd.program (ports wd) a l v tail) → Match (homes wd) (around W) e s1 u
+      → Stands sc.code (expr_code wd.program (ports wd) a l v tail) → Match (homes wd) (ports wd) (around W) e s1 u
       → Goes n (expr_code wd.program (ports wd) a l v tail) u (on_to tail) (Has (type_of_expr a) v e u.temps) (value a s1)
 
   -- ---- nodes of places
 
   load_runs : (n : ℕ) (ty : PlainType) (mode : Mode) (q : PlainPlace) (l t d : ℕ) (b : Temps) (s : State) (m : Mach) (rest : List PlainIr)
       → IsTyped wd.program wd.io ty (load q) → AtPlace n q l t (d + Row ty (load q)) b s m
-      → Stands sc.code (node_code wd.program (ports wd) ty mode (load q) l t rest) → Match (homes wd) (around W) (d + Row ty (load q)) s m
+      → Stands sc.code (node_code wd.program (ports wd) ty mode (load q) l t rest)
+      → Match (homes wd) (ports wd) (around W) (d + Row ty (load q)) s m
       → Below W t b m
       → Goes n (node_code wd.program (ports wd) ty mode (load q) l t rest) m (on_to rest) (HasValue W ty t d b)
       (node_value (set wd) (calls_to wd sc.depth) ty mode (load q) s)
@@ -952,7 +961,7 @@ module _ (wd : World) (sc : Scene wd) where
   address_at n ty t d e b (pointed ptr space) p0 s u rest le a h = (
     u,
     record {
-      match = less (homes wd) e d s u (omega (arith, le)) h.match;
+      match = less (homes wd) (ports wd) e d s u (omega (arith, le)) h.match;
       value = λ i. ap u.temps (sym a.0) ∙ h.there
           ∙ ap (λ z. Some (record { bytes = z; content = content_of z (shown (Pointer p0)) })) a.1;
       same = h.same;
@@ -963,7 +972,7 @@ module _ (wd : World) (sc : Scene wd) where
   pointer_to_runs : (n : ℕ) (ty : PlainType) (mode : Mode) (q : PlainPlace) (l t d : ℕ) (b : Temps) (s : State) (m : Mach)
       (rest : List PlainIr) → IsTyped wd.program wd.io ty (address_of q) → (to : PlainType) → place_type wd.program q ≡ Some to
       → AtPlace n q l t (d + Row ty (address_of q)) b s m → Stands sc.code (node_code wd.program (ports wd) ty mode (address_of q) l t rest)
-      → Match (homes wd) (around W) (d + Row ty (address_of q)) s m → Below W t b m
+      → Match (homes wd) (ports wd) (around W) (d + Row ty (address_of q)) s m → Below W t b m
       → Goes n (node_code wd.program (ports wd) ty mode (address_of q) l t rest) m (on_to rest) (HasValue W ty t d b)
       (node_value (set wd) (calls_to wd sc.depth) ty mode (address_of q) s)
   pointer_to_runs n ty mode q l t d b s m rest tp to is at_place stands h same =
@@ -982,7 +991,7 @@ module _ (wd : World) (sc : Scene wd) where
   settled_runs n ty (named o offset) t d b c rest p m out i same g =
       strengthened W (on_to rest) (HasValue W ty t (0 + d) c) (HasValue W ty t d b) n (here W p) m out
       (λ y s u is k. record {
-        match = less (homes wd) (0 + d) d s u (omega arith) k.match;
+        match = less (homes wd) (ports wd) (0 + d) d s u (omega arith) k.match;
         value = k.value;
         same = λ j lt. k.same j lt
             ∙ same j lt;
@@ -997,7 +1006,8 @@ module _ (wd : World) (sc : Scene wd) where
       (rest : List PlainIr) → IsTyped wd.program wd.io ty (assign q a) → AtPlace n q l t (d + Row ty (assign q a)) b s m
       → AtRight n a (l + place_labels q) (value_place (site wd.program q t) t)
       (store_to (site wd.program q t) (temp (value_place (site wd.program q t) t) ty) ∷ settled_code (site wd.program q t) ty t rest)
-      → Stands sc.code (node_code wd.program (ports wd) ty mode (assign q a) l t rest) → Match (homes wd) (around W) (d + Row ty (assign q
+      → Stands sc.code (node_code wd.program (ports wd) ty mode (assign q a) l t rest)
+      → Match (homes wd) (ports wd) (around W) (d + Row ty (assign q
       a)) s m
       → Below W t b m
       → Goes n (node_code wd.program (ports wd) ty mode (assign q a) l t rest) m (on_to rest) (HasValue W ty t d b)
@@ -1036,7 +1046,7 @@ module _ (wd : World) (sc : Scene wd) where
       (rest : List PlainIr) (is_space : IsSpace W st sp) (at_site : (u : Mach) → Below W v b u → IsSite W st u.temps p0) where
     numbers_change : (ty right : PlainType) → IsNumeric ty → IsScalar ty → IsExprType wd.program right → HaveCompoundTypes op ty right
         → (old y : Value) (s : State) (u : Mach) → HasType wd.program ty old → HasType wd.program right y
-        → Match (homes wd) (around W) (words_of op (update_types op (number_type ty) (number_type right)) ty right + (op_words
+        → Match (homes wd) (ports wd) (around W) (words_of op (update_types op (number_type ty) (number_type right)) ty right + (op_words
         (store_to st (temp v ty)) + d)) s u → u.temps v ≡ Some (held_of ty old) → u.temps (v + 1) ≡ Some (held_of right y) → Below W v b u
         → Goes n (update_code op (update_types op (number_type ty) (number_type right)) own mode ty st v right rest) u (on_to rest)
         (HasValue W ty v d b) (changed op own mode ty sp p0 true old right y s)
@@ -1072,7 +1082,7 @@ module _ (wd : World) (sc : Scene wd) where
     pointer_change : (space : SpaceId) (k : Bool) (to right : PlainType) → IsExprType wd.program right → IsIntegerType right
         → (p : PointerValue) (y : ℤ) (s : State) (u : Mach)
         → HaveOffsetTypes op right → HasType wd.program (pointer space k to) (Pointer p) → HasType wd.program right (Number y)
-        → Match (homes wd) (around W) (binary_words op (pointer space k to) (pointer space k to) right + (op_words
+        → Match (homes wd) (ports wd) (around W) (binary_words op (pointer space k to) (pointer space k to) right + (op_words
         (store_to st (temp v (pointer space k to))) + d)) s u → u.temps v ≡ Some (held_of (pointer space k to) (Pointer p))
         → u.temps (v + 1) ≡ Some (held_of right (Number y)) → Below W v b u
         → (r : Result Value Undefined) → offset_result op (operand_of wd.program (pointer space k to) (Pointer p) s) p y ≡ r
@@ -1095,7 +1105,7 @@ module _ (wd : World) (sc : Scene wd) where
 
     pub change_runs : (ty right : PlainType) → IsScalar ty → IsExprType wd.program right → HaveCompoundTypes op ty right
         → (old y : Value) (s : State) (u : Mach) → HasType wd.program ty old → HasType wd.program right y
-        → Match (homes wd) (around W) (change_words op ty right + (op_words (store_to st (temp v ty)) + d)) s u
+        → Match (homes wd) (ports wd) (around W) (change_words op ty right + (op_words (store_to st (temp v ty)) + d)) s u
         → u.temps v ≡ Some (held_of ty old)
         → u.temps (v + 1) ≡ Some (held_of right y) → Below W v b u
         → Goes n (change_code op own mode ty st v right rest) u (on_to rest) (HasValue W ty v d b)
@@ -1123,7 +1133,7 @@ module _ (wd : World) (sc : Scene wd) where
       → AtRight n a (l + place_labels q) (value_place (site wd.program q t) t + 1) (change_code op own mode ty (site wd.program q t)
       (value_place (site wd.program q t) t) (type_of_expr a) (settled_code (site wd.program q t) ty t rest))
       → Stands sc.code (node_code wd.program (ports wd) ty mode (compound op own q a) l t rest)
-      → Match (homes wd) (around W) (d + Row ty (compound op own q a)) s m → Below W t b m
+      → Match (homes wd) (ports wd) (around W) (d + Row ty (compound op own q a)) s m → Below W t b m
       → Goes n (node_code wd.program (ports wd) ty mode (compound op own q a) l t rest) m (on_to rest) (HasValue W ty t d b)
       (node_value (set wd) (calls_to wd sc.depth) ty mode (compound op own q a) s)
   compound_runs n ty mode op own q a l t d b s m rest rk tp st0 at_place right stands h same =
@@ -1192,7 +1202,7 @@ module _ (wd : World) (sc : Scene wd) where
     op = step_operator up
 
     numbers_postfix : (ty : PlainType) → IsNumeric ty → IsScalar ty → (old : Value) (s : State) (u : Mach) → HasType wd.program ty old
-        → Match (homes wd) (around W) (postfix_words op ty + (op_words (store_to st (temp (v + 1) ty)) + d)) s u
+        → Match (homes wd) (ports wd) (around W) (postfix_words op ty + (op_words (store_to st (temp (v + 1) ty)) + d)) s u
         → u.temps v ≡ Some (held_of ty old)
         → u.temps (v + 1) ≡ Some (held_of int (Number (pos 1))) → Below W v b u
         → Goes n (keeping_code op (update_types op (number_type ty) (number_type int)) mode ty st v int rest) u (on_to rest)
@@ -1218,8 +1228,8 @@ module _ (wd : World) (sc : Scene wd) where
         e : ℕ
         e = words_of op ts ty int + conversion_words ty (type_of ts.left) + (op_words (store_to st (temp (v + 1) ty)) + d)
 
-        spent : Match (homes wd) (around W) e s u
-        spent = less (homes wd) (postfix_words op ty + (op_words (store_to st (temp (v + 1) ty)) + d)) e s u
+        spent : Match (homes wd) (ports wd) (around W) e s u
+        spent = less (homes wd) (ports wd) (postfix_words op ty + (op_words (store_to st (temp (v + 1) ty)) + d)) e s u
             (let z = postfix_numbers op ty num in omega (arith, z)) h
 
         by_left : (x : ℤ) → HoldsNumber (number_type ty) x → (r : Result ℤ Undefined) → brought ts.left mode (number_type ty) x ≡ r
@@ -1241,7 +1251,7 @@ module _ (wd : World) (sc : Scene wd) where
             hh hy below g)
 
     pointer_postfix : (space : SpaceId) (k : Bool) (to : PlainType) (p : PointerValue) (s : State) (u : Mach)
-        → HasType wd.program (pointer space k to) (Pointer p) → Match (homes wd) (around W) (binary_words op (pointer space k to)
+        → HasType wd.program (pointer space k to) (Pointer p) → Match (homes wd) (ports wd) (around W) (binary_words op (pointer space k to)
         (pointer space k to) int + (op_words (store_to st (temp (v + 1) (pointer space k to))) + d)) s u
         → u.temps v ≡ Some (held_of (pointer space k to) (Pointer p)) → u.temps (v + 1) ≡ Some (held_of int (Number (pos 1)))
         → Below W v b u
@@ -1275,7 +1285,7 @@ module _ (wd : World) (sc : Scene wd) where
         )))
 
     postfix_runs : (ty : PlainType) → IsScalar ty → (old : Value) (s : State) (u : Mach) → HasType wd.program ty old
-        → Match (homes wd) (around W) (postfix_words op ty + (op_words (store_to st (temp (v + 1) ty)) + d)) s u
+        → Match (homes wd) (ports wd) (around W) (postfix_words op ty + (op_words (store_to st (temp (v + 1) ty)) + d)) s u
         → u.temps v ≡ Some (held_of ty old)
         → u.temps (v + 1) ≡ Some (held_of int (Number (pos 1))) → Below W v b u
         → Goes n (postfix_code op mode ty st v rest) u (on_to rest) (HasValue W ty v d b) (changed op mode mode ty sp p0 false old int
@@ -1290,7 +1300,8 @@ module _ (wd : World) (sc : Scene wd) where
         (offset_result op (operand_of wd.program (pointer space k to) (Pointer p) s) p (pos 1)) refl
 
     pub stepped_runs : (prefix : Bool) (ty : PlainType) → IsScalar ty → (old : Value) (s : State) (u : Mach) → HasType wd.program ty old
-        → Match (homes wd) (around W) (stepped_words prefix op ty + (op_words (store_to st (temp (stepped_place prefix v) ty)) + d)) s u
+        → Match (homes wd) (ports wd) (around W) (stepped_words prefix op ty + (op_words (store_to st (temp (stepped_place prefix v) ty))
+        + d)) s u
         → u.temps v ≡ Some (held_of ty old) → u.temps (v + 1) ≡ Some (held_of int (Number (pos 1))) → Below W v b u
         → Goes n (step_code prefix op mode ty st v rest) u (on_to rest) (HasValue W ty v d b) (changed op mode mode ty sp p0 prefix old int
         (Number (pos 1)) s)
@@ -1302,7 +1313,7 @@ module _ (wd : World) (sc : Scene wd) where
       (rest : List PlainIr) → IsTyped wd.program wd.io ty (step up prefix q) → IsTypedState wd.program s
       → AtPlace n q l t (d + Row ty (step up prefix q)) b s m
       → Stands sc.code (node_code wd.program (ports wd) ty mode (step up prefix q) l t rest)
-      → Match (homes wd) (around W) (d + Row ty (step up prefix q)) s m → Below W t b m
+      → Match (homes wd) (ports wd) (around W) (d + Row ty (step up prefix q)) s m → Below W t b m
       → Goes n (node_code wd.program (ports wd) ty mode (step up prefix q) l t rest) m (on_to rest) (HasValue W ty t d b)
       (node_value (set wd) (calls_to wd sc.depth) ty mode (step up prefix q) s)
   step_runs n ty mode up prefix q l t d b s m rest tp st0 at_place stands h same =
@@ -1370,7 +1381,7 @@ module _ (wd : World) (sc : Scene wd) where
 
   -- what an expression leaves beside its value
   pub record Leaves (t d : ℕ) (b : Temps) (v : Value) (s : State) (u : Mach) : Type 0 where
-    pub match : Match (homes wd) (around W) d s u
+    pub match : Match (homes wd) (ports wd) (around W) d s u
     pub same : Below W t b u
     pub state : IsTypedState wd.program s
 
@@ -1456,18 +1467,19 @@ module _ (wd : World) (sc : Scene wd) where
   mutual
     pub expr_runs : (n : ℕ) (e : PlainExpr) (l t d : ℕ) (b : Temps) (s : State) (m : Mach) (rest : List PlainIr) → n ≤ wd.n
         → CallsOfExpr (IsOther wd.program) e → ValidExpr wd.program wd.io sc.f e → IsTypedState wd.program s
-        → Stands sc.code (expr_code wd.program (ports wd) e l t rest) → Match (homes wd) (around W) d s m → Below W t b m
+        → Stands sc.code (expr_code wd.program (ports wd) e l t rest) → Match (homes wd) (ports wd) (around W) d s m → Below W t b m
         → Goes n (expr_code wd.program (ports wd) e l t rest) m (on_to rest) (Has (type_of_expr e) t d b) (value e s)
     expr_runs n (expression ty mode node) l t d b s m rest le p v st stands h same =
         typed_runs n (node_code wd.program (ports wd) ty mode node l t rest) m (on_to rest) ty t d b (value (expression ty mode node) s)
         ((law wd).expressions wd.n sc.depth sc.f (expression ty mode node) s v st)
         (node_runs n ty mode node l t d b (worked (Row ty node) s) m rest le p v.0 v.1 v.2 st stands
-        (credited (homes wd) (Row ty node) d s m h) same)
+        (credited (homes wd) (ports wd) (Row ty node) d s m h) same)
 
     node_runs : (n : ℕ) (ty : PlainType) (mode : Mode) (node : PlainNode) (l t d : ℕ) (b : Temps) (s : State) (m : Mach)
         (rest : List PlainIr) → n ≤ wd.n → CallsOfNode (IsOther wd.program) node → IsExprType wd.program ty
         → IsTyped wd.program wd.io ty node → ValidParts wd.program wd.io sc.f node → IsTypedState wd.program s
-        → Stands sc.code (node_code wd.program (ports wd) ty mode node l t rest) → Match (homes wd) (around W) (d + Row ty node) s m
+        → Stands sc.code (node_code wd.program (ports wd) ty mode node l t rest)
+        → Match (homes wd) (ports wd) (around W) (d + Row ty node) s m
         → Below W t b m
         → Goes n (node_code wd.program (ports wd) ty mode node l t rest) m (on_to rest) (HasValue W ty t d b)
         (node_value (set wd) (calls_to wd sc.depth) ty mode node s)
@@ -1624,12 +1636,12 @@ module _ (wd : World) (sc : Scene wd) where
         (as_type ty (type_of_expr a2) n other_code u1 (on_to (label (l + 1) ∷ rest)) t d b (value a2 s1) tp.3
         (untyped n other_code u1 (on_to (label (l + 1) ∷ rest)) (type_of_expr a2) t d b (value a2 s1)
         (expr_runs n a2 (l + 2 + expr_labels c + expr_labels a) t d b s1 u1 (label (l + 1) ∷ rest) le p.2 v.2 st1 other_at
-        (less (homes wd) (d + 5) d s1 u1 (omega arith) h1) below))))
+        (less (homes wd) (ports wd) (d + 5) d s1 u1 (omega arith) h1) below))))
     node_runs n ty mode (comma a c) l t d b s m rest le p k tp v st stands h same =
         let next_code = expr_code wd.program (ports wd) c (l + expr_labels a) t rest in
         bind W n (here W (unread_code wd.program (ports wd) a l t next_code)) m (on_to next_code) (Leaves t d b) (on_to rest)
         (HasValue W ty t d b) (here W next_code) (value a s) _ (λ z. refl)
-        (unread_runs n a l t d b s m next_code le p.0 v.0 st stands (less (homes wd) (d + 0) d s m (omega arith) h) same)
+        (unread_runs n a l t d b s m next_code le p.0 v.0 st stands (less (homes wd) (ports wd) (d + 0) d s m (omega arith) h) same)
         (λ x s1 u r. as_type ty (type_of_expr c) n next_code u (on_to rest) t d b (value c s1) tp.2
         (untyped n next_code u (on_to rest) (type_of_expr c) t d b (value c s1)
         (expr_runs n c (l + expr_labels a) t d b s1 u rest le p.1 v.1 r.state
@@ -1661,10 +1673,17 @@ module _ (wd : World) (sc : Scene wd) where
         as_type ty void n (node_code wd.program (ports wd) ty mode (group acquire g) l t rest) m (on_to rest) t d b
         (group_effect acquire g (slice_get (ports wd).groups g) s) (sym tp.1)
         (group_runs wd sc.code sc.stack n acquire g (slice_get (ports wd).groups g) t d b s m rest (group_pairs wd.io wd.pairs g) h same)
+    node_runs n ty mode (bind_node g choice) l t d b s m rest le p k tp v st stands h same =
+        as_type ty void n (node_code wd.program (ports wd) ty mode (bind_node g choice) l t rest) m (on_to rest) t d b
+        (bind_effect g choice s) (sym tp.1) (bind_runs wd sc.code sc.stack n g choice t d b s m rest h same)
+    node_runs n ty mode (dynamic_group acquire g) l t d b s m rest le p k tp v st stands h same =
+        as_type ty void n (node_code wd.program (ports wd) ty mode (dynamic_group acquire g) l t rest) m (on_to rest) t d b
+        (dynamic_effect acquire (ports wd) g s) (sym tp.1)
+        (dynamic_runs wd sc.code sc.stack sc.resolves n acquire mode g l t d b s m rest stands h same)
 
     pub unread_runs : (n : ℕ) (e : PlainExpr) (l t d : ℕ) (b : Temps) (s : State) (m : Mach) (rest : List PlainIr) → n ≤ wd.n
         → CallsOfExpr (IsOther wd.program) e → ValidExpr wd.program wd.io sc.f e → IsTypedState wd.program s
-        → Stands sc.code (unread_code wd.program (ports wd) e l t rest) → Match (homes wd) (around W) d s m → Below W t b m
+        → Stands sc.code (unread_code wd.program (ports wd) e l t rest) → Match (homes wd) (ports wd) (around W) d s m → Below W t b m
         → Goes n (unread_code wd.program (ports wd) e l t rest) m (on_to rest) (Leaves t d b) (value e s)
     unread_runs n (expression ty mode (step up prefix q)) l t d b s m rest le p v st stands h same =
         let row = Row ty (step up prefix q) in
@@ -1674,13 +1693,13 @@ module _ (wd : World) (sc : Scene wd) where
         ((law wd).expressions wd.n sc.depth sc.f (expression ty mode (step up true q)) s v st)
         (step_runs n ty mode up true q l t d b (worked row s) m rest v.1 st
         (λ next_code. place_runs n q l t (d + row) b (worked row s) m next_code ty le p v.2 v.1.1 st)
-        stands (credited (homes wd) row d s m h) same))
+        stands (credited (homes wd) (ports wd) row d s m h) same))
     unread_runs n (expression ty mode (comma a c)) l t d b s m rest le p v st stands h same =
         let next_code = unread_code wd.program (ports wd) c (l + expr_labels a) t rest in
         bind W n (here W (unread_code wd.program (ports wd) a l t next_code)) m (on_to next_code) (Leaves t d b) (on_to rest)
         (Leaves t d b) (here W next_code) (value a (worked 0 s)) _ (λ z. refl)
         (unread_runs n a l t d b (worked 0 s) m next_code le p.0 v.2.0 st stands
-        (less (homes wd) (d + 0) d (worked 0 s) m (omega arith) (credited (homes wd) 0 d s m h)) same)
+        (less (homes wd) (ports wd) (d + 0) d (worked 0 s) m (omega arith) (credited (homes wd) (ports wd) 0 d s m h)) same)
         (λ x s1 u r. unread_runs n c (l + expr_labels a) t d b s1 u rest le p.1 v.2.1 r.state
         (unread_behind wd.program (ports wd) sc.code a l t next_code stands) r.match r.same)
     unread_runs n (expression ty mode node) l t d b s m rest le p v st stands h same =
@@ -1689,12 +1708,12 @@ module _ (wd : World) (sc : Scene wd) where
         (typed_runs n code m (on_to rest) ty t d b (value (expression ty mode node) s)
         ((law wd).expressions wd.n sc.depth sc.f (expression ty mode node) s v st)
         (node_runs n ty mode node l t d b (worked (Row ty node) s) m rest le p v.0 v.1 v.2 st stands
-        (credited (homes wd) (Row ty node) d s m h) same))
+        (credited (homes wd) (ports wd) (Row ty node) d s m h) same))
 
     pub branch_runs : (n : ℕ) (e : PlainExpr) (l t : ℕ) (to : Branch) (d : ℕ) (b : Temps) (s : State) (m : Mach)
         (away rest : List PlainIr) → n ≤ wd.n → CallsOfExpr (IsOther wd.program) e → ValidExpr wd.program wd.io sc.f e
         → IsScalar (type_of_expr e) → IsTypedState wd.program s → Stands sc.code (branch_code wd.program (ports wd) e l t to rest)
-        → find (branch_label to) sc.code ≡ Some away → Match (homes wd) (around W) d s m → Below W t b m
+        → find (branch_label to) sc.code ≡ Some away → Match (homes wd) (ports wd) (around W) d s m → Below W t b m
         → Branches n (branch_code wd.program (ports wd) e l t to rest) m to away rest t d
         (branch_cost to (scalar_size (type_of_expr e))) b (condition (set wd) e (value e s))
     branch_runs n (expression ty mode (logical_not a)) l t to d b s m away rest le p v i st stands f h same =
@@ -1708,7 +1727,7 @@ module _ (wd : World) (sc : Scene wd) where
         subst (λ (z : Outcome Bool). Branches n code m to away rest t d w b z) (sym (not_condition (expression ty mode (logical_not a)) o))
         (not_branch n code m to l away rest t d row va w b o (omega (arith, x, y))
         (branch_runs n a (l + 2) t (opposite to l) (d + row) b (worked row s) m away rest le p v.2 v.1.0 st stands
-        (opposite_found to l away f) (credited (homes wd) row d s m h) same))
+        (opposite_found to l away f) (credited (homes wd) (ports wd) row d s m h) same))
     branch_runs n (expression ty mode (logical_and a c)) l t to d b s m away rest le p v i st stands f h same =
         let row = Row ty (logical_and a c) in
         let z = zero_label to l in
@@ -1729,7 +1748,7 @@ module _ (wd : World) (sc : Scene wd) where
         (and_branch n code m to z l away next_code rest t d row va y vc w b o (λ s1. condition (set wd) c (value c s1)) (omega (arith, j))
         (omega (arith, g))
         (branch_runs n a (l + 2) t (where_zero z) (d + row) b (worked row s) m (led to false away rest) next_code le p.0 v.2.0 v.1.0 st
-        stands (zero_found to l away rest f end_at) (credited (homes wd) row d s m h) same)
+        stands (zero_found to l away rest f end_at) (credited (homes wd) (ports wd) row d s m h) same)
         (λ s1 u st1 h1 below. branch_runs n c (l + 2 + expr_labels a) t to (d + y) b s1 u away end le p.1 v.2.1 v.1.1 st1 next_at f h1
         below))
     branch_runs n (expression ty mode (logical_or a c)) l t to d b s m away rest le p v i st stands f h same =
@@ -1752,7 +1771,7 @@ module _ (wd : World) (sc : Scene wd) where
         (or_branch n code m to z (l + 1) l away next_code rest t d row va y vc w b o (λ s1. condition (set wd) c (value c s1))
         (omega (arith, j)) (omega (arith, g))
         (branch_runs n a (l + 4) t (where_not z (l + 1)) (d + row) b (worked row s) m (led to true away rest) next_code le p.0 v.2.0 v.1.0
-        st stands (other_found to l away rest f end_at) (credited (homes wd) row d s m h) same)
+        st stands (other_found to l away rest f end_at) (credited (homes wd) (ports wd) row d s m h) same)
         (λ s1 u st1 h1 below. branch_runs n c (l + 4 + expr_labels a) t to (d + y) b s1 u away end le p.1 v.2.1 v.1.1 st1 next_at f h1
         below))
     branch_runs n (expression ty mode node) l t to d b s m away rest le p v i st stands f h same =
@@ -1764,11 +1783,12 @@ module _ (wd : World) (sc : Scene wd) where
         (typed_runs n code m (on_to q) ty t d b (value (expression ty mode node) s)
         ((law wd).expressions wd.n sc.depth sc.f (expression ty mode node) s v st)
         (node_runs n ty mode node l t d b (worked (Row ty node) s) m q le p v.0 v.1 v.2 st stands
-        (credited (homes wd) (Row ty node) d s m h) same)))
+        (credited (homes wd) (ports wd) (Row ty node) d s m h) same)))
 
     place_runs : (n : ℕ) (q : PlainPlace) (l t d : ℕ) (b : Temps) (s : State) (m : Mach) (rest : List PlainIr) (ty : PlainType) → n ≤ wd.n
         → CallsOfPlace (IsOther wd.program) q → ValidPlace wd.program wd.io sc.f q → place_type wd.program q ≡ Some ty
-        → IsTypedState wd.program s → Stands sc.code (place_code wd.program (ports wd) q l t rest) → Match (homes wd) (around W) d s m
+        → IsTypedState wd.program s → Stands sc.code (place_code wd.program (ports wd) q l t rest)
+        → Match (homes wd) (ports wd) (around W) d s m
         → Below W t b m
         → Goes n (place_code wd.program (ports wd) q l t rest) m (on_to rest) (HasSite (site wd.program q t) t d b) (place_at q s)
     place_runs n (object o) l t d b s m rest ty le p v e st stands h same = object_runs n o t d b s m rest st h same (slice_get s.objects o)
@@ -1784,13 +1804,13 @@ module _ (wd : World) (sc : Scene wd) where
         bind W n (here W (place_code wd.program (ports wd) q l t next_code)) m (on_to next_code) (HasSite st0 t (d + member_words) b)
         (on_to rest) (HasSite (site wd.program (member q i) t) t d b) (here W next_code) (place_at q (worked member_words s)) _ (λ z. refl)
         (place_runs n q l t (d + member_words) b (worked member_words s) m next_code g.0 le p v g.1 st stands
-        (credited (homes wd) member_words d s m h) same)
+        (credited (homes wd) (ports wd) member_words d s m h) same)
         (λ p0 s1 u r. further_runs n st0 (offset_of wd.program q i) t d b p0 s1 u rest (stands_at q t (root wd.program q t g.0 g.1)) r
         (moved p0 (referent_of wd.program p0 s1) (pos (offset_of wd.program q i))) refl)
 
     operand_run : (n : ℕ) (e : OptionPlainExpr) (l t d : ℕ) (b : Temps) (s : State) (m : Mach) (rest : List PlainIr) → n ≤ wd.n
         → CallsOfOption (IsOther wd.program) e → ValidOption wd.program wd.io sc.f e → IsTypedState wd.program s
-        → Stands sc.code (option_code wd.program (ports wd) e l t rest) → Match (homes wd) (around W) d s m → Below W t b m
+        → Stands sc.code (option_code wd.program (ports wd) e l t rest) → Match (homes wd) (ports wd) (around W) d s m → Below W t b m
         → Goes n (option_code wd.program (ports wd) e l t rest) m (on_to rest) (HasOperand e t d b)
         (option_value (set wd) (calls_to wd sc.depth) e s)
     operand_run n no_expr l t d b s m rest le p v st stands h same = (
@@ -1804,7 +1824,7 @@ module _ (wd : World) (sc : Scene wd) where
 
     args_run : (n : ℕ) (es : PlainExprs) (l t d : ℕ) (b : Temps) (s : State) (m : Mach) (rest : List PlainIr) → n ≤ wd.n
         → CallsOfExprs (IsOther wd.program) es → ValidExprs wd.program wd.io sc.f es → IsTypedState wd.program s
-        → Stands sc.code (args_code wd.program (ports wd) es l t rest) → Match (homes wd) (around W) d s m → Below W t b m
+        → Stands sc.code (args_code wd.program (ports wd) es l t rest) → Match (homes wd) (ports wd) (around W) d s m → Below W t b m
         → Goes n (args_code wd.program (ports wd) es l t rest) m (on_to rest) (HasArguments es t d b)
         (values_of (set wd) (calls_to wd sc.depth) es s)
     args_run n last_expr l t d b s m rest le p v st stands h same = (

@@ -8,15 +8,17 @@ use Rattle.ec_core.specs.Operators.{step_operator}
 use Rattle.ec_core.specs.declared.expressions.BinOp.{BinOp}
 use Rattle.ec_core.specs.Plain.{PlainType, void, integer, fixed, pointer, array, struct, PlainExpr, expression, PlainNode}
 use Rattle.ec_core.specs.Plain.{number, null, load, address_of, unary, binary, convert, assign, compound, step, logical_not}
-use Rattle.ec_core.specs.Plain.{logical_and, logical_or, conditional, comma, call, io, group, PlainPlace, object, deref, member}
+use Rattle.ec_core.specs.Plain.{logical_and, logical_or, conditional, comma, call, io, group, bind, dynamic_group}
+use Rattle.ec_core.specs.Plain.{PlainPlace, object, deref, member}
 use Rattle.ec_core.specs.Plain.{OptionPlainExpr, no_expr, an_expr, PlainExprs, last_expr, next_expr, PlainStmt, statement}
 use Rattle.ec_core.specs.Plain.{PlainKind, empty, evaluate, block, declare, branch, while_loop, do_loop, for_loop, break_loop}
 use Rattle.ec_core.specs.Plain.{continue_loop, return_value, OptionPlainStmt, no_stmt, a_stmt, PlainStmts, last_stmt, next_stmt}
 use Rattle.ec_core.specs.Plain.{PlainFunction, PlainProgram}
 use Rattle.ec_core.specs.PortAccesses.{pairs_of}
 use Rattle.ec_core.specs.PortOperations.{PortAction, reads, writes, updates, port_operation}
-use Rattle.ec_core.specs.PortTable.{PlainPort, PlainGroup, plain_table}
+use Rattle.ec_core.specs.PortTable.{PlainPort, PlainGroup, PlainTable, plain_table, choices_of}
 use Rattle.ec_iohw.specs.declared.operations.IoOp.{IoOp}
+use Rattle.ec_iohw.specs.declared.table.Choice.{Choice}
 use Rattle.ec_iohw.specs.declared.table.Pair.{Pair}
 use Rattle.ec_core.specs.Typing.{int, type_of_expr, unsigned_int, unsigned_long, IsTyped}
 use Rattle.ec_core.specs.Valid.{EachFrom, IsExprType, ValidExpr, ValidParts, ValidPlace, ValidOption, ValidExprs}
@@ -25,7 +27,8 @@ use Rattle.ec_core.specs.Valid.{Valid}
 use Rattle.ec_core.specs.Weight.{expr_weight, place_weight, option_weight, exprs_weight, optional_weight, leaves_weight}
 use Rattle.ec_core.specs.Weight.{stmt_weight, kind_weight, option_stmt_weight, stmts_weight, function_weight, functions_weight}
 use Rattle.ec_core.specs.Weight.{objects_weight, weight}
-use Rattle.ec_core.specs.Words.{widest, pointer_types, update_words, member_words, choice_words, group_words, port_words}
+use Rattle.ec_core.specs.Words.{widest, pointer_types, update_words, member_words, choice_words, group_words, port_words, bind_words}
+use Rattle.ec_core.specs.Words.{dynamic_words}
 use Rattle.ec_core.specs.Words.{program_words, total_size}
 use Rattle.ec_ir.specs.Costs.{op_words, branch_zero_words, code_words, functions_words}
 use Rattle.ec_ir.specs.Operations.{PlainIr, store_object, binary_op, unary_op, conversion, label, jump}
@@ -33,10 +36,12 @@ use Rattle.ec_ir.specs.Operations.{call_function, return_from}
 use Rattle.ec_lower_code.specs.Code.{temp, result_temp, truth_code, place_labels, Site, named, pointed, further_code, load_from}
 use Rattle.ec_lower_code.specs.Code.{store_to, value_place, settled_code, address_code, change_code, postfix_code, step_code}
 use Rattle.ec_lower_code.specs.Code.{offset_of, site, place_code, params_of, params_code, port_operator, port_code}
-use Rattle.ec_lower_code.specs.Code.{place_behind, operand_temp, access_code, pairs_code, group_code, option_labels}
+use Rattle.ec_lower_code.specs.Code.{place_behind, operand_temp, access_code, pairs_code, group_code, bind_code, choices_code}
+use Rattle.ec_lower_code.specs.Code.{option_labels}
 use Rattle.ec_lower_code.specs.Code.{option_code, expr_labels, optional_labels, option_stmt_labels, stmt_labels, expr_code}
 use Rattle.ec_lower_code.specs.Code.{node_code, args_code, init_code, test_code, last_code, leaves_of_object, stmt_code}
-use Rattle.ec_lower_code.specs.Code.{kind_code, option_stmt_code, stmts_code, body_returns, end_of, end_code, function_code, lowered_function, lowered}
+use Rattle.ec_lower_code.specs.Code.{kind_code, option_stmt_code, stmts_code, body_returns, end_of, end_code}
+use Rattle.ec_lower_code.specs.Code.{function_code, lowered_function, lowered}
 use Rattle.ec_lower_code.specs.Code.{stepping_code, unread_code}
 use Rattle.ec_lower_code.specs.Code.{Branch, where_zero, where_not, branch_to, opposite, zero_label, other_label, and_end}
 use Rattle.ec_lower_code.specs.Code.{or_end, branch_code}
@@ -46,7 +51,8 @@ use Rattle.ec_lower_code.proofs.Places.{Root, root, load_paid, store_paid, settl
 use Rattle.ec_lower_code.proofs.Calls.{call_bytes}
 use Rattle.ec_lower_code.proofs.Numbers.{scalar_bytes}
 use Rattle.ec_lower_code.proofs.Pays.{simple_pays, unary_pays, binary_pays, conversion_pays, choice_pays, return_pays}
-use Rattle.ec_lower_code.proofs.Pays.{update_words_are, index_pays, port_bytes, branch_cost, branch_most, not_leads, both_lead}
+use Rattle.ec_lower_code.proofs.Pays.{update_words_are, read_pays, write_pays, port_bytes, branch_cost, branch_most, not_leads}
+use Rattle.ec_lower_code.proofs.Pays.{both_lead}
 
 not_fits : (t a : ℕ) → t ≡ 2 → branch_zero_words a + (10 * t + 5) ≤ choice_words (max t (max a 1))
 not_fits t a e = omega (arith, e)
@@ -65,10 +71,20 @@ port_fits : (action : PortAction) (op : IoOp) (long : Bool) (mode : Mode) (port 
     (rest : List PlainIr)
     → code_words (port_code action (port_operator op) (if long then unsigned_long else unsigned_int) mode port (operand_temp index t) t v
     rest) ≤ port_words action port.width + code_words rest
-port_fits reads op long mode port index t v rest = let i = index_pays index t in let b = port_bytes long in omega (arith, i, b)
-port_fits writes op long mode port index t v rest = let i = index_pays index t in omega (arith, i)
-port_fits updates op true mode port index t v rest = let i = index_pays index t in let u = update_words_are op 4 in omega (arith, i, u)
-port_fits updates op false mode port index t v rest = let i = index_pays index t in let u = update_words_are op 2 in omega (arith, i, u)
+port_fits reads op long mode port index t v rest =
+    let i = read_pays port.dynamic (temp t (if long then unsigned_long else unsigned_int)) port.address index t port.width in
+    let b = port_bytes long in omega (arith, i, b)
+port_fits writes op long mode port index t v rest =
+    let i = write_pays port.dynamic (temp v (if long then unsigned_long else unsigned_int)) port.address index t port.width in
+    let b = port_bytes long in omega (arith, i, b)
+port_fits updates op true mode port index t v rest =
+    let i = read_pays port.dynamic (temp (v + 1) unsigned_long) port.address index t port.width in
+    let o = write_pays port.dynamic (temp (v + 1) unsigned_long) port.address index t port.width in
+    let u = update_words_are op 4 in omega (arith, i, o, u)
+port_fits updates op false mode port index t v rest =
+    let i = read_pays port.dynamic (temp (v + 1) unsigned_int) port.address index t port.width in
+    let o = write_pays port.dynamic (temp (v + 1) unsigned_int) port.address index t port.width in
+    let u = update_words_are op 2 in omega (arith, i, o, u)
 
 access_fits : (op : IoOp) (mode : Mode) (port : Option PlainPort) (index : OptionPlainExpr) (t : ℕ) (rest : List PlainIr)
     → code_words (access_code op mode port index t rest) ≤ port_words (port_operation op).action
@@ -86,6 +102,27 @@ group_fits : (acquire : Bool) (x : Option PlainGroup) (t : ℕ) (rest : List Pla
     0) + code_words rest
 group_fits acquire None t rest = omega arith
 group_fits acquire (Some x) t rest = let y = pairs_fit (pairs_of acquire x) t rest in omega (arith, y)
+
+-- without the words of a row
+pairs_of_fit : (acquire : Bool) (x : Option PlainGroup) (t : ℕ) (rest : List PlainIr) → code_words (group_code acquire x t rest)
+    ≤ 10 * unwrap_or (option_map (λ (y : PlainGroup). length (pairs_of acquire y)) x) 0 + code_words rest
+pairs_of_fit acquire None t rest = omega arith
+pairs_of_fit acquire (Some x) t rest = pairs_fit (pairs_of acquire x) t rest
+
+bind_fits : (d : ℕ) (c : Option Choice) (t : ℕ) (rest : List PlainIr) → code_words (bind_code d c t rest) ≤ bind_words + code_words rest
+bind_fits d None t rest = omega arith
+bind_fits d (Some c) t rest = omega arith
+
+choices_fit : (acquire : Bool) (table : PlainTable) (mode : Mode) (d : ℕ) (cs : List Choice) (l t : ℕ) (rest : List PlainIr)
+    → code_words (choices_code acquire table mode d cs l t rest) ≤ dynamic_words table acquire cs + code_words rest
+choices_fit acquire table mode d [] l t rest = omega arith
+choices_fit acquire table mode d (c ∷ []) l t rest =
+    let x = pairs_of_fit acquire (slice_get table.groups c.group) t rest in omega (arith, x)
+choices_fit acquire table mode d (c ∷ other ∷ cs) l t rest =
+    let after_group : List PlainIr = label (l + 1) ∷ rest in
+    let pairs = group_code acquire (slice_get table.groups c.group) t after_group in
+    let x = choices_fit acquire table mode d (other ∷ cs) (l + 2) t (jump (l + 1) ∷ label l ∷ pairs) in
+    let y = pairs_of_fit acquire (slice_get table.groups c.group) t after_group in omega (arith, x, y)
 
 module _ (program : PlainProgram) (table : IoTable) (f : ℕ) where
   address_words : (s : Site) (ty : PlainType) (t : ℕ) (rest : List PlainIr) → code_words (address_code s ty t rest) ≤ 5 * scalar_size
@@ -241,6 +278,10 @@ module _ (program : PlainProgram) (table : IoTable) (f : ℕ) where
         let z = access_fits op mode (slice_get (plain_table table).ports port) i t rest in omega (arith, x, y, z)
     node_fits ty mode (group acquire g) l t rest k tp v = let x = group_fits acquire (slice_get (plain_table table).groups g) t rest in
         omega (arith, x)
+    node_fits ty mode (bind d choice) l t rest k tp v =
+        let x = bind_fits d (slice_get (choices_of (plain_table table) d) choice) t rest in omega (arith, x)
+    node_fits ty mode (dynamic_group acquire d) l t rest k tp v =
+        let x = choices_fit acquire (plain_table table) mode d (choices_of (plain_table table) d) l t rest in omega (arith, x)
 
     unread_fits : (e : PlainExpr) (l t : ℕ) (rest : List PlainIr) → ValidExpr program table f e
         → code_words (unread_code program (plain_table table) e l t rest) ≤ expr_weight (plain_table table) e + code_words rest

@@ -42,7 +42,7 @@ use Rattle.ec_lower_code.proofs.Numbers.{wrapped_back}
 use Rattle.ec_lower_code.proofs.Operations.{number_back, type_scalar, type_holds, value_number, AreUpdateTypes, int_type}
 use Rattle.ec_lower_code.proofs.Ops.{to_rest, IsSite, IsSpace, Below, HasValue, conversion_runs, conversion_beside}
 use Rattle.ec_lower_code.proofs.Ops.{binary_above, write_runs}
-use Rattle.ec_lower_code.proofs.Scene.{World, homes, spot, apart}
+use Rattle.ec_lower_code.proofs.Scene.{World, ports, homes, spot, apart}
 use Rattle.ec_lower_code.proofs.Shown.{held_of, Match}
 use Rattle.ec_lower_code.proofs.Steps.{Spot, around, here, Runs, after, bind}
 use Rattle.ec_lower_code.proofs.Updates.{conversion_to, conversion_into, held_ok, place_known, wider_holds, then_on}
@@ -154,7 +154,7 @@ module _ (wd : World) (code : List PlainIr) (stack : List Frame) where
       left : temps t ≡ Some (held_of (type_of ts.left) (Number a))
       below : (i : ℕ) → i < t → temps i ≡ b i
 
-    restores : (s : State) (u : Mach) → Match (homes wd) (around w) restore_cost s u → Keeps u.temps
+    restores : (s : State) (u : Mach) → Match (homes wd) (ports wd) (around w) restore_cost s u → Keeps u.temps
         → Ends restore_code u (got (Number x) s)
     restores s u h k =
         let into = conversion_into ty mode (operand_of wd.program (type_of ts.left) (Number a) s) a num in
@@ -217,7 +217,7 @@ module _ (wd : World) (code : List PlainIr) (stack : List Frame) where
         (λ u1 h1. backs (brought (number_type ty) mode ts.result q) q s u.temps u1 hq k1 h1 refl)
 
     rights : (r : Result ℤ Undefined) (y : ℤ) (s : State) (u : Mach) → HasType (homes wd) int (Number y) → Keeps u.temps
-        → Match (homes wd) (around w) right_cost s u → u.temps (t + 1) ≡ Some (held_of int (Number y))
+        → Match (homes wd) (ports wd) (around w) right_cost s u → u.temps (t + 1) ≡ Some (held_of int (Number y))
         → brought ts.right mode (number_type int) y ≡ r
         → Ends right_code u (kept_value wd ty sp to x (as_number
         (then_with (then_with r (λ z. arithmetic_value op ts.result mode (operand ts.left a) (operand ts.right z)))
@@ -235,7 +235,7 @@ module _ (wd : World) (code : List PlainIr) (stack : List Frame) where
         (λ u1 h1. operates (arithmetic_value op ts.result mode (operand ts.left a) (operand ts.right z)) z s u.temps u1 nz k h1 refl)
 
     pub keep_runs : (y : ℤ) (s : State) (u : Mach) (e : ℕ) → conversion_words (type_of ts.left) ty + right_cost ≤ e
-        → HasType (homes wd) ty (Number x) → HasType (homes wd) int (Number y) → Match (homes wd) (around w) e s u
+        → HasType (homes wd) ty (Number x) → HasType (homes wd) int (Number y) → Match (homes wd) (ports wd) (around w) e s u
         → u.temps t ≡ Some (held_of ty (Number x)) → u.temps (t + 1) ≡ Some (held_of int (Number y)) → Below w t b u
         → brought ts.left mode (number_type ty) x ≡ Ok a → Ends (keeping_code op ts mode ty site t int rest) u
         (kept_value wd ty sp to x (as_number (then_with (then_with (brought ts.right mode (number_type int) y)

@@ -1,5 +1,6 @@
 -- Each label stands once: how often a label stands is a sum over the parts, whose labels lie in intervals one after another.
-use Rattle.std.proofs.Common.{◌≡◌, ℕ, zero, suc, ◌+◌, ◌<◌, ◌≤◌, Bool, true, false, List, [], ◌∷◌, ◌++◌, Option, Some, None}
+use Rattle.std.proofs.Common.{◌≡◌, ℕ, zero, suc, ◌+◌, ◌-◌, ◌*◌, ◌<◌, ◌≤◌, length, Bool, true, false, List, [], ◌∷◌}
+use Rattle.std.proofs.Common.{◌++◌, Option, Some, None}
 use Rattle.std.proofs.Common.{refl, ap, ◌∙◌, subst, arith, eq-eqb, eqb-true}
 use Rattle.std.specs.Prelude.{pos, ◌==◌, if◌then◌else◌, slice_get}
 use Rattle.std.proofs.lemmas.Grind.{common_steps}
@@ -10,13 +11,15 @@ use Rattle.ec_core.specs.Layout.{PlainLeaf}
 use Rattle.ec_core.specs.Operators.{number_type, step_operator}
 use Rattle.ec_core.specs.PortAccesses.{pairs_of}
 use Rattle.ec_core.specs.PortOperations.{PortAction, reads, writes, updates, port_operation}
-use Rattle.ec_core.specs.PortTable.{PlainPort, PlainGroup, PlainTable}
+use Rattle.ec_core.specs.PortTable.{PlainPort, PlainGroup, PlainTable, choices_of}
 use Rattle.ec_iohw.specs.declared.operations.IoOp.{IoOp}
+use Rattle.ec_iohw.specs.declared.table.Choice.{Choice}
 use Rattle.ec_iohw.specs.declared.table.Pair.{Pair}
 use Rattle.ec_ir.specs.declared.operations.Temp.{Temp}
 use Rattle.ec_core.specs.Plain.{PlainType, void, integer, fixed, pointer, array, struct, PlainExpr, expression, PlainNode}
 use Rattle.ec_core.specs.Plain.{number, null, load, address_of, unary, binary, convert, assign, compound, step, logical_not}
-use Rattle.ec_core.specs.Plain.{logical_and, logical_or, conditional, comma, call, io, group, PlainPlace, object, deref, member}
+use Rattle.ec_core.specs.Plain.{logical_and, logical_or, conditional, comma, call, io, group, bind, dynamic_group}
+use Rattle.ec_core.specs.Plain.{PlainPlace, object, deref, member}
 use Rattle.ec_core.specs.Plain.{OptionPlainExpr, no_expr, an_expr, PlainExprs, last_expr, next_expr, PlainStmt, statement}
 use Rattle.ec_core.specs.Plain.{PlainKind, empty, evaluate, block, declare, branch, while_loop, do_loop, for_loop, break_loop}
 use Rattle.ec_core.specs.Plain.{continue_loop, return_value, OptionPlainStmt, no_stmt, a_stmt, PlainStmts, last_stmt, next_stmt}
@@ -25,12 +28,13 @@ use Rattle.ec_core.specs.Typing.{int, type_of_expr, port_value}
 use Rattle.ec_ir.specs.Meaning.{find}
 use Rattle.ec_ir.specs.Operations.{PlainIr, constant, copy, address, field, load_at, store_at, load_object, store_object}
 use Rattle.ec_ir.specs.Operations.{binary_op, unary_op, conversion, label, jump, branch_zero, call_function, return_from}
-use Rattle.ec_ir.specs.Operations.{port_in, port_out}
+use Rattle.ec_ir.specs.Operations.{port_in, port_out, load_cell, store_cell, cell_port}
 use Rattle.ec_ir.specs.Valid.{count}
 use Rattle.ec_lower_code.specs.Code.{temp, result_temp, truth_code, place_labels, Site, named, pointed, further_code, load_from}
 use Rattle.ec_lower_code.specs.Code.{store_to, value_place, settled_code, address_code, update_types, change_code, postfix_code}
 use Rattle.ec_lower_code.specs.Code.{step_code, offset_of, site, place_code, params_of, params_code, port_operator, port_code}
-use Rattle.ec_lower_code.specs.Code.{place_behind, operand_temp, access_code, pairs_code, group_code, option_labels}
+use Rattle.ec_lower_code.specs.Code.{read_from, write_to, place_behind, operand_temp, access_code, pairs_code, group_code, bind_code}
+use Rattle.ec_lower_code.specs.Code.{choices_code, option_labels}
 use Rattle.ec_lower_code.specs.Code.{option_code, expr_labels, node_labels, exprs_labels, optional_labels, stmt_labels}
 use Rattle.ec_lower_code.specs.Code.{kind_labels, option_stmt_labels, stmts_labels, expr_code, node_code, args_code, init_code}
 use Rattle.ec_lower_code.specs.Code.{test_code, last_code, leaves_of_object, stmt_code, kind_code, option_stmt_code, stmts_code}
@@ -39,6 +43,7 @@ use Rattle.ec_lower_code.specs.Code.{stepping_code, unread_code}
 use Rattle.ec_lower_code.specs.Code.{Branch, where_zero, where_not, branch_to, opposite, zero_label, other_label, and_end}
 use Rattle.ec_lower_code.specs.Code.{or_end, branch_code}
 use Rattle.ec_lower_code.proofs.Steps.{Resolves}
+use Rattle.ec_lower_code.proofs.Tables.{HaveFewChoices}
 
 abbrev is_at : (l j : ℕ) → ℕ
 is_at l j = if l == j then 1 else 0
@@ -114,6 +119,9 @@ op_count (call_function f to) code j = omega arith
 op_count (return_from t) code j = omega arith
 op_count (port_in t a i k) code j = omega arith
 op_count (port_out t a i k) code j = omega arith
+op_count (load_cell t d) code j = omega arith
+op_count (store_cell d t) code j = omega arith
+op_count (cell_port r t d a i k) code j = omega arith
 
 pub counted : (pre : List PlainIr) (j : ℕ) (rest : List PlainIr) → 1 ≤ count j (pre ++ label j ∷ rest)
 counted [] j rest = let e : is_at j j ≡ 1 = ap (λ b. if b then 1 else 0) (eq-eqb j j refl) in omega (arith, e)
@@ -143,6 +151,9 @@ found_behind (call_function f to) code j a b = refl
 found_behind (return_from t) code j a b = refl
 found_behind (port_in t x i k) code j a b = refl
 found_behind (port_out t x i k) code j a b = refl
+found_behind (load_cell t d) code j a b = refl
+found_behind (store_cell d t) code j a b = refl
+found_behind (cell_port r t d x i k) code j a b = refl
 
 found_at : (pre : List PlainIr) (j : ℕ) (rest : List PlainIr) → count j (pre ++ label j ∷ rest) ≤ 1
     → find j (pre ++ label j ∷ rest) ≡ Some rest
@@ -247,12 +258,26 @@ params_counts j [] es t rest = omega arith
 params_counts j (o ∷ os) last_expr t rest = omega arith
 params_counts j (o ∷ os) (next_expr e es) t rest = params_counts j os es (t + 1) rest
 
+read_counts : (j : ℕ) (dynamic : Option ℕ) (to : Temp) (offset : ℕ) (index : Option Temp) (width : ℕ) (rest : List PlainIr)
+    → count j (read_from dynamic to offset index width ∷ rest) ≤ count j rest
+read_counts j None to offset index width rest = omega arith
+read_counts j (Some d) to offset index width rest = omega arith
+
+write_counts : (j : ℕ) (dynamic : Option ℕ) (from : Temp) (offset : ℕ) (index : Option Temp) (width : ℕ) (rest : List PlainIr)
+    → count j (write_to dynamic from offset index width ∷ rest) ≤ count j rest
+write_counts j None from offset index width rest = omega arith
+write_counts j (Some d) from offset index width rest = omega arith
+
 port_counts : (j : ℕ) (action : PortAction) (op : BinOp) (ty : PlainType) (mode : Mode) (port : PlainPort) (index : Option Temp) (t v : ℕ)
     (rest : List PlainIr)
     → count j (port_code action op ty mode port index t v rest) ≤ count j rest
-port_counts j reads op ty mode port index t v rest = omega arith
-port_counts j writes op ty mode port index t v rest = omega arith
-port_counts j updates op ty mode port index t v rest = omega arith
+port_counts j reads op ty mode port index t v rest = read_counts j port.dynamic _ _ _ _ rest
+port_counts j writes op ty mode port index t v rest = write_counts j port.dynamic _ _ _ _ rest
+port_counts j updates op ty mode port index t v rest =
+    let out : List PlainIr = write_to port.dynamic (temp (v + 1) ty) port.address index port.width ∷ rest in
+    let x = read_counts j port.dynamic (temp (v + 1) ty) port.address index port.width
+    (binary_op op ty mode (temp (v + 1) ty) (temp (v + 1) ty) ty (temp v ty) ty ∷ out) in
+    let y = write_counts j port.dynamic (temp (v + 1) ty) port.address index port.width rest in omega (arith, x, y)
 
 access_counts : (j : ℕ) (op : IoOp) (mode : Mode) (port : Option PlainPort) (index : OptionPlainExpr) (t : ℕ) (rest : List PlainIr)
     → count j (access_code op mode port index t rest) ≤ count j rest
@@ -270,7 +295,32 @@ group_counts : (j : ℕ) (acquire : Bool) (x : Option PlainGroup) (t : ℕ) (res
 group_counts j acquire None t rest = omega arith
 group_counts j acquire (Some x) t rest = pairs_counts j (pairs_of acquire x) t rest
 
-module _ (program : PlainProgram) (table : PlainTable) where
+bind_counts : (j d : ℕ) (c : Option Choice) (t : ℕ) (rest : List PlainIr) → count j (bind_code d c t rest) ≤ count j rest
+bind_counts j d None t rest = omega arith
+bind_counts j d (Some c) t rest = omega arith
+
+-- two labels for each choice of a dynamic group
+choices_counts : (j : ℕ) (acquire : Bool) (table : PlainTable) (mode : Mode) (d : ℕ) (cs : List Choice) (l t : ℕ) (rest : List PlainIr)
+    → count j (choices_code acquire table mode d cs l t rest) ≤ among (2 * length cs) l j + count j rest
+choices_counts j acquire table mode d [] l t rest = omega arith
+choices_counts j acquire table mode d (c ∷ []) l t rest =
+    let x = group_counts j acquire (slice_get table.groups c.group) t rest in omega (arith, x)
+choices_counts j acquire table mode d (c ∷ other ∷ cs) l t rest =
+    let after_group : List PlainIr = label (l + 1) ∷ rest in
+    let pairs = group_code acquire (slice_get table.groups c.group) t after_group in
+    let x = choices_counts j acquire table mode d (other ∷ cs) (l + 2) t (jump (l + 1) ∷ label l ∷ pairs) in
+    let y = group_counts j acquire (slice_get table.groups c.group) t after_group in
+    let more = 2 * length (other ∷ cs) in
+    let z = among_two 2 more l j in
+    let e : among (2 * length (c ∷ other ∷ cs)) l j ≡ among (2 + more) l j = ap (λ k. among k l j) (omega arith) in
+    let v = two_labels l j in omega (arith, x, y, z, e, v)
+
+among_more : (a b l j : ℕ) → a ≤ b → among a l j ≤ among b l j
+among_more a b l j le =
+    let e : among b l j ≡ among (a + (b - a)) l j = ap (λ k. among k l j) (omega (arith, le)) in
+    let x = among_two a (b - a) l j in omega (arith, e, x)
+
+module _ (program : PlainProgram) (table : PlainTable) (few : HaveFewChoices table) where
   mutual
     pub expr_counts : (j : ℕ) (e : PlainExpr) (l t : ℕ) (rest : List PlainIr) → count j (expr_code program table e l t rest) ≤ among
         (expr_labels e) l j + count j rest
@@ -353,6 +403,12 @@ module _ (program : PlainProgram) (table : PlainTable) where
         let u = access_counts j op mode (slice_get table.ports port) i t rest in
         let z = among_two (option_labels i) (option_labels v) l j in omega (arith, x, y, u, z)
     node_counts j ty mode (group acquire g) l t rest = let x = group_counts j acquire (slice_get table.groups g) t rest in omega (arith, x)
+    node_counts j ty mode (bind d choice) l t rest = let x = bind_counts j d (slice_get (choices_of table d) choice) t rest in
+        omega (arith, x)
+    node_counts j ty mode (dynamic_group acquire d) l t rest =
+        let x = choices_counts j acquire table mode d (choices_of table d) l t rest in
+        let f = few d in
+        let y = among_more (2 * length (choices_of table d)) 16 l j (omega (arith, f)) in omega (arith, x, y)
 
     unread_counts : (j : ℕ) (e : PlainExpr) (l t : ℕ) (rest : List PlainIr) → count j (unread_code program table e l t rest) ≤ among
         (expr_labels e) l j + count j rest

@@ -19,6 +19,7 @@ mod Behind
 mod Callees
 mod Scene
 mod PortNodes
+mod Choices
 mod Expressions
 mod Facts
 mod Ends

@@ -38,7 +38,7 @@ module _ (wd : World) (sc : Scene wd) (ret : Returns wd sc) where
       (last_stands : Stands sc.code (last_code wd.program (ports wd) last (l + 4 + optional_labels c) (jump l ∷ label (l + 1) ∷ rest)))
       (part : CallsOfOptional (IsOther wd.program) c) (valid_part : ValidCondition wd.program wd.io sc.f c)
       (last_part : CallsOfOptional (IsOther wd.program) last) (valid_last : ValidOptional wd.program wd.io sc.f last)
-      (body_runs : (s : State) (m : Mach) → Match (homes wd) (around (W wd sc)) (d + 30) s m → IsTypedState wd.program s
+      (body_runs : (s : State) (m : Mach) → Match (homes wd) (ports wd) (around (W wd sc)) (d + 30) s m → IsTypedState wd.program s
       → Typed wd sc ret wd.n inner m (label (l + 2) ∷ last_code wd.program (ports wd) last (l + 4 + optional_labels c)
       (jump l ∷ label (l + 1) ∷ rest)) rest (last_code wd.program (ports wd) last (l + 4 + optional_labels c) (jump l ∷ label (l + 1)
       ∷ rest)) (d + 30) (body s))
@@ -51,12 +51,12 @@ module _ (wd : World) (sc : Scene wd) (ret : Returns wd sc) where
 
       -- the machine goes from here to the body, within the words of a turn
       pub record Enters (s : State) (p : List PlainIr) (u : Mach) : Type 0 where
-        pub by : (v : Mach) × Match (homes wd) (around (W wd sc)) (d + 30) (worked loop_words s) v × Comes (W wd sc)
+        pub by : (v : Mach) × Match (homes wd) (ports wd) (around (W wd sc)) (d + 30) (worked loop_words s) v × Comes (W wd sc)
             (here (W wd sc) p) u (at (here (W wd sc) inner)) v
 
       -- the test: the loop ends, or a turn can begin
       module _ (k : ℕ) (le : k ≤ wd.n) (out on : List PlainIr) (go : State → Outcome Exit) (runs : (s : State) (p : List PlainIr) (u : Mach)
-          → Enters s p u → Match (homes wd) (around (W wd sc)) d s u → IsTypedState wd.program s
+          → Enters s p u → Match (homes wd) (ports wd) (around (W wd sc)) d s u → IsTypedState wd.program s
           → Way wd sc ret k p u rest out on d (go s)) where
         selected : (x : PlainExpr) (b : Temps) (h : Bool) (s : State) (q : List PlainIr) (u : Mach) → IsScalar (type_of_expr x)
             → Leads wd sc 0 d (branch_zero_words (scalar_size (type_of_expr x))) b
@@ -65,8 +65,9 @@ module _ (wd : World) (sc : Scene wd) (ret : Returns wd sc) where
         selected x b true s q u i r =
             let w = branch_zero_words (scalar_size (type_of_expr x)) in
             let size = (scalar_bytes (type_of_expr x) i).1 in
-            let c = r.comes (worked loop_words s) (d + 30) (λ y g. less (homes wd) (d + y + 60) (d + 30 + w + y) (worked loop_words s) u
-            (omega (arith, size)) (credited (homes wd) loop_words (d + y) s u g)) in
+            let c = r.comes (worked loop_words s) (d + 30) (λ y g. less (homes wd) (ports wd) (d + y + 60) (d + 30 + w + y) (worked
+            loop_words s) u
+            (omega (arith, size)) (credited (homes wd) (ports wd) loop_words (d + y) s u g)) in
             runs s q u (record {
               by = (
                 c.0,
@@ -78,22 +79,23 @@ module _ (wd : World) (sc : Scene wd) (ret : Returns wd sc) where
         selected x b false s q u i r =
             let w = branch_zero_words (scalar_size (type_of_expr x)) in
             let size = (scalar_bytes (type_of_expr x) i).1 in
-            let c = r.comes (worked loop_words s) d (λ y g. less (homes wd) (d + y + 60) (d + w + y) (worked loop_words s) u
-            (omega (arith, size)) (credited (homes wd) loop_words (d + y) s u g)) in
+            let c = r.comes (worked loop_words s) d (λ y g. less (homes wd) (ports wd) (d + y + 60) (d + w + y) (worked loop_words s) u
+            (omega (arith, size)) (credited (homes wd) (ports wd) loop_words (d + y) s u g)) in
             after (W wd sc) (left_to wd sc ret rest out on) (Left wd sc ret d) k (here (W wd sc) q) (here (W wd sc) rest) u c.0
             (got at_end (worked loop_words s)) c.3 (at_rest wd sc ret d rest out on k (worked loop_words s) c.0 c.1)
 
         test_runs : (c1 : Option PlainExpr) → CallsOfOptional (IsOther wd.program) c1 → ValidCondition wd.program wd.io sc.f c1
             → (s : State) (m : Mach) → Stands sc.code (test_code wd.program (ports wd) c1 (l + 1) (l + 4) (label (l + 3) ∷ inner))
-            → Match (homes wd) (around (W wd sc)) d s m → IsTypedState wd.program s → Way wd sc ret k (test_code wd.program (ports wd) c1
+            → Match (homes wd) (ports wd) (around (W wd sc)) d s m → IsTypedState wd.program s
+            → Way wd sc ret k (test_code wd.program (ports wd) c1
             (l + 1) (l + 4)
             (label (l + 3) ∷ inner)) m rest out on d (tested (test_of (set wd) calls c1 s) go)
         test_runs None q v s m stands h st =
             runs s (label (l + 3) ∷ inner) m (record {
               by = (
                 m,
-                less (homes wd) (d + 60) (d + 30) (worked loop_words s) m
-                    (omega arith) (credited (homes wd) loop_words d s m h),
+                less (homes wd) (ports wd) (d + 60) (d + 30) (worked loop_words s) m
+                    (omega arith) (credited (homes wd) (ports wd) loop_words d s m h),
                 label_comes (W wd sc) (l + 3) inner m,
               );
             }) h st
@@ -107,12 +109,13 @@ module _ (wd : World) (sc : Scene wd) (ret : Returns wd sc) where
 
       -- the last part, the jump and the test
       going_runs : (k : ℕ) → suc k ≤ wd.n → (out on : List PlainIr) (go : State → Outcome Exit) → ((s : State) (p : List PlainIr) (u : Mach)
-          → Enters s p u → Match (homes wd) (around (W wd sc)) d s u → IsTypedState wd.program s → Way wd sc ret k p u rest out on d (go s))
-          → (s : State) (m : Mach) → Match (homes wd) (around (W wd sc)) (d + 30) s m → IsTypedState wd.program s
+          → Enters s p u → Match (homes wd) (ports wd) (around (W wd sc)) d s u → IsTypedState wd.program s
+          → Way wd sc ret k p u rest out on d (go s))
+          → (s : State) (m : Mach) → Match (homes wd) (ports wd) (around (W wd sc)) (d + 30) s m → IsTypedState wd.program s
           → Way wd sc ret (suc k) last_place m rest out on d (tested (going_on (set wd) calls last c s) go)
       going_runs k le out on go runs s m h st = by_last last last_part valid_last last_stands
         where
-          jumped : (s1 : State) (u : Mach) → Match (homes wd) (around (W wd sc)) (d + 30) s1 u → IsTypedState wd.program s1
+          jumped : (s1 : State) (u : Mach) → Match (homes wd) (ports wd) (around (W wd sc)) (d + 30) s1 u → IsTypedState wd.program s1
               → Way wd sc ret (suc k) (jump l ∷ label (l + 1) ∷ rest) u rest out on d (tested (test_of (set wd) calls c s1) go)
           jumped s1 u h1 st1 =
               let v : Mach = machine u.temps (worked (op_steps (jump l)) u.state) in
@@ -120,7 +123,7 @@ module _ (wd : World) (sc : Scene wd) (ret : Returns wd sc) where
               (here (W wd sc) test_place) u v (tested (test_of (set wd) calls c s1) go)
               (jump_steps (W wd sc) l (label (l + 1) ∷ rest) test_place u tested_at)
               (test_runs k (omega (arith, le)) out on go runs c part valid_part s1 v test_stands
-              (spent_on (homes wd) (d + 30) d (jump l) u.temps s1 u (omega arith) h1) st1)
+              (spent_on (homes wd) (ports wd) (d + 30) d (jump l) u.temps s1 u (omega arith) h1) st1)
 
           by_last : (y : Option PlainExpr) → CallsOfOptional (IsOther wd.program) y → ValidOptional wd.program wd.io sc.f y
               → Stands sc.code (last_code wd.program (ports wd) y (l + 4 + optional_labels c) (jump l ∷ label (l + 1) ∷ rest))
@@ -146,12 +149,13 @@ module _ (wd : World) (sc : Scene wd) (ret : Returns wd sc) where
 
       -- at most k turns
       pub turns_run : (k : ℕ) → k ≤ wd.n → (out on : List PlainIr) (s : State) (p : List PlainIr) (u : Mach) → Enters s p u
-          → Match (homes wd) (around (W wd sc)) d s u → IsTypedState wd.program s → Way wd sc ret k p u rest out on d
+          → Match (homes wd) (ports wd) (around (W wd sc)) d s u → IsTypedState wd.program s → Way wd sc ret k p u rest out on d
           (turns k body (λ s1. going_on (set wd) calls last c s1) s)
       turns_run zero le out on s p u enter h st = (0, u, omega arith, stopped_at d s u h, refl)
       turns_run (suc k) le out on s p u enter h st =
           let v = enter.by in
-          let go_on = λ (s1 : State) (u1 : Mach) (h1 : Match (homes wd) (around (W wd sc)) (d + 30) s1 u1) (st1 : IsTypedState wd.program
+          let go_on = λ (s1 : State) (u1 : Mach) (h1 : Match (homes wd) (ports wd) (around (W wd sc)) (d + 30) s1 u1) (st1 : IsTypedState
+          wd.program
           s1). going_runs k le
           out on (λ s2. turns k body (λ s1. going_on (set wd) calls last c s1) s2)
           (λ s2 q z e g t. turns_run k (omega (arith, le)) out on s2 q z e g t) s1 u1 h1 st1 in
@@ -163,11 +167,12 @@ module _ (wd : World) (sc : Scene wd) (ret : Returns wd sc) where
           (here (W wd sc) inner) v.0 (body (worked loop_words s)) le (body_runs (worked loop_words s) v.0 v.1 st))
           (λ s1 u1 h1 st1. past_label (W wd sc) (suc k) (l + 2) last_place u1 (left_to wd sc ret rest out on) (Left wd sc ret d) _
           (go_on s1 u1 h1 st1))
-          (λ s1 u1 h1 st1. at_rest wd sc ret d rest out on (suc k) s1 u1 (less (homes wd) (d + 30) d s1 u1 (omega arith) h1))
+          (λ s1 u1 h1 st1. at_rest wd sc ret d rest out on (suc k) s1 u1 (less (homes wd) (ports wd) (d + 30) d s1 u1 (omega arith) h1))
           (λ s1 u1 h1 st1. go_on s1 u1 h1 st1))
 
       -- a loop that begins with its test
-      pub loop_runs : (out on : List PlainIr) (s : State) (m : Mach) → Match (homes wd) (around (W wd sc)) d s m → IsTypedState wd.program s
+      pub loop_runs : (out on : List PlainIr) (s : State) (m : Mach) → Match (homes wd) (ports wd) (around (W wd sc)) d s m
+          → IsTypedState wd.program s
           → Way wd sc ret wd.n test_place m rest out on d (tested (test_of (set wd) calls c s)
           (λ s1. turns wd.n body (λ s2. going_on (set wd) calls last c s2) s1))
       loop_runs out on s m h st =
@@ -176,7 +181,7 @@ module _ (wd : World) (sc : Scene wd) (ret : Returns wd sc) where
 
       -- and one that begins with its body
       pub do_runs : (out on skipped : List PlainIr) (s : State) (m : Mach) → find (l + 3) sc.code ≡ Some inner
-          → Match (homes wd) (around (W wd sc)) d s m
+          → Match (homes wd) (ports wd) (around (W wd sc)) d s m
           → IsTypedState wd.program s → Way wd sc ret wd.n (jump (l + 3) ∷ skipped) m rest out on d
           (turns wd.n body (λ s2. going_on (set wd) calls last c s2) s)
       do_runs out on skipped s m f h st =
@@ -184,8 +189,8 @@ module _ (wd : World) (sc : Scene wd) (ret : Returns wd sc) where
           turns_run wd.n (omega arith) out on s (jump (l + 3) ∷ skipped) m (record {
             by = (
               v,
-              spent_on (homes wd) (d + 60) (d + 30) (jump (l + 3)) m.temps (worked loop_words s) m (omega arith)
-                  (credited (homes wd) loop_words d s m h),
+              spent_on (homes wd) (ports wd) (d + 60) (d + 30) (jump (l + 3)) m.temps (worked loop_words s) m (omega arith)
+                  (credited (homes wd) (ports wd) loop_words d s m h),
               jumps (W wd sc) (l + 3) skipped inner m f,
             );
           }) h st

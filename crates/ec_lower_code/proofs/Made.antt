@@ -11,10 +11,11 @@ use Rattle.ec_lower_code.proofs.Fits.{words_fit}
 use Rattle.ec_lower_code.proofs.Labels.{function_counts}
 use Rattle.ec_lower_code.proofs.Reached.{function_called}
 use Rattle.ec_lower_code.proofs.Rules.{lowered_is_valid}
+use Rattle.ec_lower_code.proofs.Tables.{HaveFewChoices, few_choices}
 
-module _ (program : PlainProgram) (table : PlainTable) where
+module _ (program : PlainProgram) (table : PlainTable) (few : HaveFewChoices table) where
   of_function : (f : PlainFunction) → IsLoweredFunction f (lowered_function program table f)
-  of_function f = record { labels = function_counts program table f; places = refl; calls = function_called program table f }
+  of_function f = record { labels = function_counts program table few f; places = refl; calls = function_called program table f }
 
   of_number : (n : ℕ) (f : PlainFunction) (g : PlainIrFunction) → slice_get program.functions n ≡ Some f
       → slice_get (lowered program table).functions n ≡ Some g → IsLoweredFunction f g
@@ -28,6 +29,6 @@ pub made : LoweredIsMadeOf
 made program io valid pairs =
     record {
       valid = lowered_is_valid program io valid pairs;
-      functions = of_number program (plain_table io);
+      functions = of_number program (plain_table io) (few_choices io valid.ports pairs);
       words = words_fit program io valid;
     }

@@ -5,6 +5,7 @@ use Rattle.std.specs.List.{AllByRecursion}
 use Rattle.ec_fx.specs.declared.numbers.Mode.{Mode}
 use Rattle.ec_iohw.specs.declared.operations.IoOp.{IoOp}
 use Rattle.ec_iohw.specs.declared.table.IoTable.{IoTable}
+use Rattle.ec_iohw.specs.declared.table.Choice.{Choice}
 use Rattle.ec_iohw.specs.declared.table.Pair.{Pair}
 use Rattle.ec_iohw.specs.Valid.{ValidIo}
 use Rattle.ec_core.specs.declared.expressions.BinOp.{BinOp}
@@ -12,13 +13,14 @@ use Rattle.ec_core.specs.Layout.{PlainLeaf}
 use Rattle.ec_core.specs.Operators.{OperationTypes, number_type, step_operator}
 use Rattle.ec_core.specs.Plain.{PlainType, void, integer, fixed, pointer, array, struct, PlainExpr, expression, PlainNode, number, null}
 use Rattle.ec_core.specs.Plain.{load, address_of, unary, binary, convert, assign, compound, step, logical_not, logical_and, logical_or}
-use Rattle.ec_core.specs.Plain.{conditional, comma, call, io, group, PlainPlace, object, deref, member, OptionPlainExpr, no_expr, an_expr}
+use Rattle.ec_core.specs.Plain.{conditional, comma, call, io, group, bind, dynamic_group, PlainPlace, object, deref}
+use Rattle.ec_core.specs.Plain.{member, OptionPlainExpr, no_expr, an_expr}
 use Rattle.ec_core.specs.Plain.{PlainExprs, last_expr, next_expr, PlainStmt, statement, PlainKind, empty, evaluate, block, declare, branch}
 use Rattle.ec_core.specs.Plain.{while_loop, do_loop, for_loop, break_loop, continue_loop, return_value, OptionPlainStmt, no_stmt, a_stmt}
 use Rattle.ec_core.specs.Plain.{PlainStmts, last_stmt, next_stmt, PlainFunction, PlainProgram}
 use Rattle.ec_core.specs.PortAccesses.{pairs_of}
 use Rattle.ec_core.specs.PortOperations.{PortAction, reads, writes, updates, port_operation}
-use Rattle.ec_core.specs.PortTable.{PlainPort, PlainGroup, plain_table}
+use Rattle.ec_core.specs.PortTable.{PlainPort, PlainGroup, PlainTable, plain_table, choices_of}
 use Rattle.ec_core.specs.Typing.{int, unsigned_int, unsigned_long, type_of_expr, IsTyped}
 use Rattle.ec_core.specs.Valid.{EachFrom, ValidExpr, ValidParts, ValidPlace, ValidOption, ValidExprs, ValidCondition, ValidOptional}
 use Rattle.ec_core.specs.Valid.{ValidStmt, ValidKind, ValidOptionStmt, ValidStmts, IsFunction}
@@ -29,7 +31,7 @@ use Rattle.ec_ir.specs.declared.operations.Temp.{Temp}
 use Rattle.ec_lower_code.specs.Code.{temp, result_temp, truth_code, place_labels, Site, named, pointed, further_code, load_from, store_to}
 use Rattle.ec_lower_code.specs.Code.{value_place, settled_code, address_code, update_types, update_code, keeping_code, moving_code}
 use Rattle.ec_lower_code.specs.Code.{change_code, postfix_code, step_code, offset_of, site, params_of, params_code}
-use Rattle.ec_lower_code.specs.Code.{port_operator, port_code}
+use Rattle.ec_lower_code.specs.Code.{port_operator, read_from, write_to, port_code, bind_code, choices_code}
 use Rattle.ec_lower_code.specs.Code.{place_behind, operand_temp, access_code, pairs_code, group_code, option_labels}
 use Rattle.ec_lower_code.specs.Code.{option_code, expr_labels}
 use Rattle.ec_lower_code.specs.Code.{optional_labels, option_stmt_labels, stmt_labels, expr_code, node_code, place_code}
@@ -40,7 +42,7 @@ use Rattle.ec_lower_code.specs.Code.{stepping_code, unread_code}
 use Rattle.ec_lower_code.specs.Code.{Branch, where_zero, where_not, branch_to, opposite, zero_label, other_label, and_end}
 use Rattle.ec_lower_code.specs.Code.{or_end, branch_code}
 use Rattle.ec_lower_code.specs.Correct.{IsBytePair, GroupsHaveBytes, IsOnPorts, OperationsStayOnPorts}
-use Rattle.ec_lower_code.proofs.Tables.{IsOperated, AreOperated, ArePairs, port_operated, group_pairs, first_within}
+use Rattle.ec_lower_code.proofs.Tables.{LiesFromAll, IsOperated, AreOperated, ArePairs, port_operated, group_pairs, first_within}
 
 abbrev AllOn : List PlainIr → Type 0
 AllOn code = AllByRecursion IsOnPorts code
@@ -121,19 +123,32 @@ params_on [] es t rest r = r
 params_on (o ∷ os) last_expr t rest r = r
 params_on (o ∷ os) (next_expr e es) t rest r = (tt, params_on os es (t + 1) rest r)
 
-port_on : (action : PortAction) (op : IoOp) (long : Bool) (mode : Mode) (port : PlainPort) (index : Option Temp) (t v : ℕ)
-    (rest : List PlainIr)
-    → IsOperated long port → AllOn rest
-    → AllOn (port_code action (port_operator op) (if long then unsigned_long else unsigned_int) mode port index t v rest)
-port_on reads op long mode port index t v rest i r = (first_within long port i, r)
-port_on writes op long mode port index t v rest i r = (first_within long port i, r)
-port_on updates op long mode port index t v rest i r = (first_within long port i, (tt, (first_within long port i, r)))
+module _ (table : PlainTable) (long : Bool) (port : PlainPort) (i : IsOperated table long port) where
+  read_on : (dynamic : Option ℕ) → LiesFromAll table port dynamic → (to : Temp) (index : Option Temp)
+      → IsOnPorts (read_from dynamic to port.address index port.width)
+  read_on None h to index = first_within port port.address i.width i.some h
+  read_on (Some d) h to index = i.address
 
-access_on : (op : IoOp) (mode : Mode) (port : Option PlainPort) (index : OptionPlainExpr) (t : ℕ) (rest : List PlainIr)
-    → AreOperated (port_operation op).long port → AllOn rest → AllOn (access_code op mode port index t rest)
-access_on op mode None index t rest i r = r
-access_on op mode (Some port) index t rest i r =
-    port_on (port_operation op).action op (port_operation op).long mode port (operand_temp index t) t (place_behind index t) rest
+  write_on : (dynamic : Option ℕ) → LiesFromAll table port dynamic → (from : Temp) (index : Option Temp)
+      → IsOnPorts (write_to dynamic from port.address index port.width)
+  write_on None h from index = first_within port port.address i.width i.some h
+  write_on (Some d) h from index = i.address
+
+port_on : (table : PlainTable) (action : PortAction) (op : IoOp) (long : Bool) (mode : Mode) (port : PlainPort) (index : Option Temp)
+    (t v : ℕ) (rest : List PlainIr)
+    → IsOperated table long port → AllOn rest
+    → AllOn (port_code action (port_operator op) (if long then unsigned_long else unsigned_int) mode port index t v rest)
+port_on table reads op long mode port index t v rest i r = (read_on table long port i port.dynamic i.last _ index, r)
+port_on table writes op long mode port index t v rest i r = (write_on table long port i port.dynamic i.last _ index, r)
+port_on table updates op long mode port index t v rest i r =
+    (read_on table long port i port.dynamic i.last _ index, (tt, (write_on table long port i port.dynamic i.last _ index, r)))
+
+access_on : (table : PlainTable) (op : IoOp) (mode : Mode) (port : Option PlainPort) (index : OptionPlainExpr) (t : ℕ)
+    (rest : List PlainIr)
+    → AreOperated table (port_operation op).long port → AllOn rest → AllOn (access_code op mode port index t rest)
+access_on table op mode None index t rest i r = r
+access_on table op mode (Some port) index t rest i r =
+    port_on table (port_operation op).action op (port_operation op).long mode port (operand_temp index t) t (place_behind index t) rest
     (i port refl) r
 
 pairs_on : (pairs : List Pair) (t : ℕ) (rest : List PlainIr) → AllByRecursion IsBytePair pairs → AllOn rest
@@ -145,6 +160,29 @@ group_on : (acquire : Bool) (x : Option PlainGroup) (t : ℕ) (rest : List Plain
     → AllOn (group_code acquire x t rest)
 group_on acquire None t rest h r = r
 group_on acquire (Some x) t rest h r = pairs_on (pairs_of acquire x) t rest (h x refl acquire) r
+
+bind_on : (d : ℕ) (c : Option Choice) (t : ℕ) (rest : List PlainIr) → AllOn rest → AllOn (bind_code d c t rest)
+bind_on d None t rest r = r
+bind_on d (Some c) t rest r = (tt, (tt, r))
+
+choices_on : (acquire : Bool) (table : PlainTable) (mode : Mode) (d : ℕ) (cs : List Choice) (l t : ℕ) (rest : List PlainIr)
+    → ((g : ℕ) → ArePairs (slice_get table.groups g)) → AllOn rest → AllOn (choices_code acquire table mode d cs l t rest)
+choices_on acquire table mode d [] l t rest h r = r
+choices_on acquire table mode d (c ∷ []) l t rest h r = group_on acquire (slice_get table.groups c.group) t rest (h c.group) r
+choices_on acquire table mode d (c ∷ other ∷ cs) l t rest h r = (
+  tt,
+  (
+    tt,
+    (
+      tt,
+      (
+        tt,
+        choices_on acquire table mode d (other ∷ cs) (l + 2) t _ h
+            (tt, (tt, group_on acquire (slice_get table.groups c.group) t (label (l + 1) ∷ rest) (h c.group) (tt, r))),
+      ),
+    ),
+  ),
+)
 
 branch_to_on : (to : Branch) (t : Temp) (rest : List PlainIr) → AllOn rest → AllOn (branch_to to t rest)
 branch_to_on (where_zero to) t rest r = (tt, r)
@@ -237,10 +275,13 @@ module _ (program : PlainProgram) (table : IoTable) (valid : ValidIo table) (byt
         let q = access_code op mode (slice_get (plain_table table).ports port) i t rest in
         operand_on i l t (option_code program (plain_table table) w (l + option_labels i) (place_behind i t) q) v.0
         (operand_on w (l + option_labels i) (place_behind i t) q v.1
-        (access_on op mode (slice_get (plain_table table).ports port) i t rest
+        (access_on (plain_table table) op mode (slice_get (plain_table table).ports port) i t rest
         (port_operated table valid port (port_operation op).long tp.port) r))
     node_on ty mode (group acquire g) l t rest tp v r =
         group_on acquire (slice_get (plain_table table).groups g) t rest (group_pairs table bytes g) r
+    node_on ty mode (bind d choice) l t rest tp v r = bind_on d (slice_get (choices_of (plain_table table) d) choice) t rest r
+    node_on ty mode (dynamic_group acquire d) l t rest tp v r =
+        choices_on acquire (plain_table table) mode d (choices_of (plain_table table) d) l t rest (group_pairs table bytes) r
 
     unread_on : (e : PlainExpr) (l t : ℕ) (rest : List PlainIr) → ValidExpr program table f e → AllOn rest
         → AllOn (unread_code program (plain_table table) e l t rest)

@@ -47,30 +47,30 @@ module _ (w : Spot) where
 
   -- a value of a type at t, where the type is scalar
   pub record HasValue (ty : PlainType) (t d : ℕ) (b : Temps) (v : Value) (s : State) (u : Mach) : Type 0 where
-    pub match : Match w.program (around w) d s u
+    pub match : Match w.program w.table (around w) d s u
     pub value : IsScalar ty → u.temps t ≡ Some (held_of ty v)
     pub same : Below t b u
 
   -- bytes at t that are all 0 where a condition does not hold
   pub record HasTest (ty : PlainType) (t d : ℕ) (b : Temps) (h : Bool) (s : State) (u : Mach) : Type 0 where
-    pub match : Match w.program (around w) d s u
+    pub match : Match w.program w.table (around w) d s u
     pub tested : Value
     pub value : u.temps t ≡ Some (held_of ty tested)
     pub zero : is_zero (content_of (scalar_size ty) (shown tested)) ≡ not h
     pub same : Below t b u
 
   pub set_value : (i : PlainIr) (ty : PlainType) (t d e : ℕ) (b : Temps) (u : Mach) (s : State) (v : Value) → op_words i + d ≤ e
-      → Match w.program (around w) e s u → Below t b u → HasValue ty t d b v s (machine (with_temp (temp t ty) (shown v) u.temps)
+      → Match w.program w.table (around w) e s u → Below t b u → HasValue ty t d b v s (machine (with_temp (temp t ty) (shown v) u.temps)
       (worked (op_steps i) u.state))
   set_value i ty t d e b u s v le h k = record {
-    match = spent_on w.program e d i (with_temp (temp t ty) (shown v) u.temps) s u le h;
+    match = spent_on w.program w.table e d i (with_temp (temp t ty) (shown v) u.temps) s u le h;
     value = λ z. held_at t (held_of ty v) u.temps;
     same = λ j lt. held_below t (held_of ty v) u.temps j lt ∙ k j lt;
   }
 
   -- a value is put at t by an operation that computes
   computed : (n t d e : ℕ) (b : Temps) (i : PlainIr) (ty : PlainType) (v : Value) (s : State) (u : Mach) (rest : List PlainIr)
-      → op_words i + d ≤ e → Match w.program (around w) e s u → Below t b u
+      → op_words i + d ≤ e → Match w.program w.table (around w) e s u → Below t b u
       → ((k : ℕ) → goes w (suc k) (i ∷ rest) u ≡ goes w (suc k) rest (machine (with_temp (temp t ty) (shown v) u.temps)
       (worked (op_steps i) u.state))) → Runs w n (i ∷ rest) u (to_rest rest) (HasValue ty t d b) (got v s)
   computed n t d e b i ty v s u rest le h same c =
@@ -80,14 +80,16 @@ module _ (w : Spot) where
       (set_value i ty t d e b u s v le h same)
 
   pub constant_runs : (n t d e : ℕ) (b : Temps) (ty : PlainType) (x : ℤ) (s : State) (u : Mach) (rest : List PlainIr)
-      → 5 * scalar_size ty + d ≤ e → Match w.program (around w) e s u → Below t b u → Runs w n (constant (temp t ty) x ∷ rest) u (to_rest
+      → 5 * scalar_size ty + d ≤ e → Match w.program w.table (around w) e s u → Below t b u
+      → Runs w n (constant (temp t ty) x ∷ rest) u (to_rest
       rest)
       (HasValue ty t d b) (got (Number x) s)
   constant_runs n t d e b ty x s u rest le h same = computed n t d e b (constant (temp t ty) x) ty (Number x) s u rest le h same (λ k. refl)
 
   -- the bytes of null are 0
   pub null_runs : (n t d e : ℕ) (b : Temps) (ty : PlainType) (s : State) (u : Mach) (rest : List PlainIr) → 5 * scalar_size ty + d ≤ e
-      → Match w.program (around w) e s u → Below t b u → Runs w n (constant (temp t ty) (pos 0) ∷ rest) u (to_rest rest) (HasValue ty t d b)
+      → Match w.program w.table (around w) e s u → Below t b u → Runs w n (constant (temp t ty) (pos 0) ∷ rest) u (to_rest rest)
+      (HasValue ty t d b)
       (got (Pointer None) s)
   null_runs n t d e b ty s u rest le h same =
       computed n t d e b (constant (temp t ty) (pos 0)) ty (Pointer None) s u rest le h same
@@ -96,7 +98,8 @@ module _ (w : Spot) where
 
   -- the address of a place in an object
   pub address_runs : (n t d e : ℕ) (b : Temps) (ty : PlainType) (o offset i : ℕ) (s : State) (u : Mach) (rest : List PlainIr)
-      → 5 * scalar_size ty + d ≤ e → Match w.program (around w) e s u → Below t b u → Runs w n (address (temp t ty) o offset ∷ rest) u
+      → 5 * scalar_size ty + d ≤ e → Match w.program w.table (around w) e s u → Below t b u
+      → Runs w n (address (temp t ty) o offset ∷ rest) u
       (to_rest rest)
       (HasValue ty t d b) (got (Pointer (Some (record { object = o; instance = i; offset = offset }))) s)
   address_runs n t d e b ty o offset i s u rest le h same = computed n t d e b (address (temp t ty) o offset) ty
@@ -108,7 +111,7 @@ module _ (w : Spot) where
   label_comes l rest m = computes w (label l) rest m m (λ k. ap
       (λ (x : ℕ). goes w (suc k) rest (machine m.temps (record {
         objects = m.state.objects;
-        acquired = m.state.acquired;
+        groups = m.state.groups;
         events = m.state.events;
         work = x;
       }))) (let z : m.state.work + 64 * 0 ≡ m.state.work = omega arith in z)) refl refl (omega arith)
@@ -235,7 +238,7 @@ module _ (w : Spot) where
   pub binary_runs : (n t d e : ℕ) (b : Temps) (op : BinOp) (ty : PlainType) (mode : Mode) (aty bty : PlainType) (x y : Value) (s : State)
       (u : Mach) (rest : List PlainIr) → IsScalar aty → HasType w.program aty x → IsScalar bty → HasType w.program bty y
       → binary_words op ty aty bty + d ≤ e
-      → Match w.program (around w) e s u → u.temps t ≡ Some (held_of aty x) → u.temps (t + 1) ≡ Some (held_of bty y) → Below t b u
+      → Match w.program w.table (around w) e s u → u.temps t ≡ Some (held_of aty x) → u.temps (t + 1) ≡ Some (held_of bty y) → Below t b u
       → (r : Result Value Undefined) → binary_result op ty mode (operand_of w.program aty x s) (operand_of w.program bty y s) ≡ r
       → Runs w n (binary_op op ty mode (temp t ty) (temp t aty) aty (temp (t + 1) bty) bty ∷ rest) u (to_rest rest) (HasValue ty t d b)
       (given r s)
@@ -248,7 +251,7 @@ module _ (w : Spot) where
   pub binary_above : (n t d e : ℕ) (op : BinOp) (ty : PlainType) (mode : Mode) (aty bty : PlainType) (x y v : Value) (s : State) (u : Mach)
       (rest : List PlainIr) → IsScalar aty → HasType w.program aty x → IsScalar bty → HasType w.program bty y
       → binary_words op ty aty bty + d ≤ e
-      → Match w.program (around w) e s u → u.temps t ≡ Some (held_of aty x) → u.temps (t + 1) ≡ Some (held_of bty y)
+      → Match w.program w.table (around w) e s u → u.temps t ≡ Some (held_of aty x) → u.temps (t + 1) ≡ Some (held_of bty y)
       → binary_result op ty mode
       (operand_of w.program aty x s) (operand_of w.program bty y s) ≡ Ok v
       → Runs w n (binary_op op ty mode (temp (t + 1) ty) (temp t aty) aty (temp (t + 1) bty) bty ∷ rest) u (to_rest rest)
@@ -261,7 +264,7 @@ module _ (w : Spot) where
   pub binary_over : (n t d e : ℕ) (op : BinOp) (ty : PlainType) (mode : Mode) (aty bty : PlainType) (x y v : Value) (s : State) (u : Mach)
       (rest : List PlainIr) → IsScalar aty → HasType w.program aty x → IsScalar bty → HasType w.program bty y
       → binary_words op ty aty bty + d ≤ e
-      → Match w.program (around w) e s u → u.temps (t + 1) ≡ Some (held_of aty x) → u.temps t ≡ Some (held_of bty y)
+      → Match w.program w.table (around w) e s u → u.temps (t + 1) ≡ Some (held_of aty x) → u.temps t ≡ Some (held_of bty y)
       → binary_result op ty mode (operand_of w.program aty x s) (operand_of w.program bty y s) ≡ Ok v
       → Runs w n (binary_op op ty mode (temp (t + 1) ty) (temp (t + 1) aty) aty (temp t bty) bty ∷ rest) u (to_rest rest)
       (HasValue ty (t + 1) d u.temps) (got v s)
@@ -285,17 +288,17 @@ module _ (w : Spot) where
   pub branches : {A : Type 0} (n t d e : ℕ) (b : Temps) (ty : PlainType) (l : ℕ) (rest other : List PlainIr) (to : A → Target)
       (R : A → State → Mach → Type 0) (h : Bool) (x y : State → Outcome A) (s : State) (u : Mach) → find l w.code ≡ Some other
       → branch_zero_words (scalar_size ty) + d ≤ e → HasTest ty t e b h s u
-      → ((v : Mach) → Match w.program (around w) d s v → Below t b v → Runs w n rest v to R (x s)) → ((v : Mach)
-      → Match w.program (around w) d s v → Below t b v
+      → ((v : Mach) → Match w.program w.table (around w) d s v → Below t b v → Runs w n rest v to R (x s)) → ((v : Mach)
+      → Match w.program w.table (around w) d s v → Below t b v
       → Runs w n other v to R (y s)) → Runs w n (branch_zero (temp t ty) l ∷ rest) u to R (choose h x y s)
   branches n t d e b ty l rest other to R true x y s u f le q on off =
       let i = branch_zero (temp t ty) l in
       after w to R n (here w (i ∷ rest)) (here w rest) u _ (x s) (branch_on ty t l rest u q.tested q.value q.zero)
-      (on _ (spent_on w.program e d i u.temps s u le q.match) q.same)
+      (on _ (spent_on w.program w.table e d i u.temps s u le q.match) q.same)
   branches n t d e b ty l rest other to R false x y s u f le q on off =
       let i = branch_zero (temp t ty) l in
       after w to R n (here w (i ∷ rest)) (here w other) u _ (y s) (branch_off ty t l rest other u q.tested f q.value q.zero)
-      (off _ (spent_on w.program e d i u.temps s u le q.match) q.same)
+      (off _ (spent_on w.program w.table e d i u.temps s u le q.match) q.same)
 
   -- ---- places
 
@@ -339,24 +342,25 @@ module _ (w : Spot) where
 
   -- a pointer that is moved
   pub field_runs : (n t d e : ℕ) (ptr : Temp) (space : SpaceId) (k : ℕ) (q r : PointerValue) (b : Temps) (s : State) (u : Mach)
-      (rest : List PlainIr) → ptr.at ≡ t → member_words + d ≤ e → Match w.program (around w) e s u → Below t b u
+      (rest : List PlainIr) → ptr.at ≡ t → member_words + d ≤ e → Match w.program w.table (around w) e s u → Below t b u
       → u.temps ptr.at ≡ Some (record { bytes = ptr.bytes; content = content_of ptr.bytes (shown (Pointer q)) })
       → moved q (referent_of w.program q s) (pos k) ≡ Ok r
-      → Runs w n (field ptr space k ∷ rest) u (to_rest rest) (λ v s1 u1. Match w.program (around w) d s1 u1 × (u1.temps ptr.at ≡ Some
+      → Runs w n (field ptr space k ∷ rest) u (to_rest rest) (λ v s1 u1. Match w.program w.table (around w) d s1 u1 × (u1.temps ptr.at ≡
+      Some
       (record { bytes = ptr.bytes; content = content_of ptr.bytes (shown (Pointer v)) })) × Below t b u1) (got r s)
   field_runs n t d e ptr space k q r b s u rest a le h same held f =
       let i = field ptr space k in
       let s1 : State = worked (op_steps i) u.state in
       let x : Held = record { bytes = ptr.bytes; content = content_of ptr.bytes (shown (Pointer r)) } in
       let u1 : Mach = machine (with_temp ptr (Pointer (option_map erased r)) u.temps) s1 in
-      ends w (to_rest rest) (λ v s1 u1. Match w.program (around w) d s1 u1 × (u1.temps ptr.at ≡ Some
+      ends w (to_rest rest) (λ v s1 u1. Match w.program w.table (around w) d s1 u1 × (u1.temps ptr.at ≡ Some
       (record { bytes = ptr.bytes; content = content_of ptr.bytes (shown (Pointer v)) })) × Below t b u1) n (here w (i ∷ rest))
       (here w rest) u u1 r s refl
       (computes w i rest u u1 (λ z. ap (λ y. next y (λ p s2. next (given (moved p (referent_of w.program p s2) (pos k)) s2)
       (λ v s3. goes w (suc z) rest (machine (with_temp ptr (Pointer v) u.temps) s3)))) (pointer_held ptr q u.temps s1 held)
       ∙ ap (λ y. next (given y s1) (λ v s3. goes w (suc z) rest (machine (with_temp ptr (Pointer v) u.temps) s3)))
       (moved_shown w.program (around w) s s1 h.objects q (pos k) r f)) refl refl (omega arith)) (
-        spent_on w.program e d i u1.temps s u le h,
+        spent_on w.program w.table e d i u1.temps s u le h,
         held_at ptr.at x u.temps,
         λ j lt. held_below ptr.at x u.temps j (omega (arith, lt, a))
             ∙ same j lt,
@@ -364,7 +368,8 @@ module _ (w : Spot) where
 
   -- a value that stands behind the pointer is brought to its place
   pub copy_runs : (n t d e : ℕ) (ty : PlainType) (b : Temps) (v : Value) (s : State) (u : Mach) (rest : List PlainIr)
-      → 5 * scalar_size ty + d ≤ e → IsScalar ty → Match w.program (around w) e s u → u.temps (t + 1) ≡ Some (held_of ty v) → Below t b u
+      → 5 * scalar_size ty + d ≤ e → IsScalar ty → Match w.program w.table (around w) e s u → u.temps (t + 1) ≡ Some (held_of ty v)
+      → Below t b u
       → Runs w n (copy (temp t ty) (temp (t + 1) ty) ∷ rest) u (to_rest rest) (HasValue ty t d b) (got v s)
   copy_runs n t d e ty b v s u rest le sc h held same =
       computed n t d e b (copy (temp t ty) (temp (t + 1) ty)) ty v s u rest le h same
@@ -376,13 +381,14 @@ module _ (w : Spot) where
 
   -- what is kept where an object is going to be stored to
   pub before_match : {fs : List ℕ} (storage : Option PlainStorage) → ((g : ℕ) → storage ≡ Some (param g) → AreAmong fs (g ∷ around w))
-      → (d : ℕ) (temps : Temps) (s t : State) → Match w.program fs d s (machine temps t)
-      → Match w.program fs d s (machine temps (before_store w.program (around w) storage t))
+      → (d : ℕ) (temps : Temps) (s t : State) → Match w.program w.table fs d s (machine temps t)
+      → Match w.program w.table fs d s (machine temps (before_store w.program (around w) storage t))
   before_match None among d temps s t h = h
   before_match (Some (static inits)) among d temps s t h = h
   before_match (Some (local f)) among d temps s t h = h
   before_match {fs = fs} (Some (param g)) among d temps s t h = record {
     objects = kept_shown w.program fs fs (g ∷ around w) (λ f e. e) (among g refl) w.program.objects s.objects t.objects h.objects;
+    cells = h.cells;
     events = h.events;
     spent = h.spent;
   }
@@ -454,7 +460,8 @@ module _ (w : Spot) where
         }
 
     read_one : (n t d e : ℕ) (b : Temps) (ty : PlainType) (site : Site) (s : State) (a : Access) (u : Mach) (rest : List PlainIr)
-        → IsReached site u.temps ty s a → op_words (load_from (temp t ty) site) + d ≤ e → Match w.program (around w) e s u → Below t b u
+        → IsReached site u.temps ty s a → op_words (load_from (temp t ty) site) + d ≤ e → Match w.program w.table (around w) e s u
+        → Below t b u
         → (v : Option Value) → leaf_of a.state a.leaf ≡ v → Runs w n (load_from (temp t ty) site ∷ rest) u (to_rest rest)
         (HasValue ty t d b) (read_value w.program a v s)
     read_one n t d e b ty site s a u rest at_leaf le h same None f = tt
@@ -471,8 +478,8 @@ module _ (w : Spot) where
             let at_leaf : leaf_of l.x l.k ≡ Some v = ap (λ (z : Access). leaf_of z.state z.leaf) l.is ∙ f in
             let event : Event = Read to.o l.k (unwrap_or to.via l.d.space) (told v) in
             let t1 : State = recorded l.d.storage event s1 in
-            let m = record_match w.program l.d.storage event d s (with_temp (temp t ty) (shown v) u.temps) s1
-            (spent_on w.program e d i (with_temp (temp t ty) (shown v) u.temps) s u le h) in
+            let m = record_match w.program w.table l.d.storage event d s (with_temp (temp t ty) (shown v) u.temps) s1
+            (spent_on w.program w.table e d i (with_temp (temp t ty) (shown v) u.temps) s u le h) in
             let u1 : Mach = machine (with_temp (temp t ty) (shown v) u.temps) t1 in
             ends w (to_rest rest) (HasValue ty t d b) n (here w (i ∷ rest)) (here w rest) u u1 v
             (recorded a.declared.storage (Read a.object a.leaf a.space (told v)) s) refl
@@ -480,7 +487,8 @@ module _ (w : Spot) where
             ∙ ap (λ z. next z (λ x s2. goes w k rest (machine (with_temp (temp t ty) x u.temps) s2)))
             (read_home w.program apart (around w) to.via to.o to.offset ty s s1 a l v h.objects at_leaf g)))
             (record {
-              match = subst (λ (z : Access). Match w.program (around w) d (recorded z.declared.storage (Read z.object z.leaf z.space (told
+              match = subst (λ (z : Access). Match w.program w.table (around w) d (recorded z.declared.storage (Read z.object z.leaf
+                  z.space (told
                   v)) s) u1)
                   l.is m;
               value = λ z. held_at t (held_of ty v) u.temps;
@@ -490,7 +498,7 @@ module _ (w : Spot) where
     -- a read of a place
     pub read_runs : (n t d e : ℕ) (b : Temps) (ty : PlainType) (site : Site) (sp : Option SpaceId) (q : PointerValue) (s : State) (u : Mach)
         (rest : List PlainIr) → IsSpace site sp → IsSite site u.temps q → op_words (load_from (temp t ty) site) + d ≤ e
-        → Match w.program (around w) e s u → Below t b u → (a : Option Access) → access w.program ty sp q s ≡ a
+        → Match w.program w.table (around w) e s u → Below t b u → (a : Option Access) → access w.program ty sp q s ≡ a
         → Runs w n (load_from (temp t ty) site
         ∷ rest) u (to_rest rest) (HasValue ty t d b) (read w.program a s)
     read_runs n t d e b ty site sp q s u rest i j le h same None f = tt
@@ -499,18 +507,19 @@ module _ (w : Spot) where
 
     -- a leaf is written at home too
     pub store_match : {fs : List ℕ} (via : Option SpaceId) (d : ℕ) (temps : Temps) (o offset : ℕ) (ty : PlainType) (s : State) (a : Access)
-        (t : State) (v : Value) (l : Leaf via o offset ty s a) → Match w.program fs d s (machine temps t)
-        → Match w.program fs d (stored a v s) (machine temps (recorded l.d.storage (Write o l.k (unwrap_or via l.d.space) (told v))
+        (t : State) (v : Value) (l : Leaf via o offset ty s a) → Match w.program w.table fs d s (machine temps t)
+        → Match w.program w.table fs d (stored a v s) (machine temps (recorded l.d.storage (Write o l.k (unwrap_or via l.d.space) (told v))
         (with_object o (with_leaf l.k (shown v)) t)))
     store_match {fs = fs} via d temps o offset ty s a t v l k =
         let event : Event = Write o l.k (unwrap_or via l.d.space) (told v) in
         let objects = store_one w.program fs w.program.objects s.objects t.objects o l.d l.k v l.declared
         (leaf_within w.program apart via o offset ty s a l) k.objects in
-        let m : Match w.program fs d (with_object o (with_leaf l.k v) s) (machine temps (with_object o (with_leaf l.k (shown v)) t)) =
-        record { objects = objects; events = k.events; spent = k.spent } in
-        subst (λ (z : Access). Match w.program fs d (stored z v s)
+        let m : Match w.program w.table fs d (with_object o (with_leaf l.k v) s) (machine temps (with_object o (with_leaf l.k (shown v))
+        t)) =
+        record { objects = objects; cells = k.cells; events = k.events; spent = k.spent } in
+        subst (λ (z : Access). Match w.program w.table fs d (stored z v s)
         (machine temps (recorded l.d.storage event (with_object o (with_leaf l.k (shown v)) t)))) l.is
-        (record_match w.program l.d.storage event d (with_object o (with_leaf l.k v) s) temps _ m)
+        (record_match w.program w.table l.d.storage event d (with_object o (with_leaf l.k v) s) temps _ m)
 
     -- the state in which an object that is named is stored to
     abbrev pub stored_in : (o offset : ℕ) → Temp → Mach → State
@@ -519,7 +528,7 @@ module _ (w : Spot) where
     -- a store at a leaf of it
     pub store_comes : {fs : List ℕ} (o offset : ℕ) (ty : PlainType) (t d : ℕ) (s : State) (a : Access) (u : Mach) (v : Value)
         (rest : List PlainIr) (l : Leaf None o offset ty s a) → IsScalar ty → HasType w.program ty v → is_read_only l.d.home ≡ false
-        → Match w.program fs d s (machine u.temps (stored_in o offset (temp t ty) u)) → u.temps t ≡ Some (held_of ty v)
+        → Match w.program w.table fs d s (machine u.temps (stored_in o offset (temp t ty) u)) → u.temps t ≡ Some (held_of ty v)
         → Comes w (here w (store_object o offset (temp t ty) ∷ rest)) u (at (here w rest))
         (machine u.temps (recorded l.d.storage (Write o l.k l.d.space (told v)) (with_object o (with_leaf l.k (shown v))
         (stored_in o offset (temp t ty) u))))
@@ -551,7 +560,7 @@ module _ (w : Spot) where
             let s0 : State = worked (op_steps (store_to site (temp t ty))) u.state in
             let s1 : State = before_store w.program (around w) to.storage s0 in
             let among = λ (g : ℕ) (q : to.storage ≡ Some (param g)). among_more g (around w) in
-            let k = before_match to.storage among d u.temps s s0 (spent_on w.program e d (store_to site (temp t ty)) u.temps s u le
+            let k = before_match to.storage among d u.temps s s0 (spent_on w.program w.table e d (store_to site (temp t ty)) u.temps s u le
             h.match) in
             let u1 : Mach = machine u.temps (recorded l.d.storage (Write to.o l.k (unwrap_or to.via l.d.space) (told v))
             (with_object to.o (with_leaf l.k (shown v)) s1)) in

@@ -1,5 +1,5 @@
 -- The rows of the parts pay for their operations.
-use Rattle.std.proofs.Common.{◌≡◌, ℕ, ◌+◌, ◌*◌, ◌≤◌, Bool, true, false, [], ◌∷◌, ap, ◌∙◌, arith}
+use Rattle.std.proofs.Common.{◌≡◌, ℕ, ◌+◌, ◌*◌, ◌≤◌, Bool, true, false, [], ◌∷◌, Option, Some, None, ap, ◌∙◌, arith}
 use Rattle.std.specs.Prelude.{◌&&◌, ◌||◌, if◌then◌else◌, max}
 use Rattle.ec_core.specs.declared.expressions.BinOp.{BinOp}
 use Rattle.ec_core.specs.Operators.{same_type}
@@ -7,9 +7,10 @@ use Rattle.ec_core.specs.Layout.{scalar_size}
 use Rattle.ec_core.specs.Plain.{PlainType, integer, OptionPlainExpr, no_expr, an_expr}
 use Rattle.ec_core.specs.Typing.{unsigned_int, unsigned_long}
 use Rattle.ec_core.specs.Words.{widest, operation_words, choice_words, return_words}
-use Rattle.ec_ir.specs.Costs.{branch_zero_words, is_bitwise, is_integer, conversion_words, binary_words, index_words}
+use Rattle.ec_ir.specs.declared.operations.Temp.{Temp}
+use Rattle.ec_ir.specs.Costs.{op_words, branch_zero_words, is_bitwise, is_integer, conversion_words, binary_words, index_words}
 use Rattle.ec_iohw.specs.declared.operations.IoOp.{IoOp}
-use Rattle.ec_lower_code.specs.Code.{operand_temp, port_operator, Branch, where_zero, where_not}
+use Rattle.ec_lower_code.specs.Code.{operand_temp, port_operator, read_from, write_to, Branch, where_zero, where_not}
 use Rattle.ec_lower_code.proofs.PortOperators.{operator_bitwise}
 
 pub simple_pays : (a b : ℕ) → 5 * a ≤ 30 + 10 * max a b
@@ -78,6 +79,17 @@ update_words_are op b =
 pub index_pays : (index : OptionPlainExpr) (t : ℕ) → index_words (operand_temp index t) ≤ 40
 index_pays no_expr t = omega arith
 index_pays (an_expr e) t = omega arith
+
+-- an access of a port, whose address counts from a cell or does not
+pub read_pays : (dynamic : Option ℕ) (to : Temp) (address : ℕ) (index : OptionPlainExpr) (t width : ℕ)
+    → op_words (read_from dynamic to address (operand_temp index t) width) ≤ 40 + 10 * width + 5 * to.bytes
+read_pays None to address index t width = let i = index_pays index t in omega (arith, i)
+read_pays (Some d) to address index t width = omega arith
+
+pub write_pays : (dynamic : Option ℕ) (from : Temp) (address : ℕ) (index : OptionPlainExpr) (t width : ℕ)
+    → op_words (write_to dynamic from address (operand_temp index t) width) ≤ 40 + 10 * width + 5 * from.bytes
+write_pays None from address index t width = let i = index_pays index t in omega (arith, i)
+write_pays (Some d) from address index t width = omega arith
 
 -- the bytes of the values of a port operation
 pub port_bytes : (long : Bool) → scalar_size (if long then unsigned_long else unsigned_int) ≤ 4

@@ -10,6 +10,7 @@ use Rattle.std.proofs.lemmas.Nat.{or_lt, xor_lt, and_le_l}
 use Rattle.ec_fx.specs.declared.numbers.Mode.{Mode}
 use Rattle.ec_fx.specs.Ranges.{IsWithin}
 use Rattle.ec_iohw.specs.declared.operations.IoOp.{IoOp}
+use Rattle.ec_iohw.specs.declared.table.Choice.{Choice}
 use Rattle.ec_iohw.specs.declared.table.Pair.{Pair}
 use Rattle.ec_core.specs.declared.values.Undefined.{Undefined}
 use Rattle.ec_core.specs.declared.values.Undefined.TheVariants.{BufferIndex}
@@ -23,57 +24,55 @@ use Rattle.ec_core.specs.Plain.{PlainType, void, OptionPlainExpr, no_expr, an_ex
 use Rattle.ec_core.specs.PortAccesses.{next_byte, byte_read, bytes_read, number_read, bytes_written, updated, no_value, unsigned}
 use Rattle.ec_core.specs.PortAccesses.{port_accessed, pairs_written}
 use Rattle.ec_core.specs.PortOperations.{PortAction, reads, writes, updates}
-use Rattle.ec_core.specs.PortTable.{PlainPort}
-use Rattle.ec_core.specs.State.{Inputs, Event, In, Out, reads_of, State, worked, with_event, Outcome, got, undefined, next}
+use Rattle.ec_core.specs.PortTable.{PlainPort, PlainTable}
+use Rattle.ec_core.specs.State.{Inputs, Event, In, Out, reads_of, GroupStates, State, worked, with_event, Outcome, got, undefined}
+use Rattle.ec_core.specs.State.{next}
 use Rattle.ec_core.specs.Typing.{unsigned_int, unsigned_long, type_of_expr, IsOperandIf, port_result}
 use Rattle.ec_core.specs.ValueTypes.{HasType, GiveBytes}
 use Rattle.ec_core.specs.Words.{port_words}
 use Rattle.ec_ir.specs.declared.operations.Temp.{Temp}
 use Rattle.ec_ir.specs.Costs.{op_words, op_steps, binary_words}
-use Rattle.ec_ir.specs.Meaning.{Mach, machine, number_in, held_number, element_of_port, port_read, port_written}
-use Rattle.ec_ir.specs.Operations.{PlainIr, binary_op, port_in, port_out}
+use Rattle.ec_ir.specs.Meaning.{Mach, machine, number_in, held_number, element_of_port, based, element_of_cell, port_read, port_written}
+use Rattle.ec_ir.specs.Operations.{PlainIr, binary_op}
 use Rattle.ec_ir.specs.Temporaries.{low_bytes, Temps, with_temp}
-use Rattle.ec_lower_code.specs.Code.{temp, operand_temp, port_operator, port_code, byte_type, pairs_code}
+use Rattle.ec_lower_code.specs.Code.{temp, operand_temp, port_operator, read_from, write_to, port_code, byte_type, pairs_code}
 use Rattle.ec_lower_code.specs.Correct.{IsBytePair}
 use Rattle.ec_lower_code.proofs.Ops.{to_rest, Below, HasValue, constant_runs, binary_over}
-use Rattle.ec_lower_code.proofs.Pays.{update_words_are, index_pays, port_bytes}
+use Rattle.ec_lower_code.proofs.Pays.{update_words_are, read_pays, write_pays, port_bytes}
 use Rattle.ec_lower_code.proofs.PortOperators.{by_operator}
-use Rattle.ec_lower_code.proofs.Shown.{held_of, Match}
+use Rattle.ec_lower_code.proofs.Shown.{held_of, bound_in, AreBased, Match}
 use Rattle.ec_lower_code.proofs.Tables.{IsOperated}
 use Rattle.ec_lower_code.proofs.Steps.{held_at, held_below, held_is, Spot, around, here, goes, Runs, stays, counts, after, ends}
-use Rattle.ec_lower_code.proofs.Steps.{spent_on, less}
+use Rattle.ec_lower_code.proofs.Steps.{spent_on, less, event_match}
 
 -- ---- the bytes of ports on both sides
 
-module _ (program : PlainProgram) (fs : List ℕ) where
-  event_match : (e : Event) (d : ℕ) (s : State) (temps : Temps) (t : State) → Match program fs d s (machine temps t)
-      → Match program fs d (with_event e s) (machine temps (with_event e t))
-  event_match e d s temps t h = record { objects = h.objects; events = ap (λ es. es ++ e ∷ []) h.events; spent = h.spent }
-
-  written_match : (width port low d : ℕ) (s : State) (temps : Temps) (t : State) → Match program fs d s (machine temps t)
-      → Match program fs d (bytes_written width port low s) (machine temps (bytes_written width port low t))
+module _ (program : PlainProgram) (table : PlainTable) (fs : List ℕ) where
+  written_match : (width port low d : ℕ) (s : State) (temps : Temps) (t : State) → Match program table fs d s (machine temps t)
+      → Match program table fs d (bytes_written width port low s) (machine temps (bytes_written width port low t))
   written_match zero port low d s temps t h = h
   written_match (suc n) port low d s temps t h =
-      event_match (Out port (low % 256)) d (bytes_written n (port + 1) (low / 256) s) temps (bytes_written n (port + 1) (low / 256) t)
+      event_match program table (Out port (low % 256)) d (bytes_written n (port + 1) (low / 256) s) temps
+      (bytes_written n (port + 1) (low / 256) t)
       (written_match n (port + 1) (low / 256) d s temps t h)
 
   module _ (inputs : Inputs) where
     -- the same number is read, and the same events come of it
     record Reads (width port d : ℕ) (s : State) (temps : Temps) (t : State) : Type 0 where
-      match : Match program fs d (bytes_read inputs width port s) (machine temps (bytes_read inputs width port t))
+      match : Match program table fs d (bytes_read inputs width port s) (machine temps (bytes_read inputs width port t))
       number : number_read inputs width port t ≡ number_read inputs width port s
 
-    byte_match : (port d : ℕ) (s : State) (temps : Temps) (t : State) → Match program fs d s (machine temps t)
-        → (next_byte inputs port t ≡ next_byte inputs port s) × Match program fs d (byte_read inputs port s)
+    byte_match : (port d : ℕ) (s : State) (temps : Temps) (t : State) → Match program table fs d s (machine temps t)
+        → (next_byte inputs port t ≡ next_byte inputs port s) × Match program table fs d (byte_read inputs port s)
         (machine temps (byte_read inputs port t))
     byte_match port d s temps t h =
         let same : next_byte inputs port t ≡ next_byte inputs port s = ap (λ es. slice_index (inputs port) (reads_of port es)) h.events in (
           same,
-          subst (λ (b : ℕ). Match program fs d (byte_read inputs port s) (machine temps (with_event (In port b) t))) (sym same)
-              (event_match (In port (next_byte inputs port s)) d s temps t h),
+          subst (λ (b : ℕ). Match program table fs d (byte_read inputs port s) (machine temps (with_event (In port b) t))) (sym same)
+              (event_match program table (In port (next_byte inputs port s)) d s temps t h),
         )
 
-    reads_match : (width port d : ℕ) (s : State) (temps : Temps) (t : State) → Match program fs d s (machine temps t)
+    reads_match : (width port d : ℕ) (s : State) (temps : Temps) (t : State) → Match program table fs d s (machine temps t)
         → Reads width port d s temps t
     reads_match zero port d s temps t h = record { match = h; number = refl }
     reads_match (suc n) port d s temps t h =
@@ -92,6 +91,11 @@ number_below inputs bytes (suc n) port s =
     let r = number_below inputs bytes n (port + 1) (byte_read inputs port s) in
     let p : 256 ^ suc n ≡ 256 ^ n * 256 = pow-suc 256 n in
     omega (arith, b, r, p)
+
+-- a read changes no groups
+read_groups : (inputs : Inputs) (n port : ℕ) (s : State) → (bytes_read inputs n port s).groups ≡ s.groups
+read_groups inputs zero port s = refl
+read_groups inputs (suc n) port s = read_groups inputs n (port + 1) (byte_read inputs port s)
 
 -- ---- unsigned values
 
@@ -121,7 +125,7 @@ unsigned_value program true (Pointer p) h = absurd h
 unsigned_value program false (Number n) h = within_16 n h.1
 unsigned_value program false (Pointer p) h = absurd h
 
-low_of : (b m : ℕ) → m < 256 ^ b → low_bytes b (pos m) ≡ m
+pub low_of : (b m : ℕ) → m < 256 ^ b → low_bytes b (pos m) ≡ m
 low_of b m lt = mod-eq_of_lt lt
 
 -- ---- updates
@@ -134,7 +138,7 @@ updated_below op false m n h k = by_operator (λ o f. f m n < 256 ^ 2) (let le =
     (xor_lt 16 m n h k) op
 
 -- numbers that the type holds are their own bits
-bits_same : (b : ℕ) (f : ℕ → ℕ → ℕ) (m n : ℕ) → m < 2 ^ (8 * b) → n < 2 ^ (8 * b)
+pub bits_same : (b : ℕ) (f : ℕ → ℕ → ℕ) (m n : ℕ) → m < 2 ^ (8 * b) → n < 2 ^ (8 * b)
     → f (low_bits (record { signed = false; bytes = b }) (pos m)) (low_bits (record { signed = false; bytes = b }) (pos n)) ≡ f m n
 bits_same b f m n h k =
     ap (λ x. f x (low_bits (record { signed = false; bytes = b }) (pos n))) (mod-eq_of_lt h) ∙ ap (f m) (mod-eq_of_lt k)
@@ -190,7 +194,7 @@ module _ (w : Spot) where
       )
 
   -- a number is read as it was written
-  number_held : (ty : PlainType) (q m : ℕ) (temps : Temps) (t : State) → temps q ≡ Some (held_of ty (Number (pos m)))
+  pub number_held : (ty : PlainType) (q m : ℕ) (temps : Temps) (t : State) → temps q ≡ Some (held_of ty (Number (pos m)))
       → m < 256 ^ scalar_size ty → held_number (temp q ty) temps t ≡ got m t
   number_held ty q m temps t e lt =
       ap (λ z. next z number_in) (held_is ty q (Number (pos m)) temps t e) ∙ ap (λ (k : ℕ). got k t) (low_of (scalar_size ty) m lt)
@@ -208,72 +212,122 @@ module _ (w : Spot) where
       ∙ ap (λ z. next z (λ i s1. got (port + i * width) s1)) (number_held unsigned_int t (unsigned v) temps s x.0 x.1)
   element_is program false (an_expr e) v t temps port width h held s = absurd h
 
+  -- ---- the address of a port
+
+  -- the address of a port as it stands, which operations have as it is, or behind what the cell of its dynamic group
+  -- holds
+  abbrev pub IsAddress : (dynamic : Option ℕ) → GroupStates → (offset address : ℕ) → Type 0
+  IsAddress None x offset address = address ≡ offset
+  IsAddress (Some d) x offset address = (c : Choice) × (bound_in w.table x d ≡ Some c) × (address ≡ c.base + offset)
+
+  abbrev element_from : (dynamic : Option ℕ) → (offset width : ℕ) → Option Temp → Mach → Outcome ℕ
+  element_from None offset width index m = element_of_port offset width index m
+  element_from (Some d) offset width index m = element_of_cell d offset width index m
+
+  -- it is the element there
+  element_same : (dynamic : Option ℕ) (x : GroupStates) (offset address width : ℕ) (index : Option Temp) (temps : Temps) (a : ℕ) (t : State)
+      → IsAddress dynamic x offset address → AreBased w.table x t.groups → ElementAt address width index temps a
+      → element_from dynamic offset width index (machine temps t) ≡ got a t
+  element_same None x offset address width index temps a t e h el =
+      ap (λ z. element_of_port z width index (machine temps t)) (sym e) ∙ el t
+  element_same (Some d) x offset address width index temps a t e h el =
+      ap (λ z. next (based z t) (λ base s. element_of_port (base + offset) width index (machine temps s))) (h.bases d e.0 e.1)
+      ∙ ap (λ z. element_of_port z width index (machine temps t)) (sym e.2) ∙ el t
+
   -- ---- a read
 
-  module _ (bytes : GiveBytes w.inputs) where
-    in_step : (t : ℕ) (ty : PlainType) (port width : ℕ) (index : Option Temp) (a : ℕ) (u : Mach) (rest : List PlainIr)
-        → ElementAt port width index u.temps a → a + width ≤ 256
-        → (k : ℕ) → let t1 = worked (op_steps (port_in (temp t ty) port index width)) u.state in
-        goes w (suc k) (port_in (temp t ty) port index width ∷ rest) u ≡ goes w k rest
-        (machine (with_temp (temp t ty) (Number (pos (number_read w.inputs width a t1))) u.temps) (bytes_read w.inputs width a t1))
-    in_step t ty port width index a u rest e le k =
-        let t1 = worked (op_steps (port_in (temp t ty) port index width)) u.state in
-        ap (λ z. next z (λ a1 s1. next (port_read w.inputs a1 width s1)
-        (λ v s2. goes w k rest (machine (with_temp (temp t ty) v u.temps) s2)))) (e t1)
-        ∙ ap (λ c. next (if c then got (Number (pos (number_read w.inputs width a t1))) (bytes_read w.inputs width a t1) else undefined
-        BufferIndex t1) (λ v s2. goes w k rest (machine (with_temp (temp t ty) v u.temps) s2))) (le-leb (a + width) 256 le)
+  in_goes : (width a : ℕ) (o : Outcome ℕ) (t1 : State) (go : Value → State → Outcome Value) → o ≡ got a t1 → a + width ≤ 256
+      → next o (λ a1 s1. next (port_read w.inputs a1 width s1) go)
+      ≡ go (Number (pos (number_read w.inputs width a t1))) (bytes_read w.inputs width a t1)
+  in_goes width a o t1 go e le =
+      ap (λ z. next z (λ a1 s1. next (port_read w.inputs a1 width s1) go)) e
+      ∙ ap (λ c. next (if c then got (Number (pos (number_read w.inputs width a t1))) (bytes_read w.inputs width a t1) else undefined
+      BufferIndex t1) go) (le-leb (a + width) 256 le)
 
-    pub in_runs : (n t d e : ℕ) (b : Temps) (ty : PlainType) (port width : ℕ) (index : Option Temp) (a : ℕ) (s : State) (u : Mach)
-        (rest : List PlainIr) → ElementAt port width index u.temps a → a + width ≤ 256
-        → op_words (port_in (temp t ty) port index width) + d ≤ e → Match w.program (around w) e s u → Below w t b u
-        → Runs w n (port_in (temp t ty) port index width ∷ rest) u (to_rest w rest) (HasValue w ty t d b)
-        (got (Number (pos (number_read w.inputs width a s))) (bytes_read w.inputs width a s))
-    in_runs n t d e b ty port width index a s u rest el le pays h same =
-        let i = port_in (temp t ty) port index width in
-        let t1 : State = worked (op_steps i) u.state in
-        let held = with_temp (temp t ty) (Number (pos (number_read w.inputs width a t1))) u.temps in
-        let r = reads_match w.program (around w) w.inputs width a d s held t1 (spent_on w.program e d i held s u pays h) in
-        ends w (to_rest w rest) (HasValue w ty t d b) n (here w (i ∷ rest)) (here w rest) u
-        (machine held (bytes_read w.inputs width a t1)) (Number (pos (number_read w.inputs width a s)))
-        (bytes_read w.inputs width a s) refl
-        (counts w (i ∷ rest) (here w rest) u (machine held (bytes_read w.inputs width a t1)) (in_step t ty port width index a u rest el le))
-        (record {
-          match = r.match;
-          value = λ z. held_at t (held_of ty (Number (pos (number_read w.inputs width a t1)))) u.temps ∙ ap
-              (λ (m : ℕ). Some (held_of ty (Number (pos m)))) r.number;
-          same = λ j lt. held_below t (held_of ty (Number (pos (number_read w.inputs width a t1)))) u.temps j lt ∙ same j lt;
-        })
+  in_step : (dynamic : Option ℕ) (t : ℕ) (ty : PlainType) (offset width : ℕ) (index : Option Temp) (a : ℕ) (u : Mach)
+      (rest : List PlainIr) → a + width ≤ 256
+      → let t1 = worked (op_steps (read_from dynamic (temp t ty) offset index width)) u.state in
+      element_from dynamic offset width index (machine u.temps t1) ≡ got a t1
+      → (k : ℕ) → goes w (suc k) (read_from dynamic (temp t ty) offset index width ∷ rest) u ≡ goes w k rest
+      (machine (with_temp (temp t ty) (Number (pos (number_read w.inputs width a t1))) u.temps) (bytes_read w.inputs width a t1))
+  in_step None t ty offset width index a u rest le e k =
+      let t1 = worked (op_steps (read_from None (temp t ty) offset index width)) u.state in
+      in_goes width a (element_from None offset width index (machine u.temps t1)) t1
+      (λ v s2. goes w k rest (machine (with_temp (temp t ty) v u.temps) s2)) e le
+  in_step (Some d) t ty offset width index a u rest le e k =
+      let t1 = worked (op_steps (read_from (Some d) (temp t ty) offset index width)) u.state in
+      in_goes width a (element_from (Some d) offset width index (machine u.temps t1)) t1
+      (λ v s2. goes w k rest (machine (with_temp (temp t ty) v u.temps) s2)) e le
+
+  pub in_runs : (n t d e : ℕ) (b : Temps) (ty : PlainType) (dynamic : Option ℕ) (offset address width : ℕ) (index : Option Temp) (a : ℕ)
+      (s : State) (u : Mach) (rest : List PlainIr)
+      → IsAddress dynamic s.groups offset address → ElementAt address width index u.temps a → a + width ≤ 256
+      → op_words (read_from dynamic (temp t ty) offset index width) + d ≤ e → Match w.program w.table (around w) e s u → Below w t b u
+      → Runs w n (read_from dynamic (temp t ty) offset index width ∷ rest) u (to_rest w rest) (HasValue w ty t d b)
+      (got (Number (pos (number_read w.inputs width a s))) (bytes_read w.inputs width a s))
+  in_runs n t d e b ty dynamic offset address width index a s u rest is el le pays h same =
+      let i = read_from dynamic (temp t ty) offset index width in
+      let t1 : State = worked (op_steps i) u.state in
+      let held = with_temp (temp t ty) (Number (pos (number_read w.inputs width a t1))) u.temps in
+      let r = reads_match w.program w.table (around w) w.inputs width a d s held t1 (spent_on w.program w.table e d i held s u pays h) in
+      ends w (to_rest w rest) (HasValue w ty t d b) n (here w (i ∷ rest)) (here w rest) u
+      (machine held (bytes_read w.inputs width a t1)) (Number (pos (number_read w.inputs width a s)))
+      (bytes_read w.inputs width a s) refl
+      (counts w (i ∷ rest) (here w rest) u (machine held (bytes_read w.inputs width a t1))
+      (in_step dynamic t ty offset width index a u rest le
+      (element_same dynamic s.groups offset address width index u.temps a t1 is h.cells el)))
+      (record {
+        match = r.match;
+        value = λ z. held_at t (held_of ty (Number (pos (number_read w.inputs width a t1)))) u.temps ∙ ap
+            (λ (m : ℕ). Some (held_of ty (Number (pos m)))) r.number;
+        same = λ j lt. held_below t (held_of ty (Number (pos (number_read w.inputs width a t1)))) u.temps j lt ∙ same j lt;
+      })
 
   -- ---- a write
 
-  out_step : (q : ℕ) (ty : PlainType) (port width : ℕ) (index : Option Temp) (a low : ℕ) (u : Mach) (rest : List PlainIr)
-      → ElementAt port width index u.temps a → a + width ≤ 256
-      → u.temps q ≡ Some (held_of ty (Number (pos low))) → low < 256 ^ scalar_size ty
-      → (k : ℕ) → goes w (suc k) (port_out (temp q ty) port index width ∷ rest) u ≡ goes w k rest
-      (machine u.temps (bytes_written width a low (worked (op_steps (port_out (temp q ty) port index width)) u.state)))
-  out_step q ty port width index a low u rest e le held lt k =
-      let t1 = worked (op_steps (port_out (temp q ty) port index width)) u.state in
-      ap (λ z. next z (λ a1 s1. next (held_number (temp q ty) u.temps s1)
-      (λ x s2. next (port_written a1 width x s2) (λ v s3. goes w k rest (machine u.temps s3))))) (e t1)
-      ∙ ap (λ z. next z (λ x s2. next (port_written a width x s2) (λ v s3. goes w k rest (machine u.temps s3))))
-      (number_held ty q low u.temps t1 held lt)
+  out_goes : (q : ℕ) (ty : PlainType) (width a low : ℕ) (temps : Temps) (o : Outcome ℕ) (t1 : State) (go : State → Outcome Value)
+      → o ≡ got a t1 → a + width ≤ 256 → temps q ≡ Some (held_of ty (Number (pos low))) → low < 256 ^ scalar_size ty
+      → next o (λ a1 s1. next (held_number (temp q ty) temps s1) (λ x s2. next (port_written a1 width x s2) (λ v s3. go s3)))
+      ≡ go (bytes_written width a low t1)
+  out_goes q ty width a low temps o t1 go e le held lt =
+      ap (λ z. next z (λ a1 s1. next (held_number (temp q ty) temps s1)
+      (λ x s2. next (port_written a1 width x s2) (λ v s3. go s3)))) e
+      ∙ ap (λ z. next z (λ x s2. next (port_written a width x s2) (λ v s3. go s3)))
+      (number_held ty q low temps t1 held lt)
       ∙ ap (λ c. next (if c then got (Number (pos low)) (bytes_written width a low t1) else undefined BufferIndex t1)
-      (λ v s3. goes w k rest (machine u.temps s3))) (le-leb (a + width) 256 le)
+      (λ v s3. go s3)) (le-leb (a + width) 256 le)
 
-  pub out_runs : (n q t d e : ℕ) (b : Temps) (ty : PlainType) (port width : ℕ) (index : Option Temp) (a low : ℕ) (s : State) (u : Mach)
-      (rest : List PlainIr) → ElementAt port width index u.temps a → a + width ≤ 256
+  out_step : (dynamic : Option ℕ) (q : ℕ) (ty : PlainType) (offset width : ℕ) (index : Option Temp) (a low : ℕ) (u : Mach)
+      (rest : List PlainIr) → a + width ≤ 256 → u.temps q ≡ Some (held_of ty (Number (pos low))) → low < 256 ^ scalar_size ty
+      → let t1 = worked (op_steps (write_to dynamic (temp q ty) offset index width)) u.state in
+      element_from dynamic offset width index (machine u.temps t1) ≡ got a t1
+      → (k : ℕ) → goes w (suc k) (write_to dynamic (temp q ty) offset index width ∷ rest) u ≡ goes w k rest
+      (machine u.temps (bytes_written width a low t1))
+  out_step None q ty offset width index a low u rest le held lt e k =
+      let t1 = worked (op_steps (write_to None (temp q ty) offset index width)) u.state in
+      out_goes q ty width a low u.temps (element_from None offset width index (machine u.temps t1)) t1
+      (λ s3. goes w k rest (machine u.temps s3)) e le held lt
+  out_step (Some d) q ty offset width index a low u rest le held lt e k =
+      let t1 = worked (op_steps (write_to (Some d) (temp q ty) offset index width)) u.state in
+      out_goes q ty width a low u.temps (element_from (Some d) offset width index (machine u.temps t1)) t1
+      (λ s3. goes w k rest (machine u.temps s3)) e le held lt
+
+  pub out_runs : (n q t d e : ℕ) (b : Temps) (ty : PlainType) (dynamic : Option ℕ) (offset address width : ℕ) (index : Option Temp)
+      (a low : ℕ) (s : State) (u : Mach) (rest : List PlainIr)
+      → IsAddress dynamic s.groups offset address → ElementAt address width index u.temps a → a + width ≤ 256
       → u.temps q ≡ Some (held_of ty (Number (pos low))) → low < 256 ^ scalar_size ty
-      → op_words (port_out (temp q ty) port index width) + d ≤ e → Match w.program (around w) e s u → Below w t b u
-      → Runs w n (port_out (temp q ty) port index width ∷ rest) u (to_rest w rest) (HasValue w void t d b)
+      → op_words (write_to dynamic (temp q ty) offset index width) + d ≤ e → Match w.program w.table (around w) e s u → Below w t b u
+      → Runs w n (write_to dynamic (temp q ty) offset index width ∷ rest) u (to_rest w rest) (HasValue w void t d b)
       (got no_value (bytes_written width a low s))
-  out_runs n q t d e b ty port width index a low s u rest el le held lt pays h same =
-      let i = port_out (temp q ty) port index width in
+  out_runs n q t d e b ty dynamic offset address width index a low s u rest is el le held lt pays h same =
+      let i = write_to dynamic (temp q ty) offset index width in
       let t1 : State = worked (op_steps i) u.state in
       let u1 : Mach = machine u.temps (bytes_written width a low t1) in
       ends w (to_rest w rest) (HasValue w void t d b) n (here w (i ∷ rest)) (here w rest) u u1 no_value (bytes_written width a low s) refl
-      (counts w (i ∷ rest) (here w rest) u u1 (out_step q ty port width index a low u rest el le held lt))
+      (counts w (i ∷ rest) (here w rest) u u1 (out_step dynamic q ty offset width index a low u rest le held lt
+      (element_same dynamic s.groups offset address width index u.temps a t1 is h.cells el)))
       (record {
-        match = written_match w.program (around w) width a low d s u.temps t1 (spent_on w.program e d i u.temps s u pays h);
+        match = written_match w.program w.table (around w) width a low d s u.temps t1 (spent_on w.program w.table e d i u.temps s u pays h);
         value = λ z.
             absurd z;
         same = same;
@@ -282,25 +336,30 @@ module _ (w : Spot) where
   -- ---- the pairs of a group
 
   pub pairs_run : (n t d : ℕ) (b : Temps) (ps : List Pair) (s : State) (u : Mach) (rest : List PlainIr) → AllByRecursion IsBytePair ps
-      → Match w.program (around w) (d + 10 * length ps) s u → Below w t b u
+      → Match w.program w.table (around w) (d + 10 * length ps) s u → Below w t b u
       → Runs w n (pairs_code ps t rest) u (to_rest w rest) (HasValue w void t d b) (got no_value (pairs_written ps s))
-  pairs_run n t d b [] s u rest h m same =
-      (u, record { match = less w.program (d + 10 * 0) d s u (omega arith) m; value = λ z. absurd z; same = same }, stays w (here w rest) u)
+  pairs_run n t d b [] s u rest h m same = (
+    u,
+    record { match = less w.program w.table (d + 10 * 0) d s u (omega arith) m; value = λ z. absurd z; same = same },
+    stays w (here
+        w rest) u,
+  )
   pairs_run n t d b (p ∷ ps) s u rest h m same =
       let after_pair = pairs_code ps t rest in
-      let out : PlainIr = port_out (temp t byte_type) p.port None 1 in
+      let out : PlainIr = write_to None (temp t byte_type) p.port None 1 in
       let e = d + 10 * length ps in
       let lt = h.0.0 in
       let small : p.byte < 256 ^ 1 = h.0.1 in
       let x = constant_runs w n t (e + 5) (d + 10 * suc (length ps)) b byte_type (pos p.byte) s u (out ∷ after_pair) (omega arith) m same in
-      let y = out_runs n t t e (e + 5) b byte_type p.port 1 None p.port p.byte s x.0 after_pair (λ s1. refl) (omega (arith, lt))
+      let y = out_runs n t t e (e + 5) b byte_type None p.port p.port 1 None p.port p.byte s x.0 after_pair refl (λ s1. refl)
+      (omega (arith, lt))
       (x.1.value (inl refl)) small (omega arith) x.1.match x.1.same in
       after w (to_rest w rest) (HasValue w void t d b) n (here w (pairs_code (p ∷ ps) t rest)) (here w (out ∷ after_pair)) u x.0
       (got no_value (pairs_written (p ∷ ps) s)) x.2
       (after w (to_rest w rest) (HasValue w void t d b) n (here w (out ∷ after_pair)) (here w after_pair) x.0 y.0
       (got no_value (pairs_written (p ∷ ps) s)) y.2
       (pairs_run n t d b ps (with_event (Out p.port p.byte) s) y.0 rest h.1
-      (subst (λ (z : ℕ). Match w.program (around w) e (with_event (Out p.port z) s) y.0) (mod-eq_of_lt small) y.1.match) y.1.same))
+      (subst (λ (z : ℕ). Match w.program w.table (around w) e (with_event (Out p.port z) s) y.0) (mod-eq_of_lt small) y.1.match) y.1.same))
 
   -- ---- an operation on a port, from its operands on
 
@@ -314,40 +373,43 @@ module _ (w : Spot) where
         (low < 256 ^ scalar_size (value_type long))
 
     pub port_runs : (action : PortAction) (n t v d : ℕ) (b : Temps) (op : IoOp) (long indexed : Bool) (mode : Mode) (port : PlainPort)
-        (index : OptionPlainExpr) (x : Value) (low : ℕ) (s : State) (u : Mach) (rest : List PlainIr)
+        (address : ℕ) (index : OptionPlainExpr) (x : Value) (low : ℕ) (s : State) (u : Mach) (rest : List PlainIr)
+        → IsAddress port.dynamic s.groups port.address address
         → IsOperandIf indexed unsigned_int index → IsHeld program index x t u.temps → HasValueAt action long low v u.temps → t ≤ v
-        → port.address + unsigned x * port.width + port.width ≤ 256 → IsOperated long port
-        → Match w.program (around w) (d + port_words action port.width) s u → Below w t b u
+        → address + unsigned x * port.width + port.width ≤ 256 → IsOperated w.table long port
+        → Match w.program w.table (around w) (d + port_words action port.width) s u → Below w t b u
         → Runs w n (port_code action (port_operator op) (value_type long) mode port (operand_temp index t) t v rest) u (to_rest w rest)
         (HasValue w (port_result action (value_type long)) t d b)
-        (port_accessed w.inputs action op port.width (port.address + unsigned x * port.width) low s)
-    port_runs reads n t v d b op long indexed mode port index x low s u rest oi hx hv tv le operated m same =
-        let i = index_pays index t in let c = port_bytes long in
-        in_runs bytes n t d (d + port_words reads port.width) b (value_type long) port.address port.width (operand_temp index t)
-        (port.address + unsigned x * port.width) s u rest
-        (element_is program indexed index x t u.temps port.address port.width oi hx) le (omega (arith, i, c)) m same
-    port_runs writes n t v d b op long indexed mode port index x low s u rest oi hx hv tv le operated m same =
-        let i = index_pays index t in
-        out_runs n v t d (d + port_words writes port.width) b (value_type long) port.address port.width (operand_temp index t)
-        (port.address + unsigned x * port.width) low s u rest
-        (element_is program indexed index x t u.temps port.address port.width oi hx) le hv.0 hv.1 (omega (arith, i)) m same
-    port_runs updates n t v d b op long indexed mode port index x low s u rest oi hx hv tv le operated m same =
+        (port_accessed w.inputs action op port.width (address + unsigned x * port.width) low s)
+    port_runs reads n t v d b op long indexed mode port address index x low s u rest is oi hx hv tv le operated m same =
+        let i = read_pays port.dynamic (temp t (value_type long)) port.address index t port.width in let c = port_bytes long in
+        in_runs n t d (d + port_words reads port.width) b (value_type long) port.dynamic port.address address port.width
+        (operand_temp index t) (address + unsigned x * port.width) s u rest is
+        (element_is program indexed index x t u.temps address port.width oi hx) le (omega (arith, i, c)) m same
+    port_runs writes n t v d b op long indexed mode port address index x low s u rest is oi hx hv tv le operated m same =
+        let i = write_pays port.dynamic (temp v (value_type long)) port.address index t port.width in let c = port_bytes long in
+        out_runs n v t d (d + port_words writes port.width) b (value_type long) port.dynamic port.address address port.width
+        (operand_temp index t) (address + unsigned x * port.width) low s u rest is
+        (element_is program indexed index x t u.temps address port.width oi hx) le hv.0 hv.1 (omega (arith, i, c)) m same
+    port_runs updates n t v d b op long indexed mode port address index x low s u rest is oi hx hv tv le operated m same =
         let ty = value_type long in
-        let a = port.address + unsigned x * port.width in
+        let a = address + unsigned x * port.width in
         let idx = operand_temp index t in
-        let out_code : List PlainIr = port_out (temp (v + 1) ty) port.address idx port.width ∷ rest in
+        let out_code : List PlainIr = write_to port.dynamic (temp (v + 1) ty) port.address idx port.width ∷ rest in
         let op_code : List PlainIr = binary_op (port_operator op) ty mode (temp (v + 1) ty) (temp (v + 1) ty) ty (temp v ty) ty ∷ out_code
         in
-        let in_code : List PlainIr = port_in (temp (v + 1) ty) port.address idx port.width ∷ op_code in
+        let in_code : List PlainIr = read_from port.dynamic (temp (v + 1) ty) port.address idx port.width ∷ op_code in
         let s1 = bytes_read w.inputs port.width a s in
         let old = number_read w.inputs port.width a s in
         let z : Outcome Value = got no_value (bytes_written port.width a (updated op old low) s1) in
         let small = old_below long port.width a s operated.width operated.four in
-        let d2 = d + (40 + 5 * port.width) in
+        let d2 = d + (60 + 10 * port.width) in
         let d1 = d2 + binary_words (port_operator op) ty ty ty in
-        let i = index_pays index t in let c = port_bytes long in let k = operator_words op long in
-        let y = in_runs bytes n (v + 1) d1 (d + port_words updates port.width) u.temps ty port.address port.width idx a s u op_code
-        (element_is program indexed index x t u.temps port.address port.width oi hx) le (omega (arith, i, c, k)) m (λ j lt. refl) in
+        let i = read_pays port.dynamic (temp (v + 1) ty) port.address index t port.width in
+        let o = write_pays port.dynamic (temp (v + 1) ty) port.address index t port.width in
+        let c = port_bytes long in let k = operator_words op long in
+        let y = in_runs n (v + 1) d1 (d + port_words updates port.width) u.temps ty port.dynamic port.address address port.width idx a s u
+        op_code is (element_is program indexed index x t u.temps address port.width oi hx) le (omega (arith, i, c, k)) m (λ j lt. refl) in
         let q = binary_over w n v d2 d1 (port_operator op) ty mode ty ty (Number (pos old)) (Number (pos low))
         (Number (pos (updated op old low))) s1 y.0 out_code (value_scalar long) (number_typed long old small) (value_scalar long)
         (number_typed long low hv.1) (omega arith)
@@ -356,10 +418,12 @@ module _ (w : Spot) where
         let kept : (j : ℕ) → j < v + 1 → q.0.temps j ≡ u.temps j = λ j lt. q.1.same j lt ∙ y.1.same j lt in
         after w (to_rest w rest) (HasValue w void t d b) n (here w in_code) (here w op_code) u y.0 z y.2
         (after w (to_rest w rest) (HasValue w void t d b) n (here w op_code) (here w out_code) y.0 q.0 z q.2
-        (out_runs n (v + 1) t d d2 b ty port.address port.width idx a (updated op old low) s1 q.0 rest
-        (element_is program indexed index x t q.0.temps port.address port.width oi
+        (out_runs n (v + 1) t d d2 b ty port.dynamic port.address address port.width idx a (updated op old low) s1 q.0 rest
+        (subst (λ (z : GroupStates). IsAddress port.dynamic z port.address address)
+        (sym (read_groups w.inputs port.width a s)) is)
+        (element_is program indexed index x t q.0.temps address port.width oi
         (held_kept program index x t u.temps q.0.temps (kept t (omega (arith, tv))) hx)) le
-        (q.1.value (value_scalar long)) (updated_below op long old low small hv.1) (omega (arith, i)) q.1.match
+        (q.1.value (value_scalar long)) (updated_below op long old low small hv.1) (omega (arith, o, c)) q.1.match
         (λ j lt. kept j (omega (arith, lt, tv)) ∙ same j lt)))
       where
         old_below : (long : Bool) (width a : ℕ) (s : State) → ((width ≡ 1) ⊎ ((width ≡ 2) ⊎ (width ≡ 4))) → (width ≡ 4 → IsTrue long)

@@ -11,25 +11,28 @@ use Rattle.ec_core.specs.Needs.{kind_calls, option_stmt_calls, stmts_calls}
 use Rattle.ec_core.specs.Operators.{step_operator}
 use Rattle.ec_core.specs.PortAccesses.{pairs_of}
 use Rattle.ec_core.specs.PortOperations.{PortAction, reads, writes, updates, port_operation}
-use Rattle.ec_core.specs.PortTable.{PlainPort, PlainGroup, PlainTable}
+use Rattle.ec_core.specs.PortTable.{PlainPort, PlainGroup, PlainTable, choices_of}
 use Rattle.ec_iohw.specs.declared.operations.IoOp.{IoOp}
+use Rattle.ec_iohw.specs.declared.table.Choice.{Choice}
 use Rattle.ec_iohw.specs.declared.table.Pair.{Pair}
 use Rattle.ec_ir.specs.declared.operations.Temp.{Temp}
 use Rattle.ec_core.specs.Typing.{int, type_of_expr, port_value}
 use Rattle.ec_core.specs.Plain.{PlainType, void, integer, fixed, pointer, array, struct, PlainExpr, expression, PlainNode}
 use Rattle.ec_core.specs.Plain.{number, null, load, address_of, unary, binary, convert, assign, compound, step, logical_not}
-use Rattle.ec_core.specs.Plain.{logical_and, logical_or, conditional, comma, call, io, group, PlainPlace, object, deref, member}
+use Rattle.ec_core.specs.Plain.{logical_and, logical_or, conditional, comma, call, io, group, bind, dynamic_group}
+use Rattle.ec_core.specs.Plain.{PlainPlace, object, deref, member}
 use Rattle.ec_core.specs.Plain.{OptionPlainExpr, no_expr, an_expr, PlainExprs, last_expr, next_expr, PlainStmt, statement}
 use Rattle.ec_core.specs.Plain.{PlainKind, empty, evaluate, block, declare, branch, while_loop, do_loop, for_loop, break_loop}
 use Rattle.ec_core.specs.Plain.{continue_loop, return_value, OptionPlainStmt, no_stmt, a_stmt, PlainStmts, last_stmt, next_stmt}
 use Rattle.ec_core.specs.Plain.{PlainFunction, PlainProgram}
 use Rattle.ec_core.specs.Valid.{Reaches, calls, calls_through}
-use Rattle.ec_ir.specs.Operations.{PlainIr, constant, PlainIrFunction}
+use Rattle.ec_ir.specs.Operations.{PlainIr, constant, label, PlainIrFunction}
 use Rattle.ec_ir.specs.Valid.{called_in, CallsTo, calls as calls_at, calls_through as calls_by}
 use Rattle.ec_lower_code.specs.Code.{temp, place_labels, Site, named, pointed, further_code, load_from, store_to, value_place}
 use Rattle.ec_lower_code.specs.Code.{settled_code, address_code, change_code, postfix_code, step_code, offset_of, site}
 use Rattle.ec_lower_code.specs.Code.{place_code, params_of, params_code, port_operator, port_code, place_behind, operand_temp}
-use Rattle.ec_lower_code.specs.Code.{access_code, pairs_code, group_code, option_code, expr_code, node_code, args_code}
+use Rattle.ec_lower_code.specs.Code.{read_from, write_to, access_code, pairs_code, group_code, bind_code, choices_code}
+use Rattle.ec_lower_code.specs.Code.{option_code, expr_code, node_code, args_code}
 use Rattle.ec_lower_code.specs.Code.{init_code, test_code, last_code, leaves_of_object, stmt_code, kind_code, option_stmt_code}
 use Rattle.ec_lower_code.specs.Code.{stmts_code, body_returns, end_of, function_code, lowered_function, lowered}
 use Rattle.ec_lower_code.specs.Code.{stepping_code, unread_code}
@@ -152,6 +155,8 @@ mutual
   node_more (call f args) cs g h = inr (exprs_more args cs g h)
   node_more (io op port i v) cs g h = option_more i (option_calls v cs) g (option_more v cs g h)
   node_more (group acquire k) cs g h = h
+  node_more (bind d choice) cs g h = h
+  node_more (dynamic_group acquire d) cs g h = h
 
   place_more : (p : PlainPlace) (cs : List ℕ) (g : ℕ) → In cs g → In (place_calls p cs) g
   place_more (object o) cs g h = h
@@ -206,12 +211,23 @@ behind_two a b cs ds g first second =
 
 -- ---- what the operations of a part call, the part or what follows it calls
 
+read_called : (dynamic : Option ℕ) (to : Temp) (offset : ℕ) (index : Option Temp) (width : ℕ) (rest : List PlainIr) (g : ℕ)
+    → In (called_in (read_from dynamic to offset index width ∷ rest)) g → In (called_in rest) g
+read_called None to offset index width rest g h = h
+read_called (Some d) to offset index width rest g h = h
+
+write_called : (dynamic : Option ℕ) (from : Temp) (offset : ℕ) (index : Option Temp) (width : ℕ) (rest : List PlainIr) (g : ℕ)
+    → In (called_in (write_to dynamic from offset index width ∷ rest)) g → In (called_in rest) g
+write_called None from offset index width rest g h = h
+write_called (Some d) from offset index width rest g h = h
+
 port_called : (action : PortAction) (op : BinOp) (ty : PlainType) (mode : Mode) (port : PlainPort) (index : Option Temp) (t v : ℕ)
     (rest : List PlainIr) (g : ℕ)
     → In (called_in (port_code action op ty mode port index t v rest)) g → In (called_in rest) g
-port_called reads op ty mode port index t v rest g h = h
-port_called writes op ty mode port index t v rest g h = h
-port_called updates op ty mode port index t v rest g h = h
+port_called reads op ty mode port index t v rest g h = read_called port.dynamic _ _ _ _ rest g h
+port_called writes op ty mode port index t v rest g h = write_called port.dynamic _ _ _ _ rest g h
+port_called updates op ty mode port index t v rest g h =
+    write_called port.dynamic _ _ _ _ rest g (read_called port.dynamic _ _ _ _ _ g h)
 
 access_called : (op : IoOp) (mode : Mode) (port : Option PlainPort) (index : OptionPlainExpr) (t : ℕ) (rest : List PlainIr) (g : ℕ)
     → In (called_in (access_code op mode port index t rest)) g → In (called_in rest) g
@@ -229,6 +245,19 @@ group_called : (acquire : Bool) (x : Option PlainGroup) (t : ℕ) (rest : List P
     → In (called_in (group_code acquire x t rest)) g → In (called_in rest) g
 group_called acquire None t rest g h = h
 group_called acquire (Some x) t rest g h = pairs_called (pairs_of acquire x) t rest g h
+
+bind_called : (d : ℕ) (c : Option Choice) (t : ℕ) (rest : List PlainIr) (g : ℕ) → In (called_in (bind_code d c t rest)) g
+    → In (called_in rest) g
+bind_called d None t rest g h = h
+bind_called d (Some c) t rest g h = h
+
+choices_called : (table : PlainTable) (acquire : Bool) (mode : Mode) (d : ℕ) (cs : List Choice) (l t : ℕ) (rest : List PlainIr) (g : ℕ)
+    → In (called_in (choices_code acquire table mode d cs l t rest)) g → In (called_in rest) g
+choices_called table acquire mode d [] l t rest g h = h
+choices_called table acquire mode d (c ∷ []) l t rest g h = group_called acquire (slice_get table.groups c.group) t rest g h
+choices_called table acquire mode d (c ∷ other ∷ cs) l t rest g h =
+    group_called acquire (slice_get table.groups c.group) t (label (l + 1) ∷ rest) g
+    (choices_called table acquire mode d (other ∷ cs) (l + 2) t _ g h)
 
 module _ (program : PlainProgram) (table : PlainTable) where
   mutual
@@ -282,6 +311,9 @@ module _ (program : PlainProgram) (table : PlainTable) where
         (λ y. either (operand_called v _ _ _ cs g y) (λ z. inl (option_more i (option_calls v cs) g z))
         (λ z. inr (access_called op mode (slice_get table.ports port) i t rest g z)))
     node_called ty mode (group acquire k) l t rest cs g h = inr (group_called acquire (slice_get table.groups k) t rest g h)
+    node_called ty mode (bind d choice) l t rest cs g h = inr (bind_called d (slice_get (choices_of table d) choice) t rest g h)
+    node_called ty mode (dynamic_group acquire d) l t rest cs g h =
+        inr (choices_called table acquire mode d (choices_of table d) l t rest g h)
 
     unread_called : (e : PlainExpr) (l t : ℕ) (rest : List PlainIr) (cs : List ℕ) (g : ℕ)
         → In (called_in (unread_code program table e l t rest)) g → In (expr_calls e cs) g ⊎ In (called_in rest) g
@@ -400,7 +432,8 @@ module _ (program : PlainProgram) (table : PlainTable) where
   pub function_called : (f : PlainFunction) (g : ℕ) → Contains (called_in (function_code program table f)) g
       → Contains (stmt_calls f.body []) g
   function_called f g h = in_contains (stmt_calls f.body []) g (either
-      (stmt_called f.body 1 0 0 _ [] g (contains_in (called_in (function_code program table f)) g h)) (λ x. x) (λ y. absurd (end_calls (body_returns f.body) g y)))
+      (stmt_called f.body 1 0 0 _ [] g (contains_in (called_in (function_code program table f)) g h)) (λ x. x) (λ y. absurd (end_calls
+      (body_returns f.body) g y)))
 
   -- so no function reaches itself
   found_function : (f : ℕ) (x : PlainIrFunction) → slice_get (lowered program table).functions f ≡ Some x

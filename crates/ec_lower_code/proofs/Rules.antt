@@ -32,6 +32,7 @@ use Rattle.ec_lower_code.proofs.Behind.{expr_behind, branch_behind, test_behind,
 use Rattle.ec_lower_code.proofs.Facts.{result_scalar, leaves_are}
 use Rattle.ec_lower_code.proofs.Labels.{function_counts}
 use Rattle.ec_lower_code.proofs.Reached.{reached_source}
+use Rattle.ec_lower_code.proofs.Tables.{HaveFewChoices, few_choices}
 use Rattle.ec_lower_code.proofs.Steps.{Stands, behind}
 use Rattle.ec_lower_code.proofs.Wellformed.{result_bytes, some_is, some_need, label_once, temp_ok, expr_ok, unread_ok}
 use Rattle.ec_lower_code.proofs.Wellformed.{branch_ok}
@@ -39,7 +40,9 @@ use Rattle.ec_lower_code.proofs.Wellformed.{branch_ok}
 module _ (program : PlainProgram) (table : IoTable) (valid : Valid program table) (pairs : GroupsHaveBytes table) (f : ℕ) (slots : ℕ)
     (all : List PlainIr) (once : (j : ℕ) → count j all ≤ 1) where
   abbrev Good : List PlainIr → Type 0
-  Good code = AllByRecursion (ValidOperation (lowered program (plain_table table)) (result_bytes program) f slots all) code
+  Good code =
+      AllByRecursion (ValidOperation (length table.dynamics.items) (lowered program (plain_table table)) (result_bytes program) f
+      slots all) code
 
   one : (l : ℕ) (rest : List PlainIr) → Stands all (label l ∷ rest) → count l all ≡ 1
   one l rest s = label_once program table valid pairs f slots all once l rest s
@@ -247,13 +250,17 @@ module _ (program : PlainProgram) (table : IoTable) (valid : Valid program table
 -- ---- functions and the program
 
 module _ (program : PlainProgram) (table : IoTable) (valid : Valid program table) (pairs : GroupsHaveBytes table) where
+  few : HaveFewChoices (plain_table table)
+  few = few_choices table valid.ports pairs
+
   function_ok : (f : ℕ) (h : PlainFunction) → slice_get program.functions f ≡ Some h → IsFunction program table f h
-      → ValidIrFunction (lowered program (plain_table table)) (result_bytes program) f (lowered_function program (plain_table table) h)
+      → ValidIrFunction (length table.dynamics.items) (lowered program (plain_table table)) (result_bytes program) f (lowered_function
+      program (plain_table table) h)
   function_ok f h e g =
       record {
         slots = g.need;
         code = stmt_ok program table valid pairs f (stmt_need h.body) (function_code program (plain_table table) h)
-            (function_counts program (plain_table table) h) h.returns (result_scalar h.returns g.returns) bytes h.body false 1 0 0
+            (function_counts program (plain_table table) few h) h.returns (result_scalar h.returns g.returns) bytes h.body false 1 0 0
             (label 0 ∷ end_code h.body) g.body (omega arith) last last whole (tt, end_ok (body_returns h.body));
       }
     where
@@ -263,10 +270,11 @@ module _ (program : PlainProgram) (table : IoTable) (valid : Valid program table
 
       last : count 0 (function_code program (plain_table table) h) ≡ 1
       last = one program table valid pairs f (stmt_need h.body) (function_code program (plain_table table) h)
-          (function_counts program (plain_table table) h) 0 (end_code h.body) (stmt_behind program (plain_table table)
+          (function_counts program (plain_table table) few h) 0 (end_code h.body) (stmt_behind program (plain_table table)
           (function_code program (plain_table table) h) h.body 1 0 0 (label 0 ∷ end_code h.body) whole)
 
-      end_ok : (returns : Bool) → AllByRecursion (ValidOperation (lowered program (plain_table table)) (result_bytes program) f
+      end_ok : (returns : Bool) → AllByRecursion (ValidOperation (length table.dynamics.items) (lowered program (plain_table table))
+          (result_bytes program) f
           (stmt_need h.body) (function_code program (plain_table table) h)) (end_of returns)
       end_ok true = tt
       end_ok false = (tt, tt)
@@ -275,7 +283,8 @@ module _ (program : PlainProgram) (table : IoTable) (valid : Valid program table
       bytes = ap (λ z. unwrap_or (option_map (λ (h : PlainFunction). scalar_size h.returns) z) 0) e
 
   functions_ok : (n : ℕ) (hs : List PlainFunction) → ((i : ℕ) (h : PlainFunction) → slice_get hs i ≡ Some h → slice_get program.functions
-      (n + i) ≡ Some h) → EachFrom n (IsFunction program table) hs → EachFrom n (ValidIrFunction (lowered program (plain_table table))
+      (n + i) ≡ Some h) → EachFrom n (IsFunction program table) hs → EachFrom n (ValidIrFunction (length table.dynamics.items) (lowered
+      program (plain_table table))
       (result_bytes program)) (map (lowered_function program (plain_table table)) hs)
   functions_ok n [] at v = tt
   functions_ok n (h ∷ hs) at v = (
@@ -320,7 +329,7 @@ module _ (program : PlainProgram) (table : IoTable) (valid : Valid program table
     objects_ok os h.1,
   )
 
-  pub lowered_is_valid : ValidIr (lowered program (plain_table table))
+  pub lowered_is_valid : ValidIr (length table.dynamics.items) (lowered program (plain_table table))
   lowered_is_valid =
       record {
         structs = valid.structs;

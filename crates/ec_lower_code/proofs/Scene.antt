@@ -26,6 +26,7 @@ use Rattle.ec_lower_code.proofs.Homes.{AreApart}
 use Rattle.ec_lower_code.proofs.Ops.{to_rest, HasValue, Below}
 use Rattle.ec_lower_code.proofs.Shown.{held_of, Match}
 use Rattle.ec_lower_code.proofs.Steps.{Resolves, Spot, around, Runs}
+use Rattle.ec_lower_code.proofs.Tables.{HaveFewChoices, few_choices}
 
 pub record World : Type 0 where
   pub program : PlainProgram
@@ -54,6 +55,7 @@ module _ (x : World) where
   spot code stack = record {
     functions = (lowered x.program ports).functions;
     program = homes;
+    table = ports;
     inputs = x.inputs;
     code = code;
     stack = stack;
@@ -61,6 +63,9 @@ module _ (x : World) where
 
   pub law : ValuesHaveTheirTypes x.program x.io x.inputs
   law = types_are_kept x.program x.io x.inputs x.valid x.bytes
+
+  pub few : HaveFewChoices ports
+  few = few_choices x.io x.valid.ports x.pairs
 
   pub apart : AreApart homes
   apart o d k leaf e f = ((leaves_fill_their_types.objects x.program x.io o d x.valid e).each k leaf f).found
@@ -79,7 +84,8 @@ module _ (x : World) where
       (g : ℕ) (f : PlainFunction) → slice_get x.program.functions g ≡ Some f → IsOther x.program g
       → (code : List PlainIr) (stack : List Frame) (es : PlainExprs) (vs : List Value) (t d : ℕ) (b : Temps) (rest : List PlainIr)
       (s : State) (m : Mach)
-      → AreArguments x.program f.params es → AreHeld es vs t m.temps → Match homes (around (spot code stack)) (d + (60 + 10 * (total_size
+      → AreArguments x.program f.params es → AreHeld es vs t m.temps → Match homes ports (around (spot code stack)) (d + (60 + 10 *
+      (total_size
       es + scalar_size f.returns)))
       s m → IsTypedState x.program s → Below (spot code stack) t b m
       → Runs (spot code stack) x.n (params_code f.params es t (call_function g (result_temp t f.returns) ∷ rest)) m

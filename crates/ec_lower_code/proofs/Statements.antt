@@ -37,7 +37,8 @@ use Rattle.ec_lower_code.proofs.Steps.{spent_on}
 -- what is beside the machine at the end of a function, is beside one where those functions are active that it returns to
 abbrev pub Ends : (wd : World) (sc : Scene wd) (outer : List ℕ) (temps : Temps) (t : State) (u : Mach) → Type 0
 Ends wd sc outer temps t u =
-    (d : ℕ) (s : State) → Match (homes wd) (around (W wd sc)) d s (machine temps t) → Match (homes wd) outer d (frame_ended wd.program
+    (d : ℕ) (s : State) → Match (homes wd) (ports wd) (around (W wd sc)) d s (machine temps t)
+    → Match (homes wd) (ports wd) outer d (frame_ended wd.program
     sc.f s) u
 
 -- where the function returns to, which functions are active there, and what holds there
@@ -64,10 +65,10 @@ module _ (wd : World) (sc : Scene wd) (ret : Returns wd sc) where
 
   -- what is beside the machine: where the function has returned, its objects are no longer live
   abbrev pub Beside : ℕ → Exit → State → Mach → Type 0
-  Beside d at_end s u = Match (homes wd) (around (W wd sc)) d s u
-  Beside d by_break s u = Match (homes wd) (around (W wd sc)) d s u
-  Beside d by_continue s u = Match (homes wd) (around (W wd sc)) d s u
-  Beside d (by_return v) s u = Match (homes wd) ret.outer d (frame_ended wd.program sc.f s) u
+  Beside d at_end s u = Match (homes wd) (ports wd) (around (W wd sc)) d s u
+  Beside d by_break s u = Match (homes wd) (ports wd) (around (W wd sc)) d s u
+  Beside d by_continue s u = Match (homes wd) (ports wd) (around (W wd sc)) d s u
+  Beside d (by_return v) s u = Match (homes wd) (ports wd) ret.outer d (frame_ended wd.program sc.f s) u
 
   -- a statement was left
   pub record Left (d : ℕ) (e : Exit) (s : State) (u : Mach) : Type 0 where
@@ -98,26 +99,26 @@ module _ (wd : World) (sc : Scene wd) (ret : Returns wd sc) where
   typed_way P k p m rest out on d (undefined point s) h r = tt
 
   -- left at its end
-  pub at_rest : (d : ℕ) (rest out on : List PlainIr) (k : ℕ) (s : State) (m : Mach) → Match (homes wd) (around (W wd sc)) d s m
+  pub at_rest : (d : ℕ) (rest out on : List PlainIr) (k : ℕ) (s : State) (m : Mach) → Match (homes wd) (ports wd) (around (W wd sc)) d s m
       → Way k rest m rest out on d
       (got at_end s)
   at_rest d rest out on k s m h = (m, record { match = h; back = tt }, stays (W wd sc) (here (W wd sc) rest) m)
 
   less_left : (d e : ℕ) (x : Exit) (s : State) (u : Mach) → d ≤ e → Left e x s u → Left d x s u
-  less_left d e at_end s u le h = record { match = less (homes wd) e d s u le h.match; back = tt }
-  less_left d e by_break s u le h = record { match = less (homes wd) e d s u le h.match; back = tt }
-  less_left d e by_continue s u le h = record { match = less (homes wd) e d s u le h.match; back = tt }
+  less_left d e at_end s u le h = record { match = less (homes wd) (ports wd) e d s u le h.match; back = tt }
+  less_left d e by_break s u le h = record { match = less (homes wd) (ports wd) e d s u le h.match; back = tt }
+  less_left d e by_continue s u le h = record { match = less (homes wd) (ports wd) e d s u le h.match; back = tt }
   less_left d e (by_return v) s u le h =
-      record { match = less (homes wd) e d (frame_ended wd.program sc.f s) u le h.match; back = h.back }
+      record { match = less (homes wd) (ports wd) e d (frame_ended wd.program sc.f s) u le h.match; back = h.back }
 
   -- from where a statement was left
   pub bind_exit : (k e d : ℕ) (p : List PlainIr) (m : Mach) (r1 o1 c1 r2 o2 c2 : List PlainIr) (o : Outcome Exit) (go : Exit → State
       → Outcome Exit) → d ≤ e → ((v : Option Value) (s : State) → go (by_return v) s ≡ got (by_return v) s) → Typed k p m r1 o1 c1 e o
-      → ((s : State) (u : Mach) → Match (homes wd) (around (W wd sc)) e s u → IsTypedState wd.program s
+      → ((s : State) (u : Mach) → Match (homes wd) (ports wd) (around (W wd sc)) e s u → IsTypedState wd.program s
       → Way k r1 u r2 o2 c2 d (go at_end s))
-      → ((s : State) (u : Mach) → Match (homes wd) (around (W wd sc)) e s u → IsTypedState wd.program s
+      → ((s : State) (u : Mach) → Match (homes wd) (ports wd) (around (W wd sc)) e s u → IsTypedState wd.program s
       → Way k o1 u r2 o2 c2 d (go by_break s))
-      → ((s : State) (u : Mach) → Match (homes wd) (around (W wd sc)) e s u → IsTypedState wd.program s
+      → ((s : State) (u : Mach) → Match (homes wd) (ports wd) (around (W wd sc)) e s u → IsTypedState wd.program s
       → Way k c1 u r2 o2 c2 d (go by_continue s))
       → Way k p m r2 o2 c2 d (next o go)
   bind_exit k e d p m r1 o1 c1 r2 o2 c2 (got at_end s) go le ret2 h f g i = after (W wd sc) (left_to r2 o2 c2) (Left d) k (here (W wd sc) p)
@@ -133,7 +134,7 @@ module _ (wd : World) (sc : Scene wd) (ret : Returns wd sc) where
 
   -- a statement whose end leads on to another place
   pub joins : (k e d : ℕ) (p : List PlainIr) (m : Mach) (mid rest out on : List PlainIr) (o : Outcome Exit) → d ≤ e
-      → Typed k p m mid out on e o → ((s : State) (u : Mach) → Match (homes wd) (around (W wd sc)) e s u
+      → Typed k p m mid out on e o → ((s : State) (u : Mach) → Match (homes wd) (ports wd) (around (W wd sc)) e s u
       → Way k mid u rest out on d (got at_end s))
       → Way k p m rest out on d o
   joins k e d p m mid rest out on (got at_end s) le h f = after (W wd sc) (left_to rest out on) (Left d) k (here (W wd sc) p)
@@ -146,23 +147,25 @@ module _ (wd : World) (sc : Scene wd) (ret : Returns wd sc) where
 
   -- ---- objects that begin and end
 
-  ended_match : (os : List ℕ) (d : ℕ) (s : State) (u : Mach) → Match (homes wd) (around (W wd sc)) d s u
-      → Match (homes wd) (around (W wd sc)) d (all_ended os s) u
+  ended_match : (os : List ℕ) (d : ℕ) (s : State) (u : Mach) → Match (homes wd) (ports wd) (around (W wd sc)) d s u
+      → Match (homes wd) (ports wd) (around (W wd sc)) d (all_ended os s) u
   ended_match [] d s u h = h
   ended_match (o ∷ os) d s u h = ended_match os d (with_object o ended s) u
       (record {
         objects = change_one (homes wd) (around (W wd sc)) (homes wd).objects s.objects u.state.objects o ended
             (λ n x y z e q. end_one (homes wd) (around (W wd sc)) n x.storage y z q) h.objects;
+        cells = h.cells;
         events = h.events;
         spent = h.spent;
       })
 
-  ended_after : (os : List ℕ) (d : ℕ) (s : State) (u : Mach) → Match (homes wd) ret.outer d (frame_ended wd.program sc.f s) u
-      → Match (homes wd) ret.outer d (frame_ended wd.program sc.f (all_ended os s)) u
+  ended_after : (os : List ℕ) (d : ℕ) (s : State) (u : Mach) → Match (homes wd) (ports wd) ret.outer d (frame_ended wd.program sc.f s) u
+      → Match (homes wd) (ports wd) ret.outer d (frame_ended wd.program sc.f (all_ended os s)) u
   ended_after [] d s u h = h
   ended_after (o ∷ os) d s u h = ended_after os d (with_object o ended s) u
       (record {
         objects = frame_change (homes wd) sc.f ret.outer (homes wd).objects s.objects u.state.objects o h.objects;
+        cells = h.cells;
         events = h.events;
         spent = h.spent;
       })
@@ -182,7 +185,7 @@ module _ (wd : World) (sc : Scene wd) (ret : Returns wd sc) where
   -- an expression at the bottom of the temporaries
   pub whole_runs : (k : ℕ) (e : PlainExpr) (l d : ℕ) (s : State) (m : Mach) (rest : List PlainIr) → k ≤ wd.n
       → CallsOfExpr (IsOther wd.program) e → ValidExpr wd.program wd.io sc.f e → IsTypedState wd.program s
-      → Stands sc.code (expr_code wd.program (ports wd) e l 0 rest) → Match (homes wd) (around (W wd sc)) d s m
+      → Stands sc.code (expr_code wd.program (ports wd) e l 0 rest) → Match (homes wd) (ports wd) (around (W wd sc)) d s m
       → Does (W wd sc) k (here (W wd sc) (expr_code wd.program (ports wd) e l 0 rest)) m (to_rest (W wd sc) rest)
       (Has wd sc (type_of_expr e) 0 d m.temps) (value wd sc e s)
   whole_runs k e l d s m rest le p v st stands h = expr_runs wd sc k e l 0 d m.temps s m rest le p v st stands h (λ i lt. refl)
@@ -191,7 +194,7 @@ module _ (wd : World) (sc : Scene wd) (ret : Returns wd sc) where
   pub branch_whole : (k : ℕ) (c : PlainExpr) (l : ℕ) (to : Branch) (d : ℕ) (s : State) (m : Mach) (away rest : List PlainIr) → k ≤ wd.n
       → CallsOfExpr (IsOther wd.program) c → ValidExpr wd.program wd.io sc.f c → IsScalar (type_of_expr c) → IsTypedState wd.program s
       → Stands sc.code (branch_code wd.program (ports wd) c l 0 to rest) → find (branch_label to) sc.code ≡ Some away
-      → Match (homes wd) (around (W wd sc)) d s m
+      → Match (homes wd) (ports wd) (around (W wd sc)) d s m
       → Branches wd sc k (branch_code wd.program (ports wd) c l 0 to rest) m to away rest 0 d
       (branch_cost to (scalar_size (type_of_expr c))) m.temps (condition (set wd) c (value wd sc c s))
   branch_whole k c l to d s m away rest le p v i st stands f h =
@@ -200,14 +203,14 @@ module _ (wd : World) (sc : Scene wd) (ret : Returns wd sc) where
   -- and one whose value nobody reads
   pub unread_whole : (k : ℕ) (e : PlainExpr) (l d : ℕ) (s : State) (m : Mach) (rest : List PlainIr) → k ≤ wd.n
       → CallsOfExpr (IsOther wd.program) e → ValidExpr wd.program wd.io sc.f e → IsTypedState wd.program s
-      → Stands sc.code (unread_code wd.program (ports wd) e l 0 rest) → Match (homes wd) (around (W wd sc)) d s m
+      → Stands sc.code (unread_code wd.program (ports wd) e l 0 rest) → Match (homes wd) (ports wd) (around (W wd sc)) d s m
       → Does (W wd sc) k (here (W wd sc) (unread_code wd.program (ports wd) e l 0 rest)) m (to_rest (W wd sc) rest)
       (Leaves wd sc 0 d m.temps) (value wd sc e s)
   unread_whole k e l d s m rest le p v st stands h = unread_runs wd sc k e l 0 d m.temps s m rest le p v st stands h (λ i lt. refl)
 
   pub done_runs : (k : ℕ) (e : PlainExpr) (l d : ℕ) (s : State) (m : Mach) (rest out on : List PlainIr) → k ≤ wd.n
       → CallsOfExpr (IsOther wd.program) e → ValidExpr wd.program wd.io sc.f e → IsTypedState wd.program s
-      → Stands sc.code (unread_code wd.program (ports wd) e l 0 rest) → Match (homes wd) (around (W wd sc)) d s m
+      → Stands sc.code (unread_code wd.program (ports wd) e l 0 rest) → Match (homes wd) (ports wd) (around (W wd sc)) d s m
       → Way k (unread_code wd.program (ports wd) e l 0 rest) m rest out on d (evaluated (set wd) (calls_to wd sc.depth) (Some e) s)
   done_runs k e l d s m rest out on le p v st stands h =
       bind (W wd sc) k (here (W wd sc) (unread_code wd.program (ports wd) e l 0 rest)) m (to_rest (W wd sc) rest)
@@ -216,12 +219,13 @@ module _ (wd : World) (sc : Scene wd) (ret : Returns wd sc) where
 
 -- an object that is kept begins
 pub begun_match : (wd : World) {fs : List ℕ} (o d : ℕ) (s : State) (u : Mach) → ((x : PlainObject) → slice_get wd.program.objects o ≡ Some x
-    → is_kept fs x.storage ≡ true) → Match (homes wd) fs d s u → Match (homes wd) fs d (begun wd.program o s) u
+    → is_kept fs x.storage ≡ true) → Match (homes wd) (ports wd) fs d s u → Match (homes wd) (ports wd) fs d (begun wd.program o s) u
 begun_match wd {fs = fs} o d s u kept h =
     let leaves = unwrap_or (option_map (λ x. leaf_count wd.program x.ty) (slice_get wd.program.objects o)) 0 in
     record {
       objects = change_one (homes wd) fs (homes wd).objects s.objects u.state.objects o (renewed leaves)
           (λ n x y z e q. renew_one (homes wd) fs leaves n x.storage y z (kept x e) q) h.objects;
+      cells = h.cells;
       events = h.events;
       spent = h.spent;
     }
@@ -265,16 +269,16 @@ pub own_store : (wd : World) {fs : List ℕ} (code : List PlainIr) (stack : List
     (ty : PlainType) (v : Value) (s : State) (u : Mach) (rest : List PlainIr) → slice_get wd.program.objects o ≡ Some x
     → slice_get (leaves_of_type wd.program.structs x.ty) k ≡ Some leaf → leaf.ty ≡ ty → is_read_only x.home ≡ false → IsScalar ty
     → HasType (homes wd) ty v
-    → Match (homes wd) fs d s (machine u.temps (stored_in (spot wd code stack) (apart wd) o leaf.at (temp t ty) u))
+    → Match (homes wd) (ports wd) fs d s (machine u.temps (stored_in (spot wd code stack) (apart wd) o leaf.at (temp t ty) u))
     → u.temps t ≡ Some (held_of ty v) → (a : Option Access) → own_access wd.program o k s ≡ a
     → Does (spot wd code stack) n (here (spot wd code stack) (store_object o leaf.at (temp t ty) ∷ rest)) u
-    (to_rest (spot wd code stack) rest) (λ y s1 u1. Match (homes wd) fs d s1 u1 × (u1.temps ≡ u.temps)) (first_write a v s)
+    (to_rest (spot wd code stack) rest) (λ y s1 u1. Match (homes wd) (ports wd) fs d s1 u1 × (u1.temps ≡ u.temps)) (first_write a v s)
 own_store wd code stack n d o k t x leaf ty v s u rest f i g home sc vt h held None q = tt
 own_store wd {fs = fs} code stack n d o k t x leaf ty v s u rest f i g home sc vt h held (Some a) q =
     let w = spot wd code stack in
     let l = own_found wd o k x leaf ty s a f i g q in
     let at_home : is_read_only l.0.d.home ≡ false = subst (λ (z : PlainObject). is_read_only z.home ≡ false) (sym l.1) home in
-    ends w (to_rest w rest) (λ y s1 u1. Match (homes wd) fs d s1 u1 × (u1.temps ≡ u.temps)) n
+    ends w (to_rest w rest) (λ y s1 u1. Match (homes wd) (ports wd) fs d s1 u1 × (u1.temps ≡ u.temps)) n
     (here w (store_object o leaf.at (temp t ty) ∷ rest)) (here w rest) u _ v (stored a v s) refl
     (store_comes w (apart wd) o leaf.at ty t d s a u v rest l.0 sc vt at_home h held)
     (store_match w (apart wd) None d u.temps o leaf.at ty s a (stored_in w (apart wd) o leaf.at (temp t ty) u) v l.0 h, refl)
@@ -287,7 +291,7 @@ module _ (wd : World) (sc : Scene wd) (ret : Returns wd sc) where
       (more_code rest out on : List PlainIr) (go : Value → State → Outcome Exit) → slice_get wd.program.objects o ≡ Some x
       → slice_get (leaves_of_type wd.program.structs x.ty) k ≡ Some leaf → ty ≡ leaf.ty → is_read_only x.home ≡ false
       → Has wd sc ty 0 (d + leaf_cost ty) b v s u
-      → ((s1 : State) (u1 : Mach) → Match (homes wd) (around (W wd sc)) d s1 u1 → IsTypedState wd.program s1
+      → ((s1 : State) (u1 : Mach) → Match (homes wd) (ports wd) (around (W wd sc)) d s1 u1 → IsTypedState wd.program s1
       → Way wd sc ret n more_code u1 rest out on d
       (go v s1))
       → Way wd sc ret n (store_object o leaf.at (temp 0 ty) ∷ more_code) u rest out on d (next (initialised wd.program o k v s) go)
@@ -299,10 +303,10 @@ module _ (wd : World) (sc : Scene wd) (ret : Returns wd sc) where
       scalar = subst IsScalar (sym t) ((leaves_fill_their_types.objects wd.program wd.io o x wd.valid f).each k leaf i).scalar.scalar
 
       stores : Does (W wd sc) n (here (W wd sc) (store_object o leaf.at (temp 0 ty) ∷ more_code)) u (to_rest (W wd sc) more_code)
-          (λ y s1 u1. Match (homes wd) (around (W wd sc)) d s1 u1 × (u1.temps ≡ u.temps)) (initialised wd.program o k v s)
+          (λ y s1 u1. Match (homes wd) (ports wd) (around (W wd sc)) d s1 u1 × (u1.temps ≡ u.temps)) (initialised wd.program o k v s)
       stores = own_store wd sc.code sc.stack n d o k 0 x leaf ty v s u more_code f i (sym t) home scalar h.typed
           (before_match (W wd sc) (storage_of (W wd sc) o) (λ g q. among_more g (around (W wd sc))) d u.temps s _
-          (spent_on (homes wd) (d + leaf_cost ty) d (store_object o leaf.at (temp 0 ty)) u.temps s u (omega arith) h.has.match))
+          (spent_on (homes wd) (ports wd) (d + leaf_cost ty) d (store_object o leaf.at (temp 0 ty)) u.temps s u (omega arith) h.has.match))
           (h.has.value scalar) (own_access wd.program o k s) refl
 
       written : (a : Option Access) (y : Value) (s1 : State) → first_write a v s ≡ got y s1 → y ≡ v
@@ -311,7 +315,8 @@ module _ (wd : World) (sc : Scene wd) (ret : Returns wd sc) where
 
       by_outcome : (z : Outcome Value) → IsSoundOutcome wd.program (HasType wd.program leaf.ty) z
           → Does (W wd sc) n (here (W wd sc) (store_object o leaf.at (temp 0 ty) ∷ more_code)) u (to_rest (W wd sc) more_code)
-          (λ y s1 u1. Match (homes wd) (around (W wd sc)) d s1 u1 × (u1.temps ≡ u.temps)) z → ((y : Value) (s1 : State) → z ≡ got y s1
+          (λ y s1 u1. Match (homes wd) (ports wd) (around (W wd sc)) d s1 u1 × (u1.temps ≡ u.temps)) z → ((y : Value) (s1 : State)
+          → z ≡ got y s1
           → y ≡ v)
           → Way wd sc ret n (store_object o leaf.at (temp 0 ty) ∷ more_code) u rest out on d (next z go)
       by_outcome (got y s1) ts g e =
@@ -327,7 +332,7 @@ module _ (wd : World) (sc : Scene wd) (ret : Returns wd sc) where
       → slice_get (leaves_of_type wd.program.structs x.ty) (i + j) ≡ Some leaf) → is_read_only x.home ≡ false
       → AreLeafValues wd.program wd.io sc.f ls es → CallsOfExprs (IsOther wd.program) es → ValidExprs wd.program wd.io sc.f es
       → Stands sc.code (init_code wd.program (ports wd) ls o es l rest)
-      → (s : State) (m : Mach) → Match (homes wd) (around (W wd sc)) d s m → IsTypedState wd.program s
+      → (s : State) (m : Mach) → Match (homes wd) (ports wd) (around (W wd sc)) d s m → IsTypedState wd.program s
       → Way wd sc ret wd.n (init_code wd.program (ports wd) ls o es l rest) m rest out on d
       (initialising (set wd) (calls_to wd sc.depth) o i es s)
   init_runs d o i x [] last_expr l rest out on f g home ty p v stands s m h st = at_rest wd sc ret d rest out on wd.n s m h
@@ -345,12 +350,12 @@ module _ (wd : World) (sc : Scene wd) (ret : Returns wd sc) where
       (Has wd sc (type_of_expr e) 0 c m.temps) (left_to wd sc ret rest out on) (Left wd sc ret d) (here (W wd sc) (op ∷ more_code))
       (value wd sc e (worked (leaf_words e) s)) _ (λ z. refl)
       (whole_runs wd sc ret wd.n e l c (worked (leaf_words e) s) m (op ∷ more_code) (omega arith) p.0 v.0 st stands
-      (credited (homes wd) (leaf_words e) d s m h))
+      (credited (homes wd) (ports wd) (leaf_words e) d s m h))
       (λ y s1 u r. init_store wd.n d o i x leaf (type_of_expr e) m.temps y s1 u more_code rest out on
       (λ z s2. initialising (set wd) (calls_to wd sc.depth) o (i + 1) es s2) f item ty.0 home
       (record {
         has = record {
-          match = less (homes wd) c (d + leaf_cost (type_of_expr e)) s1 u (omega (arith, pays)) r.has.match;
+          match = less (homes wd) (ports wd) c (d + leaf_cost (type_of_expr e)) s1 u (omega (arith, pays)) r.has.match;
           value = r.has.value;
           same = r.has.same;
         };

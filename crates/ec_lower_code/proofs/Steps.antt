@@ -8,7 +8,8 @@ use Rattle.ec_core.specs.declared.values.Value.{Value}
 use Rattle.ec_core.specs.Accesses.{recorded}
 use Rattle.ec_core.specs.Layout.{scalar_size, IsScalar}
 use Rattle.ec_core.specs.Plain.{PlainType, PlainStorage, static, local, param, register, PlainProgram}
-use Rattle.ec_core.specs.State.{Inputs, Event, State, worked, Outcome, got, more, undefined, next, given}
+use Rattle.ec_core.specs.PortTable.{PlainTable}
+use Rattle.ec_core.specs.State.{Inputs, Event, State, with_event, worked, Outcome, got, more, undefined, next, given}
 use Rattle.ec_core.specs.ValueTypes.{HasType}
 use Rattle.ec_ir.specs.Costs.{op_words, op_steps}
 use Rattle.ec_ir.specs.Meaning.{Mach, machine, held_as, Frame, active, Place, place, find, exec_from, exec}
@@ -81,11 +82,12 @@ stops_on a b c (sooner s t e f o v w) (sooner s2 t2 e2 f2 o2 v2 w2) =
     let x = ap (λ (q : State). q.objects) g in let y = ap (λ (q : State). q.events) g in let z = ap (λ (q : State). q.work) g in
     sooner s t2 e f2 (o ∙ x ∙ o2) (v ∙ y ∙ v2) (omega (arith, w, z, w2))
 
--- a machine's program: its functions, objects and structs, and inputs; the operations of the active function, and the
--- calls that wait
+-- a machine's program: its functions, objects and structs, the table of its ports, and inputs; the operations of the
+-- active function, and the calls that wait
 pub record Spot : Type 0 where
   pub functions : List PlainIrFunction
   pub program : PlainProgram
+  pub table : PlainTable
   pub inputs : Inputs
   pub code : List PlainIr
   pub stack : List Frame
@@ -206,23 +208,30 @@ module _ (w : Spot) where
 
 -- ---- work
 
-module _ (program : PlainProgram) {fs : List ℕ} where
+module _ (program : PlainProgram) (table : PlainTable) {fs : List ℕ} where
   -- the work of a part comes first
-  pub credited : (w d : ℕ) (s : State) (m : Mach) → Match program fs d s m → Match program fs (d + w) (worked w s) m
-  credited w d s m h = record { objects = h.objects; events = h.events; spent = let e = h.spent in omega (arith, e) }
+  pub credited : (w d : ℕ) (s : State) (m : Mach) → Match program table fs d s m → Match program table fs (d + w) (worked w s) m
+  credited w d s m h = record { objects = h.objects; cells = h.cells; events = h.events; spent = let e = h.spent in omega (arith, e) }
 
   -- an operation within it
-  pub spent_on : (d e : ℕ) (i : PlainIr) (temps : Temps) (s : State) (m : Mach) → op_words i + e ≤ d → Match program fs d s m
-      → Match program fs e s (machine temps (worked (op_steps i) m.state))
-  spent_on d e i temps s m le h = record { objects = h.objects; events = h.events; spent = let k = h.spent in omega (arith, k, le) }
+  pub spent_on : (d e : ℕ) (i : PlainIr) (temps : Temps) (s : State) (m : Mach) → op_words i + e ≤ d → Match program table fs d s m
+      → Match program table fs e s (machine temps (worked (op_steps i) m.state))
+  spent_on d e i temps s m le h =
+      record { objects = h.objects; cells = h.cells; events = h.events; spent = let k = h.spent in omega (arith, k, le) }
 
-  pub less : (d e : ℕ) (s : State) (m : Mach) → e ≤ d → Match program fs d s m → Match program fs e s m
-  less d e s m le h = record { objects = h.objects; events = h.events; spent = let k = h.spent in omega (arith, k, le) }
+  pub less : (d e : ℕ) (s : State) (m : Mach) → e ≤ d → Match program table fs d s m → Match program table fs e s m
+  less d e s m le h = record { objects = h.objects; cells = h.cells; events = h.events; spent = let k = h.spent in omega (arith, k, le) }
 
   -- the same event on both sides
+  pub event_match : (e : Event) (d : ℕ) (s : State) (temps : Temps) (t : State) → Match program table fs d s (machine temps t)
+      → Match program table fs d (with_event e s) (machine temps (with_event e t))
+  event_match e d s temps t h =
+      record { objects = h.objects; cells = h.cells; events = ap (λ es. es ++ e ∷ []) h.events; spent = h.spent }
+
   pub record_match : (storage : PlainStorage) (e : Event) (d : ℕ) (s : State) (temps : Temps) (t : State)
-      → Match program fs d s (machine temps t) → Match program fs d (recorded storage e s) (machine temps (recorded storage e t))
-  record_match (static inits) e d s temps t h = record { objects = h.objects; events = ap (λ es. es ++ e ∷ []) h.events; spent = h.spent }
-  record_match (local f) e d s temps t h = record { objects = h.objects; events = ap (λ es. es ++ e ∷ []) h.events; spent = h.spent }
-  record_match (param f) e d s temps t h = record { objects = h.objects; events = ap (λ es. es ++ e ∷ []) h.events; spent = h.spent }
+      → Match program table fs d s (machine temps t)
+      → Match program table fs d (recorded storage e s) (machine temps (recorded storage e t))
+  record_match (static inits) e d s temps t h = event_match e d s temps t h
+  record_match (local f) e d s temps t h = event_match e d s temps t h
+  record_match (param f) e d s temps t h = event_match e d s temps t h
   record_match (register r) e d s temps t h = h

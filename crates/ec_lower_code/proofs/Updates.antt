@@ -38,7 +38,7 @@ use Rattle.ec_lower_code.proofs.Numeric.{IsNumeric}
 use Rattle.ec_lower_code.proofs.Numbers.{wrapped_back}
 use Rattle.ec_lower_code.proofs.Operations.{number_back, type_scalar, type_holds, value_number, AreUpdateTypes, words_of}
 use Rattle.ec_lower_code.proofs.Ops.{to_rest, IsSite, IsSpace, Below, HasValue, conversion_runs, conversion_beside, binary_runs, write_runs}
-use Rattle.ec_lower_code.proofs.Scene.{World, homes, spot, apart}
+use Rattle.ec_lower_code.proofs.Scene.{World, ports, homes, spot, apart}
 use Rattle.ec_lower_code.proofs.Shown.{held_of, Match}
 use Rattle.ec_lower_code.proofs.Steps.{Target, Spot, around, here, Runs, after}
 
@@ -210,7 +210,8 @@ module _ (wd : World) (code : List PlainIr) (stack : List Frame) where
         (at_site u1 h1.same) scalar typed (omega arith) h1 (access wd.program ty sp to s) refl))
 
     ends_op : (r : Result ℤ Undefined) (x y : ℤ) (s : State) (u : Mach) → HoldsNumber ts.left x → HoldsNumber ts.right y
-        → Match (homes wd) (around w) op_cost s u → u.temps t ≡ Some (held_of (type_of ts.left) (Number x)) → u.temps (t + 1) ≡ Some
+        → Match (homes wd) (ports wd) (around w) op_cost s u → u.temps t ≡ Some (held_of (type_of ts.left) (Number x))
+        → u.temps (t + 1) ≡ Some
         (held_of (type_of ts.right) (Number y)) → Below w t b u
         → arithmetic_value op ts.result own (operand ts.left x) (operand ts.right y) ≡ r
         → Ends op_code u (stored_value (as_number (then_with r (λ q. brought (number_type ty) mode ts.result q))) s)
@@ -233,7 +234,7 @@ module _ (wd : World) (code : List PlainIr) (stack : List Frame) where
         (λ u1 h1. ends_back (brought (number_type ty) mode ts.result q) q s u1 hq h1 refl)
 
     ends_right : (r : Result ℤ Undefined) (x y : ℤ) (s : State) (u : Mach) → HoldsNumber ts.left x → HasType (homes wd) right (Number y)
-        → Match (homes wd) (around w) (conversion_words (type_of ts.right) right + op_cost) s u
+        → Match (homes wd) (ports wd) (around w) (conversion_words (type_of ts.right) right + op_cost) s u
         → u.temps t ≡ Some (held_of (type_of ts.left) (Number x)) → u.temps (t + 1) ≡ Some (held_of right (Number y)) → Below w t b u
         → brought ts.right own (number_type right) y ≡ r → Ends right_code u
         (stored_value (as_number (then_with (then_with r (λ z. arithmetic_value op ts.result own (operand ts.left x) (operand ts.right z)))
@@ -255,7 +256,7 @@ module _ (wd : World) (code : List PlainIr) (stack : List Frame) where
     -- the update, from the old value and the right side
     pub update_runs : (r : Result ℤ Undefined) (x y : ℤ) (s : State) (u : Mach) (e : ℕ)
         → words_of op ts ty right + (op_words (store_to site (temp t ty)) + d) ≤ e → HasType (homes wd) ty (Number x)
-        → HasType (homes wd) right (Number y) → Match (homes wd) (around w) e s u → u.temps t ≡ Some (held_of ty (Number x))
+        → HasType (homes wd) right (Number y) → Match (homes wd) (ports wd) (around w) e s u → u.temps t ≡ Some (held_of ty (Number x))
         → u.temps (t + 1) ≡ Some
         (held_of right (Number y)) → Below w t b u
         → brought ts.left own (number_type ty) x ≡ r → Ends (update_code op ts own mode ty site t right rest) u

@@ -1,7 +1,7 @@
 -- The operations of a valid program are well formed.
 use Rattle.std.proofs.Common.{◌≡◌, ◌⊎◌, ℕ, zero, suc, ◌+◌, ◌-◌, ◌*◌, ◌/◌, ◌^◌, ◌<◌, ◌≤◌, Bool, true, false, not, ℤ, List, []}
 use Rattle.std.proofs.Common.{◌∷◌, ◌++◌, length, Option, Some, None, refl, sym, ap, ◌∙◌, subst, inl, inr, arith}
-use Rattle.std.specs.Prelude.{⊤, IsTrue, max, pos, if◌then◌else◌, IsSomeAnd, Contains, slice_get, option_map, unwrap_or}
+use Rattle.std.specs.Prelude.{⊤, IsTrue, IfSome, max, pos, if◌then◌else◌, IsSomeAnd, Contains, slice_get, option_map, unwrap_or}
 use Rattle.std.specs.List.{AllByRecursion}
 use Rattle.std.proofs.lemmas.Int.{ints}
 use Rattle.std.proofs.lemmas.Nat.{pow_pos}
@@ -9,6 +9,7 @@ use Rattle.std.proofs.lemmas.Option.{slice_get_within}
 use Rattle.std.proofs.Math.Nat.{pow-suc}
 use Rattle.std.proofs.lemmas.List.{length-map}
 use Rattle.ec_iohw.specs.declared.operations.IoOp.{IoOp}
+use Rattle.ec_iohw.specs.declared.table.Choice.{Choice}
 use Rattle.ec_iohw.specs.declared.table.IoTable.{IoTable}
 use Rattle.ec_iohw.specs.declared.table.Pair.{Pair}
 use Rattle.ec_fx.specs.declared.numbers.Mode.{Mode}
@@ -32,10 +33,11 @@ use Rattle.ec_core.specs.Needs.{expr_need, option_needs, exprs_needs, greatest_f
 use Rattle.ec_core.specs.Operators.{number_type, converted_beside, promoted_type, step_operator}
 use Rattle.ec_core.specs.PortAccesses.{pairs_of}
 use Rattle.ec_core.specs.PortOperations.{PortAction, reads, writes, updates, is_read, is_update, port_operation}
-use Rattle.ec_core.specs.PortTable.{PlainPort, PlainGroup, plain_table}
+use Rattle.ec_core.specs.PortTable.{PlainPort, PlainGroup, plain_dynamic, plain_table, choices_of}
 use Rattle.ec_core.specs.Plain.{PlainType, void, integer, fixed, pointer, array, struct, PlainExpr, expression, PlainNode}
 use Rattle.ec_core.specs.Plain.{number, null, load, address_of, unary, binary, convert, assign, compound, step, logical_not}
-use Rattle.ec_core.specs.Plain.{logical_and, logical_or, conditional, comma, call, io, group, PlainPlace, object, deref, member}
+use Rattle.ec_core.specs.Plain.{logical_and, logical_or, conditional, comma, call, io, group, bind, dynamic_group}
+use Rattle.ec_core.specs.Plain.{PlainPlace, object, deref, member}
 use Rattle.ec_core.specs.Plain.{OptionPlainExpr, no_expr, an_expr, PlainExprs, last_expr, next_expr, param, PlainObject}
 use Rattle.ec_core.specs.Plain.{PlainFunction, PlainProgram}
 use Rattle.ec_core.specs.TypeLaws.{factor_beside}
@@ -52,22 +54,24 @@ use Rattle.ec_core.proofs.TypedValues.{some_and}
 use Rattle.ec_ir.specs.declared.operations.Temp.{Temp}
 use Rattle.ec_ir.specs.Operations.{PlainIr, constant, copy, address, field, load_at, store_at, load_object, store_object}
 use Rattle.ec_ir.specs.Operations.{binary_op, unary_op, conversion, label, jump, branch_zero, call_function, return_from}
-use Rattle.ec_ir.specs.Operations.{port_in, port_out, data_of}
-use Rattle.ec_ir.specs.Valid.{count, called_in, IsResult, HaveOperationTypes, IsTemp, IsTempOf, IsPointerTemp, HasPointersOf}
+use Rattle.ec_ir.specs.Operations.{port_in, port_out, load_cell, store_cell, cell_port, data_of}
+use Rattle.ec_ir.specs.Valid.{count, called_in, IsResult, HaveBitTypes, HaveOperationTypes, IsTemp, IsTempOf, IsPointerTemp, HasPointersOf}
 use Rattle.ec_ir.specs.Valid.{IsIndex, IsPortWidth, IsNumberOf, HasLeafOf, IsParameterOf, ValidOperation}
 use Rattle.ec_lower_code.specs.Code.{temp, result_temp, truth_code, place_labels, Site, further_code, load_from, store_to}
 use Rattle.ec_lower_code.specs.Code.{value_place, settled_code, address_code, update_types, update_code, keeping_code}
 use Rattle.ec_lower_code.specs.Code.{change_code, postfix_code, step_code, offset_of, site, place_code, params_of, params_code}
-use Rattle.ec_lower_code.specs.Code.{port_operator, port_code, place_behind as value_behind, operand_temp, access_code}
-use Rattle.ec_lower_code.specs.Code.{byte_type, pairs_code, group_code, option_labels, option_code, expr_labels, expr_code}
+use Rattle.ec_lower_code.specs.Code.{port_operator, read_from, write_to, port_code, place_behind as value_behind, operand_temp}
+use Rattle.ec_lower_code.specs.Code.{access_code}
+use Rattle.ec_lower_code.specs.Code.{byte_type, pairs_code, group_code, bind_code, choices_code, option_labels, option_code}
+use Rattle.ec_lower_code.specs.Code.{expr_labels, expr_code}
 use Rattle.ec_lower_code.specs.Code.{node_code, args_code, lowered_function, lowered}
 use Rattle.ec_lower_code.specs.Code.{stepping_code, unread_code}
 use Rattle.ec_lower_code.specs.Code.{Branch, where_zero, where_not, branch_to, opposite, zero_label, other_label, and_end}
 use Rattle.ec_lower_code.specs.Code.{or_end, branch_code, branch_label}
-use Rattle.ec_lower_code.specs.Correct.{IsBytePair, GroupsHaveBytes}
+use Rattle.ec_lower_code.specs.Correct.{IsBytePair, HasByteBase, GroupsHaveBytes}
 use Rattle.ec_lower_code.proofs.Numeric.{IsNumeric}
 use Rattle.ec_lower_code.proofs.Behind.{expr_behind, node_behind, unread_behind, branch_behind, place_behind, operand_behind}
-use Rattle.ec_lower_code.proofs.Behind.{args_behind, params_behind}
+use Rattle.ec_lower_code.proofs.Behind.{args_behind, params_behind, group_behind, test_behind_base, choices_behind}
 use Rattle.ec_lower_code.proofs.Expressions.{arithmetic_scalar, offset_integer, binary_scalars, converted_scalar}
 use Rattle.ec_lower_code.proofs.Expressions.{pointer_scalar, type_known, compound_facts, compound_right, address_typed}
 use Rattle.ec_lower_code.proofs.Expressions.{step_types, stepped_place}
@@ -78,7 +82,8 @@ use Rattle.ec_lower_code.proofs.Numbers.{scalar_bytes}
 use Rattle.ec_lower_code.proofs.Operations.{update_known, step_arithmetic, type_scalar}
 use Rattle.ec_lower_code.proofs.PortOperators.{operator_typed}
 use Rattle.ec_lower_code.proofs.Steps.{Stands, behind}
-use Rattle.ec_lower_code.proofs.Tables.{IsOperated, AreOperated, ArePairs, port_operated, group_pairs, fits_in}
+use Rattle.ec_lower_code.proofs.Tables.{IsOperated, AreOperated, ArePairs, port_operated, group_pairs, fits_in, are_choices}
+use Rattle.ec_lower_code.proofs.Tables.{group_within}
 use Rattle.ec_lower_code.proofs.Updates.{place_known}
 
 -- ---- types
@@ -145,9 +150,9 @@ update_typed Div x y kx ky h = inl (arithmetic_types Div (common x y) (converted
 update_typed Rem x y kx ky h = inl (arithmetic_types Rem (common x y) (converted_beside x y) (converted_beside y x)
     ((usual_conversions.suit x y kx ky).integers h.0 h.1))
 update_typed Shl x y kx ky h = let s = (usual_conversions.suit x y kx ky).shifted h in
-    inr (record { shift = tt; value = refl; left = promoted_of (promoted_type x) s.left; count = count_of y h })
+    inr (inl (record { shift = tt; value = refl; left = promoted_of (promoted_type x) s.left; count = count_of y h }))
 update_typed Shr x y kx ky h = let s = (usual_conversions.suit x y kx ky).shifted h in
-    inr (record { shift = tt; value = refl; left = promoted_of (promoted_type x) s.left; count = count_of y h })
+    inr (inl (record { shift = tt; value = refl; left = promoted_of (promoted_type x) s.left; count = count_of y h }))
 update_typed And x y kx ky h = inl (arithmetic_types And (common x y) (converted_beside x y) (converted_beside y x)
     ((usual_conversions.suit x y kx ky).integers h.0 h.1))
 update_typed Or x y kx ky h = inl (arithmetic_types Or (common x y) (converted_beside x y) (converted_beside y x)
@@ -330,6 +335,9 @@ op_calls (call_function f to) code g h = (suc h.0, omega (arith, h.1), h.2)
 op_calls (return_from t) code g h = h
 op_calls (port_in t a i k) code g h = h
 op_calls (port_out t a i k) code g h = h
+op_calls (load_cell t d) code g h = h
+op_calls (store_cell d t) code g h = h
+op_calls (cell_port r t d a i k) code g h = h
 
 called_at : (pre : List PlainIr) (g : ℕ) (to : Option Temp) (rest : List PlainIr) → Contains (called_in (pre ++ call_function g to ∷ rest))
     g
@@ -356,7 +364,7 @@ module _ (program : PlainProgram) (table : IoTable) (valid : Valid program table
   results g = result_bytes program g
 
   abbrev Good : PlainIr → Type 0
-  Good i = ValidOperation (lowered program (plain_table table)) results f slots all i
+  Good i = ValidOperation (length table.dynamics.items) (lowered program (plain_table table)) results f slots all i
 
   abbrev AllGood : List PlainIr → Type 0
   AllGood code = AllByRecursion Good code
@@ -704,30 +712,52 @@ module _ (program : PlainProgram) (table : IoTable) (valid : Valid program table
   value_scalar true = (inr (inr refl), inr (inr refl))
   value_scalar false = (inr (inl refl), inr (inl refl))
 
-  width_ok : (long : Bool) (port : PlainPort) (t : ℕ) → IsOperated long port → t < slots
+  width_ok : (long : Bool) (port : PlainPort) (t : ℕ) → IsOperated (plain_table table) long port → t < slots
       → IsPortWidth slots (temp t (if long then unsigned_long else unsigned_int)) port.width
   width_ok long port t i lt = record {
     temp = temp_ok t (if long then unsigned_long else unsigned_int) lt (value_scalar long).0;
     width = i.width;
-    within = fits_in long port i;
+    within = fits_in long port i.width i.four;
   }
+
+  -- the cell of its dynamic group is one of the table's
+  cell_ok : (d : ℕ) → d < length (plain_table table).dynamics → d < length table.dynamics.items
+  cell_ok d lt = let e = length-map table.dynamics.items plain_dynamic in omega (arith, lt, e)
+
+  read_ok : (dynamic : Option ℕ) → IfSome dynamic (λ d. d < length (plain_table table).dynamics) → (to : Temp) (offset width : ℕ)
+      (index : Option Temp) → IsPortWidth slots to width → IsIndex slots index → Good (read_from dynamic to offset index width)
+  read_ok None lt to offset width index w x = (w, x)
+  read_ok (Some d) lt to offset width index w x = (cell_ok d lt, w, x)
+
+  write_ok : (dynamic : Option ℕ) → IfSome dynamic (λ d. d < length (plain_table table).dynamics) → (from : Temp) (offset width : ℕ)
+      (index : Option Temp) → IsPortWidth slots from width → IsIndex slots index → Good (write_to dynamic from offset index width)
+  write_ok None lt from offset width index w x = (w, x)
+  write_ok (Some d) lt from offset width index w x = (cell_ok d lt, w, x)
 
   port_ok : (action : PortAction) (op : IoOp) (long : Bool) (mode : Mode) (port : PlainPort) (index : Option Temp) (t v : ℕ)
       (rest : List PlainIr)
-      → IsOperated long port → IsIndex slots index → HasPlaces action slots t v → AllGood rest
+      → IsOperated (plain_table table) long port → IsIndex slots index → HasPlaces action slots t v → AllGood rest
       → AllGood (port_code action (port_operator op) (if long then unsigned_long else unsigned_int) mode port index t v rest)
-  port_ok reads op long mode port index t v rest i x lt r = ((width_ok long port t i lt, x), r)
-  port_ok writes op long mode port index t v rest i x lt r = ((width_ok long port v i lt, x), r)
+  port_ok reads op long mode port index t v rest i x lt r =
+      (read_ok port.dynamic i.dynamic _ port.address port.width index (width_ok long port t i lt) x, r)
+  port_ok writes op long mode port index t v rest i x lt r =
+      (write_ok port.dynamic i.dynamic _ port.address port.width index (width_ok long port v i lt) x, r)
   port_ok updates op long mode port index t v rest i x lt r =
       let ty = if long then unsigned_long else unsigned_int in
       let k = value_scalar long in
       let at_v = of_ok v ty (omega (arith, lt)) k.0 k.1 in
       let above = of_ok (v + 1) ty lt k.0 k.1 in
-      let w = width_ok long port (v + 1) i lt in
-      ((w, x), ((above, above, at_v, inl (operator_typed op long)), ((w, x), r)))
+      let w = width_ok long port (v + 1) i lt in (
+        read_ok port.dynamic i.dynamic _ port.address port.width index w x,
+        (
+          (above, above, at_v, inl (operator_typed op long)),
+          (write_ok port.dynamic i.dynamic _ port.address port.width index w x, r),
+        ),
+      )
 
   access_ok : (op : IoOp) (mode : Mode) (port : Option PlainPort) (i : OptionPlainExpr) (t : ℕ) (rest : List PlainIr)
-      → AreOperated (port_operation op).long port → IsIndex slots (operand_temp i t) → HasPlaces (port_operation op).action slots t
+      → AreOperated (plain_table table) (port_operation op).long port → IsIndex slots (operand_temp i t)
+      → HasPlaces (port_operation op).action slots t
       (value_behind i t) → AllGood rest
       → AllGood (access_code op mode port i t rest)
   access_ok op mode None i t rest h x lt r = r
@@ -749,10 +779,74 @@ module _ (program : PlainProgram) (table : IoTable) (valid : Valid program table
   group_ok acquire None t rest h lt r = r
   group_ok acquire (Some x) t rest h lt r = pairs_ok (pairs_of acquire x) t rest (h x refl acquire) lt r
 
+  -- a base in a temporary
+  base_ok : (t : ℕ) (c : Choice) → t < slots → HasByteBase c → Good (constant (temp t byte_type) (pos c.base))
+  base_ok t c lt small = (temp_ok t byte_type lt (inl refl), record { low = omega (arith, ints); high = omega (arith, ints, small) })
+
+  bind_ok : (d k t : ℕ) (rest : List PlainIr) → t < slots → AllGood rest
+      → AllGood (bind_code d (slice_get (choices_of (plain_table table) d) k) t rest)
+  bind_ok d k t rest lt r = by_choice (slice_get (choices_of (plain_table table) d) k) refl
+    where
+      by_choice : (o : Option Choice) → slice_get (choices_of (plain_table table) d) k ≡ o → AllGood (bind_code d o t rest)
+      by_choice None e = r
+      by_choice (Some c) e =
+          let all_choices = are_choices table valid.ports pairs d in
+          let small : HasByteBase c = all_at HasByteBase (choices_of (plain_table table) d) k c all_choices.bytes e in (
+            base_ok t c lt small,
+            (
+              record {
+                within = group_within table d k c e;
+                temp = temp_ok t byte_type lt (inl refl);
+                byte = refl;
+              },
+              r,
+            ),
+          )
+
+  choices_ok : (acquire : Bool) (mode : Mode) (d : ℕ) (cs : List Choice) (l t : ℕ) (rest : List PlainIr)
+      → d < length table.dynamics.items → AllByRecursion HasByteBase cs → t + 1 < slots
+      → Stands all (choices_code acquire (plain_table table) mode d cs l t rest) → AllGood rest
+      → AllGood (choices_code acquire (plain_table table) mode d cs l t rest)
+  choices_ok acquire mode d [] l t rest lt bytes le s r = r
+  choices_ok acquire mode d (c ∷ []) l t rest lt bytes le s r =
+      group_ok acquire (slice_get (plain_table table).groups c.group) t rest (group_pairs table pairs c.group) (omega (arith, le)) r
+  choices_ok acquire mode d (c ∷ other ∷ cs) l t rest lt bytes le s r =
+      let after_group : List PlainIr = label (l + 1) ∷ rest in
+      let own = group_code acquire (slice_get (plain_table table).groups c.group) t after_group in
+      let miss : List PlainIr = jump (l + 1) ∷ label l ∷ own in
+      let others = choices_code acquire (plain_table table) mode d (other ∷ cs) (l + 2) t miss in
+      let s1 = test_behind_base program (plain_table table) all mode d c.base l t others s in
+      let s2 = behind all _ _ (choices_behind program (plain_table table) all acquire mode d (other ∷ cs) (l + 2) t miss s1) in
+      let s3 = group_behind program (plain_table table) all acquire (slice_get (plain_table table).groups c.group) t after_group
+      (behind all _ _ s2) in
+      let at_t = of_ok t byte_type (omega (arith, le)) (inl refl) (inl refl) in
+      let above = of_ok (t + 1) byte_type le (inl refl) (inl refl) in
+      let bits : HaveBitTypes Xor byte_type byte_type byte_type =
+      record { bitwise = refl; integer = tt; left = refl; right = refl } in (
+        record { within = lt; temp = at_t.temp; byte = refl },
+        (
+          base_ok (t + 1) c le bytes.0,
+          (
+            (at_t, at_t, above, inr (inr bits)),
+            (
+              (at_t.temp, label_once l own s2),
+              choices_ok acquire mode d (other ∷ cs) (l + 2) t miss lt bytes.1 le s1 (
+                label_once (l + 1) rest s3,
+                (
+                  tt,
+                  group_ok acquire (slice_get (plain_table table).groups c.group) t after_group (group_pairs table pairs c.group)
+                      (omega (arith, le)) (tt, r),
+                ),
+              ),
+            ),
+          ),
+        ),
+      )
+
   -- the result of a call has the bytes of the function's
   result_ok : (g t : ℕ) (ty : PlainType) (h : PlainFunction) → slice_get program.functions g ≡ Some h → ty ≡ h.returns
       → IsExprType program ty → t < slots → (g < length (lowered program (plain_table table)).functions) × IsResult
-      (lowered program (plain_table table)) results f slots all g (result_temp t ty)
+      (length table.dynamics.items) (lowered program (plain_table table)) results f slots all g (result_temp t ty)
   result_ok g t ty h e same k lt = (within, by_type ty k same)
     where
       within : g < length (lowered program (plain_table table)).functions
@@ -762,8 +856,8 @@ module _ (program : PlainProgram) (table : IoTable) (valid : Valid program table
       bytes : results g ≡ scalar_size h.returns
       bytes = ap (λ z. unwrap_or (option_map (λ (h : PlainFunction). scalar_size h.returns) z) 0) e
 
-      by_type : (ty : PlainType) → IsExprType program ty → ty ≡ h.returns → IsResult (lowered program (plain_table table)) results f slots
-          all g (result_temp t ty)
+      by_type : (ty : PlainType) → IsExprType program ty → ty ≡ h.returns → IsResult (length table.dynamics.items)
+          (lowered program (plain_table table)) results f slots all g (result_temp t ty)
       by_type void k same = tt
       by_type (integer s b) k same = (temp_ok t (integer s b) lt k, ap scalar_size same ∙ sym bytes)
       by_type (fixed q s) k same = (temp_ok t (fixed q s) lt tt, ap scalar_size same ∙ sym bytes)
@@ -939,6 +1033,10 @@ module _ (program : PlainProgram) (table : IoTable) (valid : Valid program table
         (port_places (port_operation op).action (port_value (port_operation op)) i w t slots tp.value le) r))
     node_ok ty mode (group acquire g) l t rest k tp v le s r = group_ok acquire (slice_get (plain_table table).groups g) t rest
         (group_pairs table pairs g) (omega (arith, le)) r
+    node_ok ty mode (bind d choice) l t rest k tp v le s r = bind_ok d choice t rest (omega (arith, le)) r
+    node_ok ty mode (dynamic_group acquire d) l t rest k tp v le s r =
+        choices_ok acquire mode d (choices_of (plain_table table) d) l t rest tp.0 (are_choices table valid.ports pairs d).bytes
+        (omega (arith, le)) s r
 
     pub unread_ok : (e : PlainExpr) (l t : ℕ) (rest : List PlainIr) → ValidExpr program table f e → t + expr_need e ≤ slots
         → Stands all (unread_code program (plain_table table) e l t rest) → AllGood rest

@@ -1,12 +1,13 @@
 -- Whole programs.
 use Rattle.std.proofs.Common.{◌≡◌, ℕ, zero, suc, ◌+◌, ◌*◌, Bool, true, false, not, ℤ, pos, List, [], ◌∷◌, length, map, Option, Some}
 use Rattle.std.proofs.Common.{None, refl, sym, ap, ◌∙◌, subst, inl, inr, arith, eq-eqb}
-use Rattle.std.specs.Prelude.{⊤, ◌==◌, ◌||◌, IsTrue, nat_le, slice_get, replicate, option_map, option_and_then}
+use Rattle.std.specs.Prelude.{⊤, ◌==◌, ◌||◌, IsTrue, nat_le, slice_get, replicate, option_map, option_and_then, unwrap_or}
 use Rattle.std.specs.List.{AllByRecursion}
 use Rattle.std.proofs.lemmas.Option.{slice_get-map}
 use Rattle.std.proofs.lemmas.Bool.{le-leb}
 use Rattle.ec_runs.specs.Behaviours.{Running, Ended, Reached, Reaches}
 use Rattle.ec_runs.proofs.Runs.{what_reaches_stays_within}
+use Rattle.ec_iohw.specs.declared.table.Choice.{Choice}
 use Rattle.ec_core.specs.declared.programs.LeafInit.{LeafInit}
 use Rattle.ec_core.specs.declared.programs.LeafInit.TheVariants.{Number as TheNumber, Null as TheNull, Address}
 use Rattle.ec_core.specs.declared.values.Undefined.{Undefined}
@@ -17,7 +18,7 @@ use Rattle.ec_core.specs.Layout.{IsScalar, PlainLeaf, leaves_of_type}
 use Rattle.ec_core.specs.Meaning.{initial_value, initial_object, initial_state, run as source_run, number_of, behaviour_of}
 use Rattle.ec_core.specs.Meaning.{source, state_of}
 use Rattle.ec_core.specs.Plain.{PlainType, void, PlainStorage, static, local, param, register, PlainObject, PlainFunction, PlainProgram}
-use Rattle.ec_core.specs.PortTable.{plain_table}
+use Rattle.ec_core.specs.PortTable.{PlainTable, plain_table}
 use Rattle.ec_core.specs.State.{Inputs, Event, State, worked, Outcome, got, more, undefined, next, given}
 use Rattle.ec_core.specs.Statements.{Exit, at_end, by_break, by_continue, by_return, effect_of, parameters_written, call_result}
 use Rattle.ec_core.specs.Statements.{call_of, calls_within}
@@ -25,6 +26,7 @@ use Rattle.ec_core.specs.Typing.{int}
 use Rattle.ec_core.specs.Valid.{AreInitialValues, IsStored, IsObject, IsFunction, ValidStmt}
 use Rattle.ec_core.specs.ValueTypes.{HasType, IsTypedState, GiveBytes}
 use Rattle.ec_core.specs.Words.{function_words}
+use Rattle.ec_core.proofs.Growth.{some_then}
 use Rattle.ec_core.proofs.TypedValues.{some_and}
 use Rattle.ec_ir.specs.Costs.{op_steps}
 use Rattle.ec_ir.specs.Meaning.{Mach, machine, Place, enter, leave, standing, start, run, meaning, start_state}
@@ -42,8 +44,8 @@ use Rattle.ec_lower_code.proofs.Labels.{function_resolves}
 use Rattle.ec_lower_code.proofs.Numbers.{typed_back}
 use Rattle.ec_lower_code.proofs.Objects.{kept_shown}
 use Rattle.ec_lower_code.proofs.Ops.{label_comes}
-use Rattle.ec_lower_code.proofs.Scene.{World, ports, homes, set, calls_to, law, Scene}
-use Rattle.ec_lower_code.proofs.Shown.{shown, held_of, IsShown, AreShown, Match, Stopped, stopped_at}
+use Rattle.ec_lower_code.proofs.Scene.{World, ports, homes, set, calls_to, law, few, Scene}
+use Rattle.ec_lower_code.proofs.Shown.{shown, held_of, IsShown, AreShown, choice_in, bound_in, Match, Stopped, stopped_at}
 use Rattle.ec_lower_code.proofs.Statements.{Ends, Returns, Typed}
 use Rattle.ec_lower_code.proofs.Steps.{held_is, Target, over, same, sooner, Stops, Stands, Spot, around, here, execs, Comes, Does}
 use Rattle.ec_lower_code.proofs.Steps.{after, credited, spent_on, less}
@@ -118,6 +120,17 @@ module _ (program : PlainProgram) (fs : List ℕ) where
   objects_start [] h = tt
   objects_start (o ∷ os) h = (object_starts o o.storage h.0.storage, objects_start os h.1)
 
+-- no dynamic group is bound at the beginning
+none_chosen : {A : Type 0} (xs : List A) (d k : ℕ) → unwrap_or (slice_get (map (λ x. None) xs) d) None ≡ Some k → ⊥
+none_chosen [] d k e = cc
+none_chosen (x ∷ xs) zero k e = cc
+none_chosen (x ∷ xs) (suc d) k e = none_chosen xs d k e
+
+none_bound : (program : PlainProgram) (table : PlainTable) (d : ℕ) (c : Choice)
+    → bound_in table (initial_state program table).groups d ≡ Some c → ⊥
+none_bound program table d c e =
+    let k = some_then (choice_in (initial_state program table).groups d) _ c e in none_chosen table.dynamics d k.0 k.1
+
 -- ---- the end
 
 number_shown : (v : Value) → number_of (shown v) ≡ number_of v
@@ -138,7 +151,7 @@ module _ (wd : World) (main : PlainFunction) (is : slice_get wd.program.function
       depth = deep;
       f = wd.program.main;
       code = code;
-      resolves = function_resolves wd.program (ports wd) main;
+      resolves = function_resolves wd.program (ports wd) (few wd) main;
       stack = [];
       runs = ap (λ b. b || false) (eq-eqb wd.program.main wd.program.main refl);
       callee = callee_runs wd deep;
@@ -186,15 +199,16 @@ module _ (wd : World) (main : PlainFunction) (is : slice_get wd.program.function
             )
 
     abbrev Finishes : Place → Mach → Outcome Value → Type 0
-    Finishes q m o = Does w wd.n q m (λ v. over (shown v)) (λ v s u. Match (homes wd) [] 0 s u) o
+    Finishes q m o = Does w wd.n q m (λ v. over (shown v)) (λ v s u. Match (homes wd) (ports wd) [] 0 s u) o
 
     -- a return without a value, where the body is left at its end
-    falls : (s : State) (u : Mach) → Match (homes wd) (around w) 40 s u → Finishes (here w (return_from None ∷ [])) u
+    falls : (s : State) (u : Mach) → Match (homes wd) (ports wd) (around w) 40 s u → Finishes (here w (return_from None ∷ [])) u
         (got (Number (pos 0)) (frame_ended wd.program wd.program.main s))
     falls s u h =
         let v : Mach = machine u.temps (worked (op_steps (return_from None)) u.state) in (
           v,
-          frame_match wd wd.program.main 0 [] s u.temps v.state (spent_on (homes wd) 40 0 (return_from None) u.temps s u (omega arith) h)
+          frame_match wd wd.program.main 0 [] s u.temps v.state (spent_on (homes wd) (ports wd) 40 0 (return_from None) u.temps s u
+              (omega arith) h)
               u.temps,
           record { by = λ k. (suc k, omega arith, same refl) },
         )
@@ -205,36 +219,37 @@ module _ (wd : World) (main : PlainFunction) (is : slice_get wd.program.function
         → Finishes (here w q) m (next o (λ x s. call_result int true x (frame_ended wd.program wd.program.main s)))
     unfolding returns_to
     finishes q m end may is (got at_end s) by d =
-        after w (λ v. over (shown v)) (λ v s u. Match (homes wd) [] 0 s u) wd.n (here w q) (here w (label 0 ∷ end)) m d.0
+        after w (λ v. over (shown v)) (λ v s u. Match (homes wd) (ports wd) [] 0 s u) wd.n (here w q) (here w (label 0 ∷ end)) m d.0
         (got (Number (pos 0)) (frame_ended wd.program wd.program.main s)) d.2
-        (after w (λ v. over (shown v)) (λ v s u. Match (homes wd) [] 0 s u) wd.n (here w (label 0 ∷ end)) (here w end) d.0 d.0
+        (after w (λ v. over (shown v)) (λ v s u. Match (homes wd) (ports wd) [] 0 s u) wd.n (here w (label 0 ∷ end)) (here w end) d.0 d.0
         (got (Number (pos 0)) (frame_ended wd.program wd.program.main s)) (label_comes w 0 end d.0)
-        (subst (λ (z : List PlainIr). Finishes (here w z) d.0 (got (Number (pos 0)) (frame_ended wd.program wd.program.main s))) (sym (is by))
+        (subst (λ (z : List PlainIr). Finishes (here w z) d.0 (got (Number (pos 0)) (frame_ended wd.program wd.program.main s))) (sym (is
+        by))
         (falls s d.0 d.1.left.match)))
     finishes q m end may is (got by_break s) by d = absurd by
     finishes q m end may is (got by_continue s) by d = absurd by
     finishes q m end may is (got (by_return None) s) by d = (
       d.0,
-      less (homes wd) 40 0 (frame_ended wd.program wd.program.main s) d.0 (omega arith)
+      less (homes wd) (ports wd) 40 0 (frame_ended wd.program wd.program.main s) d.0 (omega arith)
           d.1.left.match,
       d.2,
     )
     finishes q m end may is (got (by_return (Some v)) s) by d = (
       d.0,
-      less (homes wd) 40 0 (frame_ended wd.program wd.program.main s) d.0 (omega arith)
+      less (homes wd) (ports wd) 40 0 (frame_ended wd.program wd.program.main s) d.0 (omega arith)
           d.1.left.match,
       d.2,
     )
     finishes q m end may is (more s) by d = d
     finishes q m end may is (undefined point s) by d = tt
 
-    main_runs : (s : State) (m : Mach) → Match (homes wd) (around w) 0 s m → IsTypedState wd.program s
+    main_runs : (s : State) (m : Mach) → Match (homes wd) (ports wd) (around w) 0 s m → IsTypedState wd.program s
         → Finishes (here w code) m (call_of (set wd) (calls_to wd deep) wd.n wd.program.main (Some main) [] s)
     unfolding returns_to
     main_runs s m h st =
         let all : Stands code code = ([], refl) in
         let q = end_code main.body in
-        let end = function_resolves wd.program (ports wd) main 0 q (stmt_behind wd.program (ports wd) code main.body 1 0 0
+        let end = function_resolves wd.program (ports wd) (few wd) main 0 q (stmt_behind wd.program (ports wd) code main.body 1 0 0
         (label 0 ∷ q) all) in
         let function_is : IsFunction wd.program wd.io wd.program.main main = (law wd).functions wd.program.main main is in
         subst (λ (ps : List ℕ). Finishes (here w code) m (next (parameters_written (set wd) ps [] (worked function_words s))
@@ -254,7 +269,7 @@ module _ (wd : World) (main : PlainFunction) (is : slice_get wd.program.function
         (stmt_runs wd inside returns_to main.body false 1 0 0 40 (label 0 ∷ q) q q
         (run_parts wd.program wd.io wd.valid wd.program.main main is (inl refl))
         (subst (λ (ty : PlainType). ValidStmt wd.program wd.io wd.program.main ty false main.body) returns function_is.body) all end end
-        (worked function_words s) m (credited (homes wd) 40 0 s m h) st))))
+        (worked function_words s) m (credited (homes wd) (ports wd) 40 0 s m h) st))))
 
   abbrev w0 : Spot
   w0 = w 0
@@ -263,7 +278,7 @@ module _ (wd : World) (main : PlainFunction) (is : slice_get wd.program.function
   first = here w0 code
 
   abbrev EndsAll : Outcome Value → Type 0
-  EndsAll o = Does w0 wd.n first (start (homes wd)) (λ v. over (shown v)) (λ v s u. Match (homes wd) [] 0 s u) o
+  EndsAll o = Does w0 wd.n first (start (homes wd)) (λ v. over (shown v)) (λ v s u. Match (homes wd) (ports wd) [] 0 s u) o
 
   -- what holds of one depth of calls holds of another
   any_depth : (deep : ℕ) (o : Outcome Value) → Finishes deep (here (w deep) code) (start (homes wd)) o → EndsAll o
@@ -271,11 +286,12 @@ module _ (wd : World) (main : PlainFunction) (is : slice_get wd.program.function
   any_depth deep (more s) r = r
   any_depth deep (undefined point s) r = tt
 
-  starts : Match (homes wd) (around w0) 0 (initial_state wd.program (plain_table wd.io)) (start (homes wd))
+  starts : Match (homes wd) (ports wd) (around w0) 0 (initial_state wd.program (plain_table wd.io)) (start (homes wd))
   starts = record {
     objects = kept_shown (homes wd) (around w0) (around w0) (around w0) (λ f e. e) (λ f e. e) wd.program.objects
         (initial_state wd.program (plain_table wd.io)).objects (start_state (homes wd)).objects
         (objects_start wd.program (around w0) wd.program.objects wd.valid.objects);
+    cells = record { room = refl; bases = λ d c e. absurd (none_bound wd.program (plain_table wd.io) d c e) };
     events = refl;
     spent = omega arith;
   }

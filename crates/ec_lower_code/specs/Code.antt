@@ -7,6 +7,7 @@ use Rattle.ec_fx.specs.declared.numbers.Mode.{Mode}
 use Rattle.ec_iohw.specs.declared.operations.IoOp.{IoOp}
 use Rattle.ec_iohw.specs.declared.operations.IoOp.TheVariants.{Or, OrLong, OrBuffer, OrBufferLong, And, AndLong}
 use Rattle.ec_iohw.specs.declared.operations.IoOp.TheVariants.{AndBuffer, AndBufferLong}
+use Rattle.ec_iohw.specs.declared.table.Choice.{Choice}
 use Rattle.ec_iohw.specs.declared.table.Pair.{Pair}
 use Rattle.ec_space.specs.declared.space.SpaceId.{SpaceId}
 use Rattle.ec_space.specs.declared.space.SpaceId.TheVariants.{Data}
@@ -21,7 +22,8 @@ use Rattle.ec_core.specs.Needs.{stmt_need}
 use Rattle.ec_core.specs.Operators.{number_type, OperationTypes, operation_types, step_operator}
 use Rattle.ec_core.specs.Plain.{PlainType, void, integer, pointer, PlainExpr, expression, PlainNode, number, null, load}
 use Rattle.ec_core.specs.Plain.{address_of, unary, binary, convert, assign, compound, step, logical_not, logical_and}
-use Rattle.ec_core.specs.Plain.{logical_or, conditional, comma, call, io, group, PlainPlace, object, deref, member}
+use Rattle.ec_core.specs.Plain.{logical_or, conditional, comma, call, io, group, bind, dynamic_group, PlainPlace}
+use Rattle.ec_core.specs.Plain.{object, deref, member}
 use Rattle.ec_core.specs.Plain.{OptionPlainExpr, no_expr, an_expr, PlainExprs}
 use Rattle.ec_core.specs.Plain.{last_expr, next_expr, PlainStmt, statement, PlainKind, empty, evaluate, block, declare}
 use Rattle.ec_core.specs.Plain.{branch, while_loop, do_loop, for_loop, break_loop, continue_loop, return_value}
@@ -29,12 +31,13 @@ use Rattle.ec_core.specs.Plain.{OptionPlainStmt, no_stmt, a_stmt, PlainStmts, la
 use Rattle.ec_core.specs.Plain.{PlainProgram}
 use Rattle.ec_core.specs.PortAccesses.{pairs_of}
 use Rattle.ec_core.specs.PortOperations.{PortAction, reads, writes, updates, port_operation}
-use Rattle.ec_core.specs.PortTable.{PlainPort, PlainGroup, PlainTable}
+use Rattle.ec_core.specs.PortTable.{PlainPort, PlainGroup, PlainTable, choices_of}
 use Rattle.ec_core.specs.TypeLaws.{factor_beside}
 use Rattle.ec_core.specs.Typing.{int, type_of_expr, pointer_space, place_type, port_value}
 use Rattle.ec_ir.specs.Operations.{PlainIr, constant, copy, address, field, load_at, store_at, load_object}
 use Rattle.ec_ir.specs.Operations.{store_object, binary_op, unary_op, conversion, label, jump, branch_zero}
-use Rattle.ec_ir.specs.Operations.{call_function, return_from, port_in, port_out, PlainIrFunction, PlainIrProgram}
+use Rattle.ec_ir.specs.Operations.{call_function, return_from, port_in, port_out, load_cell, store_cell, cell_port}
+use Rattle.ec_ir.specs.Operations.{PlainIrFunction, PlainIrProgram}
 use Rattle.ec_ir.specs.declared.operations.Temp.{Temp}
 
 -- ---- temporaries
@@ -111,6 +114,9 @@ abbrev mutual
   node_labels (call f args) = exprs_labels args
   node_labels (io op port index value) = option_labels index + option_labels value
   node_labels (group acquire g) = 0
+  node_labels (bind d choice) = 0
+  -- two for each of at most eight choices, so that the table need not be known
+  node_labels (dynamic_group acquire d) = 16
 
   pub place_labels : PlainPlace → ℕ
   place_labels (object o) = 0
@@ -298,16 +304,29 @@ port_operator AndBuffer = AndOp
 port_operator AndBufferLong = AndOp
 port_operator op = XorOp
 
--- the bytes of a port from an address on, where values are of a type: they are read to t; written from v; or read to
+-- bytes are read from an address on, or written there; with a dynamic group the address counts from what its cell holds
+abbrev pub read_from :
+    (dynamic : Option ℕ) → (to : Temp) → (offset : ℕ) → (index : Option Temp) → (width : ℕ) → PlainIr
+read_from None to offset index width = port_in to offset index width
+read_from (Some d) to offset index width = cell_port true to d offset index width
+
+abbrev pub write_to :
+    (dynamic : Option ℕ) → (from : Temp) → (offset : ℕ) → (index : Option Temp) → (width : ℕ) → PlainIr
+write_to None from offset index width = port_out from offset index width
+write_to (Some d) from offset index width = cell_port false from d offset index width
+
+-- the bytes of a port from its address on, where values are of a type: they are read to t; written from v; or read to
 -- v + 1, combined with the value at v, and written
 abbrev pub port_code :
     PortAction → BinOp → PlainType → Mode → PlainPort → Option Temp → (t v : ℕ) → List PlainIr → List PlainIr
-port_code reads op ty mode port index t v rest = port_in (temp t ty) port.address index port.width ∷ rest
-port_code writes op ty mode port index t v rest = port_out (temp v ty) port.address index port.width ∷ rest
+port_code reads op ty mode port index t v rest =
+    read_from port.dynamic (temp t ty) port.address index port.width ∷ rest
+port_code writes op ty mode port index t v rest =
+    write_to port.dynamic (temp v ty) port.address index port.width ∷ rest
 port_code updates op ty mode port index t v rest =
-    port_in (temp (v + 1) ty) port.address index port.width
+    read_from port.dynamic (temp (v + 1) ty) port.address index port.width
     ∷ binary_op op ty mode (temp (v + 1) ty) (temp (v + 1) ty) ty (temp v ty) ty
-    ∷ port_out (temp (v + 1) ty) port.address index port.width ∷ rest
+    ∷ write_to port.dynamic (temp (v + 1) ty) port.address index port.width ∷ rest
 
 -- an operation on a port of the table, from its operands on: the index at t, and the value behind it
 abbrev pub access_code :
@@ -332,6 +351,29 @@ pairs_code (pair ∷ pairs) t rest =
 abbrev pub group_code : Bool → Option PlainGroup → (t : ℕ) → List PlainIr → List PlainIr
 group_code acquire None t rest = rest
 group_code acquire (Some g) t rest = pairs_code (pairs_of acquire g) t rest
+
+-- the cell of a dynamic group gets the base of a choice
+abbrev pub bind_code : (dynamic : ℕ) → Option Choice → (t : ℕ) → List PlainIr → List PlainIr
+bind_code d None t rest = rest
+bind_code d (Some c) t rest =
+    constant (temp t byte_type) (pos c.base) ∷ store_cell d (temp t byte_type) ∷ rest
+
+-- a branch to a label where the cell of a dynamic group holds a base
+abbrev pub base_test : Mode → (dynamic base : ℕ) → (l t : ℕ) → List PlainIr → List PlainIr
+base_test mode d base l t rest =
+    load_cell (temp t byte_type) d ∷ constant (temp (t + 1) byte_type) (pos base)
+    ∷ binary_op XorOp byte_type mode (temp t byte_type) (temp t byte_type) byte_type (temp (t + 1) byte_type) byte_type
+    ∷ branch_zero (temp t byte_type) l ∷ rest
+
+-- the acquire or the release of the group of that choice whose base the cell holds. The last choice needs no test; the
+-- code of another one stands behind that of the choices after it
+abbrev pub choices_code :
+    Bool → PlainTable → Mode → (dynamic : ℕ) → List Choice → (l t : ℕ) → List PlainIr → List PlainIr
+choices_code acquire table mode d [] l t rest = rest
+choices_code acquire table mode d (c ∷ []) l t rest = group_code acquire (slice_get table.groups c.group) t rest
+choices_code acquire table mode d (c ∷ other ∷ cs) l t rest =
+    base_test mode d c.base l t (choices_code acquire table mode d (other ∷ cs) (l + 2) t (jump (l + 1) ∷ label l
+    ∷ group_code acquire (slice_get table.groups c.group) t (label (l + 1) ∷ rest)))
 
 -- a block with a return among its statements, which is not left at its end
 abbrev pub is_return : PlainKind → Bool
@@ -427,6 +469,9 @@ module _ (program : PlainProgram) (table : PlainTable) where
         option_code index l t (option_code value (l + option_labels index) (place_behind index t)
         (access_code op mode (slice_get table.ports port) index t rest))
     node_code ty mode (group acquire g) l t rest = group_code acquire (slice_get table.groups g) t rest
+    node_code ty mode (bind d choice) l t rest = bind_code d (slice_get (choices_of table d) choice) t rest
+    node_code ty mode (dynamic_group acquire d) l t rest =
+        choices_code acquire table mode d (choices_of table d) l t rest
 
     -- an expression whose value nobody reads: a postfix step keeps no old value then
     pub unread_code : PlainExpr → (l t : ℕ) → List PlainIr → List PlainIr

@@ -9,23 +9,26 @@ use Rattle.ec_core.specs.Operators.{step_operator}
 use Rattle.ec_core.specs.declared.expressions.BinOp.{BinOp}
 use Rattle.ec_core.specs.Plain.{PlainType, void, integer, fixed, pointer, array, struct, PlainExpr, expression, PlainNode}
 use Rattle.ec_core.specs.Plain.{number, null, load, address_of, unary, binary, convert, assign, compound, step, logical_not}
-use Rattle.ec_core.specs.Plain.{logical_and, logical_or, conditional, comma, call, io, group, PlainPlace, object, deref, member}
+use Rattle.ec_core.specs.Plain.{logical_and, logical_or, conditional, comma, call, io, group, bind, dynamic_group}
+use Rattle.ec_core.specs.Plain.{PlainPlace, object, deref, member}
 use Rattle.ec_core.specs.Plain.{OptionPlainExpr, no_expr, an_expr, PlainExprs, last_expr, next_expr, PlainStmt, statement}
 use Rattle.ec_core.specs.Plain.{PlainKind, empty, evaluate, block, declare, branch, while_loop, do_loop, for_loop, break_loop}
 use Rattle.ec_core.specs.Plain.{continue_loop, return_value, OptionPlainStmt, no_stmt, a_stmt, PlainStmts, last_stmt, next_stmt}
 use Rattle.ec_core.specs.Plain.{PlainFunction, PlainProgram}
 use Rattle.ec_core.specs.PortAccesses.{pairs_of}
 use Rattle.ec_core.specs.PortOperations.{PortAction, reads, writes, updates, port_operation}
-use Rattle.ec_core.specs.PortTable.{PlainPort, PlainGroup, plain_table}
+use Rattle.ec_core.specs.PortTable.{PlainPort, PlainGroup, PlainTable, plain_table, choices_of}
 use Rattle.ec_iohw.specs.declared.operations.IoOp.{IoOp}
 use Rattle.ec_iohw.specs.declared.operations.IoOp.TheVariants.{Read, ReadLong, ReadBuffer, ReadBufferLong, Write, WriteLong, WriteBuffer}
 use Rattle.ec_iohw.specs.declared.operations.IoOp.TheVariants.{WriteBufferLong, Or, OrLong, OrBuffer, OrBufferLong, And, AndLong, AndBuffer}
 use Rattle.ec_iohw.specs.declared.operations.IoOp.TheVariants.{AndBufferLong, Xor, XorLong, XorBuffer, XorBufferLong}
+use Rattle.ec_iohw.specs.declared.table.Choice.{Choice}
 use Rattle.ec_iohw.specs.declared.table.Pair.{Pair}
 use Rattle.ec_core.specs.Typing.{int, type_of_expr, unsigned_int, unsigned_long, IsTyped}
 use Rattle.ec_core.specs.Valid.{IsExprType, ValidExpr, ValidParts, ValidPlace, ValidOption, ValidExprs}
 use Rattle.ec_core.specs.Valid.{ValidCondition, ValidOptional, ValidStmt, ValidKind, ValidOptionStmt, ValidStmts, IsFunction}
-use Rattle.ec_core.specs.Words.{widest, pointer_types, member_words, choice_words, group_words, port_words, total_size}
+use Rattle.ec_core.specs.Words.{widest, pointer_types, member_words, choice_words, group_words, port_words, bind_words}
+use Rattle.ec_core.specs.Words.{dynamic_words, total_size}
 use Rattle.ec_ir.specs.Costs.{branch_zero_words, index_words, temp_bytes}
 use Rattle.ec_ir.specs.Operations.{PlainIr, store_object, binary_op, unary_op, conversion, label, jump}
 use Rattle.ec_ir.specs.Operations.{call_function, return_from}
@@ -33,7 +36,8 @@ use Rattle.ec_ir.specs.declared.operations.Temp.{Temp}
 use Rattle.ec_lower_code.specs.Code.{temp, result_temp, truth_code, place_labels, Site, named, pointed, further_code, load_from}
 use Rattle.ec_lower_code.specs.Code.{store_to, value_place, settled_code, address_code, change_code, step_code}
 use Rattle.ec_lower_code.specs.Code.{offset_of, site, place_code, params_of, params_code, port_operator, port_code}
-use Rattle.ec_lower_code.specs.Code.{place_behind, operand_temp, access_code, pairs_code, group_code, option_labels}
+use Rattle.ec_lower_code.specs.Code.{read_from, write_to, place_behind, operand_temp, access_code, pairs_code, group_code, bind_code}
+use Rattle.ec_lower_code.specs.Code.{choices_code, option_labels}
 use Rattle.ec_lower_code.specs.Code.{option_code, expr_labels, optional_labels, option_stmt_labels, stmt_labels, expr_code}
 use Rattle.ec_lower_code.specs.Code.{node_code, args_code, init_code, test_code, last_code, leaves_of_object, stmt_code}
 use Rattle.ec_lower_code.specs.Code.{kind_code, option_stmt_code, stmts_code, body_returns, end_of, end_code, function_code}
@@ -192,17 +196,36 @@ module _ (w : Shape → ℕ) where
       by_operator XorBuffer = omega arith
       by_operator XorBufferLong = omega arith
 
+  -- an access of a port, whose address counts from a cell or does not
+  read_cost : (dynamic : Option ℕ) (to : Temp) (offset : ℕ) (index : OptionPlainExpr) (t width : ℕ)
+      → op_cost w (read_from dynamic to offset (operand_temp index t) width) ≤ 40 + 10 * width + 5 * to.bytes
+  read_cost None to offset index t width = let i = index_pays index t in omega (arith, i)
+  read_cost (Some d) to offset index t width = omega arith
+
+  write_cost : (dynamic : Option ℕ) (from : Temp) (offset : ℕ) (index : OptionPlainExpr) (t width : ℕ)
+      → op_cost w (write_to dynamic from offset (operand_temp index t) width) ≤ 40 + 10 * width + 5 * from.bytes
+  write_cost None from offset index t width = let i = index_pays index t in omega (arith, i)
+  write_cost (Some d) from offset index t width = omega arith
+
   -- an operation on a port, where it takes an index or not
   port_fits : (action : PortAction) (op : IoOp) (long : Bool) (mode : Mode) (port : PlainPort) (index : OptionPlainExpr) (t v : ℕ)
       (rest : List PlainIr)
       → code_cost w (port_code action (port_operator op) (if long then unsigned_long else unsigned_int) mode port (operand_temp index t) t v
       rest) ≤ port_words action port.width + code_cost w rest
-  port_fits reads op long mode port index t v rest = let i = index_pays index t in let b = port_bytes long in omega (arith, i, b)
-  port_fits writes op long mode port index t v rest = let i = index_pays index t in omega (arith, i)
+  port_fits reads op long mode port index t v rest =
+      let i = read_cost port.dynamic (temp t (if long then unsigned_long else unsigned_int)) port.address index t port.width in
+      let b = port_bytes long in omega (arith, i, b)
+  port_fits writes op long mode port index t v rest =
+      let i = write_cost port.dynamic (temp v (if long then unsigned_long else unsigned_int)) port.address index t port.width in
+      let b = port_bytes long in omega (arith, i, b)
   port_fits updates op true mode port index t v rest =
-      let i = index_pays index t in let u = operator_cost op true mode in omega (arith, i, u)
+      let i = read_cost port.dynamic (temp (v + 1) unsigned_long) port.address index t port.width in
+      let o = write_cost port.dynamic (temp (v + 1) unsigned_long) port.address index t port.width in
+      let u = operator_cost op true mode in omega (arith, i, o, u)
   port_fits updates op false mode port index t v rest =
-      let i = index_pays index t in let u = operator_cost op false mode in omega (arith, i, u)
+      let i = read_cost port.dynamic (temp (v + 1) unsigned_int) port.address index t port.width in
+      let o = write_cost port.dynamic (temp (v + 1) unsigned_int) port.address index t port.width in
+      let u = operator_cost op false mode in omega (arith, i, o, u)
 
   access_fits : (op : IoOp) (mode : Mode) (port : Option PlainPort) (index : OptionPlainExpr) (t : ℕ) (rest : List PlainIr)
       → code_cost w (access_code op mode port index t rest) ≤ port_words (port_operation op).action
@@ -220,6 +243,28 @@ module _ (w : Shape → ℕ) where
       0) + code_cost w rest
   group_fits acquire None t rest = omega arith
   group_fits acquire (Some x) t rest = let y = pairs_fit (pairs_of acquire x) t rest in omega (arith, y)
+
+  -- without the words of a row
+  pairs_of_fit : (acquire : Bool) (x : Option PlainGroup) (t : ℕ) (rest : List PlainIr) → code_cost w (group_code acquire x t rest)
+      ≤ 10 * unwrap_or (option_map (λ (y : PlainGroup). length (pairs_of acquire y)) x) 0 + code_cost w rest
+  pairs_of_fit acquire None t rest = omega arith
+  pairs_of_fit acquire (Some x) t rest = pairs_fit (pairs_of acquire x) t rest
+
+  bind_fits : (d : ℕ) (c : Option Choice) (t : ℕ) (rest : List PlainIr)
+      → code_cost w (bind_code d c t rest) ≤ bind_words + code_cost w rest
+  bind_fits d None t rest = omega arith
+  bind_fits d (Some c) t rest = omega arith
+
+  choices_fit : (acquire : Bool) (table : PlainTable) (mode : Mode) (d : ℕ) (cs : List Choice) (l t : ℕ) (rest : List PlainIr)
+      → code_cost w (choices_code acquire table mode d cs l t rest) ≤ dynamic_words table acquire cs + code_cost w rest
+  choices_fit acquire table mode d [] l t rest = omega arith
+  choices_fit acquire table mode d (c ∷ []) l t rest =
+      let x = pairs_of_fit acquire (slice_get table.groups c.group) t rest in omega (arith, x)
+  choices_fit acquire table mode d (c ∷ other ∷ cs) l t rest =
+      let after_group : List PlainIr = label (l + 1) ∷ rest in
+      let pairs = group_code acquire (slice_get table.groups c.group) t after_group in
+      let x = choices_fit acquire table mode d (other ∷ cs) (l + 2) t (jump (l + 1) ∷ label l ∷ pairs) in
+      let y = pairs_of_fit acquire (slice_get table.groups c.group) t after_group in omega (arith, x, y)
 
   address_fits : (s : Site) (ty : PlainType) (t : ℕ) (rest : List PlainIr)
       → code_cost w (address_code s ty t rest) ≤ 5 * scalar_size ty + code_cost w rest
@@ -431,6 +476,11 @@ module _ (w : Shape → ℕ) (program : PlainProgram) (table : IoTable) (f : ℕ
         (omega (arith, x0, y0, z), λ h. x.1 (y.1 h))
     node_fits ty mode (group acquire g) l t rest ps k tp v =
         let x = group_fits w acquire (slice_get (plain_table table).groups g) t rest in (omega (arith, x), λ h. h)
+    node_fits ty mode (bind d choice) l t rest ps k tp v =
+        let x = bind_fits w d (slice_get (choices_of (plain_table table) d) choice) t rest in (omega (arith, x), λ h. h)
+    node_fits ty mode (dynamic_group acquire d) l t rest ps k tp v =
+        let x = choices_fit w acquire (plain_table table) mode d (choices_of (plain_table table) d) l t rest in
+        (omega (arith, x), λ h. h)
 
     unread_fits : (e : PlainExpr) (l t : ℕ) (rest : List PlainIr) (ps : List Part) → ValidExpr program table f e
         → Fits w (unread_code program (plain_table table) e l t rest) rest (expr_parts (plain_table table) e ps) ps

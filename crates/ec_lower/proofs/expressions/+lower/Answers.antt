@@ -231,3 +231,10 @@ lower_branch-returns-in_ok-put_branch-in_default-clause-code t c = λ rest.
     ∙ ap (λ code. map plain_ir c.args.code.now.items ++ code) (branch_else (plain_program c.args.program.now) (plain_table c.args.io.now)
     (plain_type c.args.e.now.ty) c.args.e.now.mode c.args.l c.args.t c.args.e.now.node c.in_default.not-Not c.in_default.not-And
     c.in_default.not-Or (plain_branch c.args.to) rest)
+
+pub lower_port-returns-in_default : goal.lower_port-returns-in_default
+lower_port-returns-in_default t c = record {
+  next = c.lower_dynamic.ensures.next;
+  code = so c.lower_dynamic.result c.lower_dynamic.ensures.code
+      (λ h. h (plain_program c.args.program.now) (plain_type c.args.ty.now));
+}
