@@ -1,5 +1,5 @@
 -- Tables, functions and routines, one after another.
-use Rattle.std.proofs.Common.{◌≡◌, ◌⊎◌, ℕ, zero, suc, ◌+◌, ◌<◌, ◌≤◌, ◌==◌, Bool, true, false, List, [], ◌∷◌, ◌++◌, refl}
+use Rattle.std.proofs.Common.{◌≡◌, ◌⊎◌, ℕ, zero, suc, ◌+◌, ◌<◌, ◌==◌, Bool, true, false, List, [], ◌∷◌, ◌++◌, refl}
 use Rattle.std.proofs.Common.{sym, ◌∙◌, ap, subst, arith, append_assoc, inl, inr, length, map, drop}
 use Rattle.std.specs.Prelude.{Option, Some, None, option_map, slice_get, get_or}
 use Rattle.std.proofs.lemmas.Option.{slice_get-map, slice_get_read}
@@ -13,7 +13,7 @@ use Rattle.ec_ir.specs.declared.operations.IrFunc.{IrFunc}
 use Rattle.ec_ir.specs.Operations.{PlainIrFunction, PlainIrProgram, plain_ir_function, data_of}
 use Rattle.ec_ir.specs.Operations.{PlainIr, constant, copy, address, field, load_at, store_at, load_object}
 use Rattle.ec_ir.specs.Operations.{store_object, binary_op, unary_op, conversion, label, jump, branch_zero}
-use Rattle.ec_ir.specs.Operations.{call_function, return_from, port_in, port_out}
+use Rattle.ec_ir.specs.Operations.{call_function, return_from, port_in, port_out, load_cell, store_cell, cell_port}
 use Rattle.ec_select_live.specs.Least.{IsLeast}
 use Rattle.ec_select_live.specs.Tables.{needs_of}
 use Rattle.ec_ir_known.specs.Known.{right_numbers, numbers_left, HasResultPlace, HaveResultPlaces}
@@ -127,6 +127,10 @@ result_placed s (call_function f (Some t)) h = h.0
 result_placed s (return_from from) h = tt
 result_placed s (port_in to port index width) h = h.0.0
 result_placed s (port_out from port index width) h = tt
+result_placed s (load_cell to cell) h = h.0
+result_placed s (store_cell cell from) h = tt
+result_placed s (cell_port true to cell offset index width) h = h.0.0
+result_placed s (cell_port false from cell offset index width) h = tt
 
 pub results_placed : (s : ℕ) (code : List PlainIr) → HavePlaces s code → HaveResultPlaces s code
 results_placed s [] h = tt

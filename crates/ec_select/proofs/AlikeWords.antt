@@ -43,10 +43,10 @@ abbrev pub HasOperandTypes : PlainIr → Type 0
 HasOperandTypes (binary_op op ty mode to a aty b bty) = HaveOperationTypes op ty aty bty
 HasOperandTypes i = ⊤
 
-pub has_operand_types : (p : PlainIrProgram) (results : ℕ → ℕ) (f slots : ℕ) (code : List PlainIr) (i : PlainIr)
-    → ValidOperation p results f slots code i → HasOperandTypes i
-has_operand_types p results f slots code (binary_op op ty mode to a aty b bty) h = h.3
-has_operand_types p results f slots code i h = tt
+pub has_operand_types : (cells : ℕ) (p : PlainIrProgram) (results : ℕ → ℕ) (f slots : ℕ) (code : List PlainIr) (i : PlainIr)
+    → ValidOperation cells p results f slots code i → HasOperandTypes i
+has_operand_types cells p results f slots code (binary_op op ty mode to a aty b bty) h = h.3
+has_operand_types cells p results f slots code i h = tt
 
 -- ---- no operator on integers but a quotient and a remainder has a shape
 
@@ -111,12 +111,18 @@ no_fixed_result Le k u s t m n c (inl h) = let q : fixed k u ≡ integer true 2 
 no_fixed_result Ge k u s t m n c (inl h) = let q : fixed k u ≡ integer true 2 = h.value in cc
 no_fixed_result Eq k u s t m n c (inl h) = let q : fixed k u ≡ integer true 2 = h.value in cc
 no_fixed_result Ne k u s t m n c (inl h) = let q : fixed k u ≡ integer true 2 = h.value in cc
-no_fixed_result Lt k u s t m n c (inr h) = h.shift
-no_fixed_result Gt k u s t m n c (inr h) = h.shift
-no_fixed_result Le k u s t m n c (inr h) = h.shift
-no_fixed_result Ge k u s t m n c (inr h) = h.shift
-no_fixed_result Eq k u s t m n c (inr h) = h.shift
-no_fixed_result Ne k u s t m n c (inr h) = h.shift
+no_fixed_result Lt k u s t m n c (inr (inl h)) = h.shift
+no_fixed_result Lt k u s t m n c (inr (inr h)) = false≢true h.bitwise
+no_fixed_result Gt k u s t m n c (inr (inl h)) = h.shift
+no_fixed_result Gt k u s t m n c (inr (inr h)) = false≢true h.bitwise
+no_fixed_result Le k u s t m n c (inr (inl h)) = h.shift
+no_fixed_result Le k u s t m n c (inr (inr h)) = false≢true h.bitwise
+no_fixed_result Ge k u s t m n c (inr (inl h)) = h.shift
+no_fixed_result Ge k u s t m n c (inr (inr h)) = false≢true h.bitwise
+no_fixed_result Eq k u s t m n c (inr (inl h)) = h.shift
+no_fixed_result Eq k u s t m n c (inr (inr h)) = false≢true h.bitwise
+no_fixed_result Ne k u s t m n c (inr (inl h)) = h.shift
+no_fixed_result Ne k u s t m n c (inr (inr h)) = false≢true h.bitwise
 no_fixed_result op k u s t m n c h = c
 
 compared_type : (op : BinOp) (ty : PlainType) (s t : Bool) (m n : ℕ) → IsComparison op

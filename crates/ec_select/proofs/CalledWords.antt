@@ -18,7 +18,7 @@ use Rattle.ec_ir.specs.declared.operations.Temp.{Temp}
 use Rattle.ec_ir.specs.Costs.{op_words}
 use Rattle.ec_ir.specs.Operations.{PlainIr, constant, copy, address, field, load_at, store_at, load_object}
 use Rattle.ec_ir.specs.Operations.{store_object, binary_op, unary_op, conversion, label, jump, branch_zero}
-use Rattle.ec_ir.specs.Operations.{call_function, return_from, port_in, port_out}
+use Rattle.ec_ir.specs.Operations.{call_function, return_from, port_in, port_out, load_cell, store_cell, cell_port}
 use Rattle.ec_ir_shapes.specs.Costs.{Code, in_line, callable, integer_code, exact_code, shape_code, shapes_with, op_shapes}
 use Rattle.ec_ir_shapes.specs.Costs.{are_exact, any_fixed, any_pointer, any_same, is_fixed, is_pointer}
 use Rattle.ec_ir_shapes.specs.Costs.{binary_code, unary_code, conversion_code}
@@ -129,6 +129,9 @@ both_within (call_function g to) s own call h e c = absurd cc
 both_within (return_from from) s own call h e c = absurd cc
 both_within (port_in to port index width) s own call h e c = absurd cc
 both_within (port_out from port index width) s own call h e c = absurd cc
+both_within (load_cell to cell) s own call h e c = absurd cc
+both_within (store_cell cell from) s own call h e c = absurd cc
+both_within (cell_port read t cell offset index width) s own call h e c = absurd cc
 
 -- A call with at most four words for each byte of the operands and two more, whose result is brought to its place
 pub called_most : (i : PlainIr) (s : Shape) (own call : ℕ) (code : List AsmItem) (to : Location) (n : ℕ) → HasTypeBytes i

@@ -1,8 +1,8 @@
 -- How often labels stand in the code of a program.
 use Rattle.std.proofs.Common.{◌≡◌, ◌≢◌, ◌⊎◌, ℕ, zero, suc, ◌+◌, ◌-◌, ◌<◌, ◌≤◌, ◌==◌, Bool, true, false, List, [], ◌∷◌}
 use Rattle.std.proofs.Common.{◌++◌, refl, sym, ◌∙◌, subst, arith, inl, inr, length}
-use Rattle.std.specs.Prelude.{cond, count_by, nat_lt, Option, Some, None, slice_get, ℤ}
-use Rattle.std.specs.List.{list_all}
+use Rattle.std.specs.Prelude.{cond, count_by, nat_lt, Option, Some, None, slice_get}
+use Rattle.std.specs.List.{list_all, AllByRecursion}
 use Rattle.std.proofs.lemmas.Bool.{eqb-true}
 use Rattle.std.proofs.lemmas.Bool.Decides.{nat_tests}
 use Rattle.std.proofs.lemmas.List.Folds.{sum_by-zero}
@@ -16,19 +16,21 @@ use Rattle.ec_asm.specs.Valid.{is_label}
 use Rattle.ec_core.specs.TypeLaws.{LeavesFillTheirTypes}
 use Rattle.ec_ir.specs.Operations.{PlainIr, constant, copy, address, field, load_at, store_at, load_object}
 use Rattle.ec_ir.specs.Operations.{store_object, binary_op, unary_op, conversion, label, jump, branch_zero}
-use Rattle.ec_ir.specs.Operations.{call_function, return_from, port_in, port_out, PlainIrFunction, PlainIrProgram}
+use Rattle.ec_ir.specs.Operations.{call_function, return_from, port_in, port_out, load_cell, store_cell, cell_port}
+use Rattle.ec_ir.specs.Operations.{PlainIrFunction, PlainIrProgram}
 use Rattle.ec_ir.specs.Operations.{data_of}
-use Rattle.ec_ir.specs.Valid.{ValidIr, count, called_in}
+use Rattle.ec_ir.specs.Valid.{count, called_in}
 use Rattle.ec_select_operations.specs.declared.families.Told.{Told}
 use Rattle.ec_ir_known.specs.declared.known.RightNumber.{RightNumber}
 use Rattle.ec_select_operations.specs.Code.{Linkage, op_code, tells_next, ops_code}
 use Rattle.ec_select_functions.specs.Covered.{IsCovered, AreCovered}
 use Rattle.ec_select_operations.specs.Homes.{home}
+use Rattle.ec_select_functions.proofs.Cells.{UsesCells, functions_use}
 use Rattle.ec_select_functions.specs.Laws.{linkage_of}
 use Rattle.ec_select_operations.specs.Needs.{Need, Facts, facts_of, needs}
 use Rattle.ec_select.specs.Labels.{label_count, function_label, first_label}
 use Rattle.ec_select.specs.Program.{made_with, code_of, functions_code}
-use Rattle.ec_select.specs.Selected.{HasCode}
+use Rattle.ec_select.specs.Selected.{ValidWithCells, HasCode}
 use Rattle.ec_select.specs.Sharing.{routine_of}
 use Rattle.ec_select.proofs.Fitting.{fits, no_label}
 use Rattle.ec_select.proofs.OneOperation.{ItemLaws, operation_passes, AcceptsLabels}
@@ -70,6 +72,9 @@ none_above m (call_function f to ∷ code) h = none_above m code (omega arith)
 none_above m (return_from from ∷ code) h = none_above m code (omega arith)
 none_above m (port_in to port index width ∷ code) h = none_above m code (omega arith)
 none_above m (port_out from port index width ∷ code) h = none_above m code (omega arith)
+none_above m (load_cell to cell ∷ code) h = none_above m code (omega arith)
+none_above m (store_cell cell from ∷ code) h = none_above m code (omega arith)
+none_above m (cell_port read t cell offset index width ∷ code) h = none_above m code (omega arith)
 
 -- labels of items for those of a function stand in a row
 same_label : (base l m : ℕ) → (base + l == base + m) ≡ (l == m)
@@ -95,6 +100,9 @@ placed_is base m (call_function f to ∷ code) = rw (placed_is base m code) (ome
 placed_is base m (return_from from ∷ code) = rw (placed_is base m code) (omega arith)
 placed_is base m (port_in to port index width ∷ code) = rw (placed_is base m code) (omega arith)
 placed_is base m (port_out from port index width ∷ code) = rw (placed_is base m code) (omega arith)
+placed_is base m (load_cell to cell ∷ code) = rw (placed_is base m code) (omega arith)
+placed_is base m (store_cell cell from ∷ code) = rw (placed_is base m code) (omega arith)
+placed_is base m (cell_port read t cell offset index width ∷ code) = rw (placed_is base m code) (omega arith)
 
 -- a label below the row is none of them
 by_below : (x base : ℕ) (i : PlainIr) → x < base → placed_by x (λ l. base + l) i ≡ 0
@@ -116,6 +124,9 @@ by_below x base (call_function f to) h = refl
 by_below x base (return_from from) h = refl
 by_below x base (port_in to port index width) h = refl
 by_below x base (port_out from port index width) h = refl
+by_below x base (load_cell to cell) h = refl
+by_below x base (store_cell cell from) h = refl
+by_below x base (cell_port read t cell offset index width) h = refl
 
 placed_below : (x base : ℕ) (code : List PlainIr) → x < base → placed_in x (λ l. base + l) code ≡ 0
 placed_below x base [] h = refl
@@ -172,7 +183,7 @@ first_label_above functions (suc k) = let r = first_label_above functions k in o
 
 -- ---- the functions of a program
 
-module _ (core : Core) (p : PlainIrProgram) (valid : ValidIr p) (has : HasCode p) (leaves : LeavesFillTheirTypes)
+module _ (core : Core) (p : PlainIrProgram) (valid : ValidWithCells p) (has : HasCode p) (leaves : LeavesFillTheirTypes)
     (pieces : ItemLaws) (tables : ℕ → ℕ → Need) where
   abbrev pub link : ℕ → PlainIrFunction → Linkage
   link f g = linkage_of core p function_label f g.slots (made_with p (routine_of core p tables) (tables f) f g)
@@ -193,63 +204,70 @@ module _ (core : Core) (p : PlainIrProgram) (valid : ValidIr p) (has : HasCode p
   others_pass : (x f : ℕ) (g : PlainIrFunction) → slice_get p.functions f ≡ Some g → (told telling : Option Told) (known : Option RightNumber)
       (need : Need)
       (i : PlainIr)
-      → IsCovered (data_of p) has.results f (called_in g.code) g.slots i → AcceptsLabels (is_other x) (link f g) i
+      → IsCovered (data_of p) has.results f (called_in g.code) g.slots i → UsesCells valid.0 i
+      → AcceptsLabels (is_other x) (link f g) i
       → count_by (is_label x) (op_code (data_of p) (home (link f g).homes) (link f g) told telling known need i) ≡ 0
   unfolding is_other
-  others_pass x f g e told telling known need i h a =
+  others_pass x f g e told telling known need i h u a =
       none_there x (op_code (data_of p) (home (link f g).homes) (link f g) told telling known need i)
-      (operation_passes (own_sizes p valid) (data_of p) (link f g) (has_room p valid f g e) (objects_fit p valid leaves) pieces
-      (is_other x) (fits_other x) has.results f (called_in g.code) told telling known need i h a (λ l q. refl))
+      (operation_passes (own_sizes p valid) valid.0 (data_of p) (link f g) (has_room p valid f g e) (objects_fit p valid leaves) pieces
+      (is_other x) (fits_other x) has.results f (called_in g.code) told telling known need i h u a (λ l q. refl))
 
   operation_places : (x f : ℕ) (g : PlainIrFunction) → slice_get p.functions f ≡ Some g → (told telling : Option Told)
       (known : Option RightNumber) (need : Need)
       (i : PlainIr)
-      → IsCovered (data_of p) has.results f (called_in g.code) g.slots i
+      → IsCovered (data_of p) has.results f (called_in g.code) g.slots i → UsesCells valid.0 i
       → count_by (is_label x) (op_code (data_of p) (home (link f g).homes) (link f g) told telling known need i)
       ≡ placed_by x (link f g).label_of i
   unfolding is_other
-  operation_places x f g e told telling known need (label l) h = omega arith
-  operation_places x f g e told telling known need (constant t n) h = others_pass x f g e told telling known need (constant t n) h tt
-  operation_places x f g e told telling known need (copy to from) h = others_pass x f g e told telling known need (copy to from) h tt
-  operation_places x f g e told telling known need (load_object t o offset) h =
-      others_pass x f g e told telling known need (load_object t o offset) h tt
-  operation_places x f g e told telling known need (store_object o offset t) h =
-      others_pass x f g e told telling known need (store_object o offset t) h tt
-  operation_places x f g e told telling known need (binary_op op ty mode to a aty b bty) h =
-      others_pass x f g e told telling known need (binary_op op ty mode to a aty b bty) h tt
-  operation_places x f g e told telling known need (unary_op op ty mode to a) h =
-      others_pass x f g e told telling known need (unary_op op ty mode to a) h tt
-  operation_places x f g e told telling known need (conversion to ty mode a aty) h =
-      others_pass x f g e told telling known need (conversion to ty mode a aty) h tt
-  operation_places x f g e told telling known need (return_from from) h = others_pass x f g e told telling known need
-      (return_from from) h tt
-  operation_places x f g e told telling known need (jump l) h = others_pass x f g e told telling known need (jump l) h refl
-  operation_places x f g e told telling known need (branch_zero t l) h =
-      others_pass x f g e told telling known need (branch_zero t l) h (λ set flag w. refl)
-  operation_places x f g e told telling known need (call_function c to) h = others_pass x f g e told telling known need
-      (call_function c to) h refl
-  operation_places x f g e told telling known need (address t o offset) h = others_pass x f g e told telling known need
-      (address t o offset) h tt
-  operation_places x f g e told telling known need (field ptr space offset) h =
-      others_pass x f g e told telling known need (field ptr space offset) h tt
-  operation_places x f g e told telling known need (load_at to ptr space) h = others_pass x f g e told telling known need
-      (load_at to ptr space) h tt
-  operation_places x f g e told telling known need (store_at ptr space from) h =
-      others_pass x f g e told telling known need (store_at ptr space from) h tt
-  operation_places x f g e told telling known need (port_in to port index width) h =
-      others_pass x f g e told telling known need (port_in to port index width) h tt
-  operation_places x f g e told telling known need (port_out from port index width) h =
-      others_pass x f g e told telling known need (port_out from port index width) h tt
+  operation_places x f g e told telling known need (label l) h u = omega arith
+  operation_places x f g e told telling known need (constant t n) h u = others_pass x f g e told telling known need (constant t n) h u tt
+  operation_places x f g e told telling known need (copy to from) h u = others_pass x f g e told telling known need (copy to from) h u tt
+  operation_places x f g e told telling known need (load_object t o offset) h u =
+      others_pass x f g e told telling known need (load_object t o offset) h u tt
+  operation_places x f g e told telling known need (store_object o offset t) h u =
+      others_pass x f g e told telling known need (store_object o offset t) h u tt
+  operation_places x f g e told telling known need (binary_op op ty mode to a aty b bty) h u =
+      others_pass x f g e told telling known need (binary_op op ty mode to a aty b bty) h u tt
+  operation_places x f g e told telling known need (unary_op op ty mode to a) h u =
+      others_pass x f g e told telling known need (unary_op op ty mode to a) h u tt
+  operation_places x f g e told telling known need (conversion to ty mode a aty) h u =
+      others_pass x f g e told telling known need (conversion to ty mode a aty) h u tt
+  operation_places x f g e told telling known need (return_from from) h u = others_pass x f g e told telling known need
+      (return_from from) h u tt
+  operation_places x f g e told telling known need (jump l) h u = others_pass x f g e told telling known need (jump l) h u refl
+  operation_places x f g e told telling known need (branch_zero t l) h u =
+      others_pass x f g e told telling known need (branch_zero t l) h u (λ set flag w. refl)
+  operation_places x f g e told telling known need (call_function c to) h u = others_pass x f g e told telling known need
+      (call_function c to) h u refl
+  operation_places x f g e told telling known need (address t o offset) h u = others_pass x f g e told telling known need
+      (address t o offset) h u tt
+  operation_places x f g e told telling known need (field ptr space offset) h u =
+      others_pass x f g e told telling known need (field ptr space offset) h u tt
+  operation_places x f g e told telling known need (load_at to ptr space) h u = others_pass x f g e told telling known need
+      (load_at to ptr space) h u tt
+  operation_places x f g e told telling known need (store_at ptr space from) h u =
+      others_pass x f g e told telling known need (store_at ptr space from) h u tt
+  operation_places x f g e told telling known need (port_in to port index width) h u =
+      others_pass x f g e told telling known need (port_in to port index width) h u tt
+  operation_places x f g e told telling known need (port_out from port index width) h u =
+      others_pass x f g e told telling known need (port_out from port index width) h u tt
+  operation_places x f g e told telling known need (load_cell to cell) h u =
+      others_pass x f g e told telling known need (load_cell to cell) h u tt
+  operation_places x f g e told telling known need (store_cell cell from) h u =
+      others_pass x f g e told telling known need (store_cell cell from) h u tt
+  operation_places x f g e told telling known need (cell_port read t cell offset index width) h u =
+      others_pass x f g e told telling known need (cell_port read t cell offset index width) h u tt
 
   code_places : (x f : ℕ) (g : PlainIrFunction) → slice_get p.functions f ≡ Some g → (at : Facts) (told : Option Told)
-      (code : List PlainIr) → AreCovered (data_of p) has.results f (called_in g.code) g.slots code
+      (code : List PlainIr) → AreCovered (data_of p) has.results f (called_in g.code) g.slots code → AllByRecursion (UsesCells valid.0) code
       → count_by (is_label x) (ops_code (data_of p) (home (link f g).homes) (link f g) at told code)
       ≡ placed_in x (link f g).label_of code
-  code_places x f g e at told [] h = refl
-  code_places x f g e at told (i ∷ code) h =
+  code_places x f g e at told [] h u = refl
+  code_places x f g e at told (i ∷ code) h u =
       let next = tells_next at i code in
-      let here = operation_places x f g e told next (at.known (i ∷ code)) (needs at code) i h.0 in
-      let rest = code_places x f g e at next code h.1 in
+      let here = operation_places x f g e told next (at.known (i ∷ code)) (needs at code) i h.0 u.0 in
+      let rest = code_places x f g e at next code h.1 u.1 in
       joined_count x (op_code (data_of p) (home (link f g).homes) (link f g) told next (at.known (i ∷ code)) (needs at code) i)
       (ops_code (data_of p) (home (link f g).homes) (link f g) at next code) ∙ rw (here, rest) refl
 
@@ -258,7 +276,7 @@ module _ (core : Core) (p : PlainIrProgram) (valid : ValidIr p) (has : HasCode p
       ≡ cond (1 + f == x) 1 0 + placed_in x (link f g).label_of g.code
   function_places x f g e =
       let at = facts_of (tables f) g.code in
-      let rest = code_places x f g e at None g.code (has.functions f g e) in
+      let rest = code_places x f g e at None g.code (has.functions f g e) (functions_use valid.0 p valid.1 f g e) in
       let ops = ops_code (data_of p) (home (link f g).homes) (link f g) at None g.code in
       let parts = joined_count x (Label (1 + f) ∷ []) ops in
       omega (arith, parts, rest)

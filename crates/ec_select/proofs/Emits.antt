@@ -15,8 +15,9 @@ use Rattle.ec_core.specs.Valid.{IsObject, IsStored}
 use Rattle.ec_ir.specs.declared.operations.Temp.{Temp}
 use Rattle.ec_ir.specs.Operations.{PlainIr, constant, copy, address, field, load_at, store_at, load_object}
 use Rattle.ec_ir.specs.Operations.{store_object, binary_op, unary_op, conversion, label, jump, branch_zero}
-use Rattle.ec_ir.specs.Operations.{call_function, return_from, port_in, port_out, PlainIrProgram, data_of}
-use Rattle.ec_ir.specs.Valid.{ValidIr, ValidOperation, called_in}
+use Rattle.ec_ir.specs.Operations.{call_function, return_from, port_in, port_out, load_cell, store_cell, cell_port}
+use Rattle.ec_ir.specs.Operations.{PlainIrProgram, data_of}
+use Rattle.ec_ir.specs.Valid.{ValidOperation, called_in}
 use Rattle.ec_select_operations.specs.declared.calls.Linking.{Linking}
 use Rattle.ec_select_operations.specs.declared.families.Family.{Family}
 use Rattle.ec_select_operations.specs.declared.families.Family.TheVariants.{Combined, Compared, Multiplied, Shifted}
@@ -35,6 +36,7 @@ use Rattle.ec_select_operations.specs.Pointers.{is_pointer}
 use Rattle.ec_select_operations.specs.Written.{kept_rows}
 use Rattle.ec_select.specs.Labels.{label_count}
 use Rattle.ec_select.specs.Sharing.{is_shaped}
+use Rattle.ec_select.specs.Selected.{ValidWithCells}
 use Rattle.ec_select.proofs.PointerTypes.{some_width, pointers_only, pointer_converted, no_pointer, none_pointed}
 use Rattle.ec_select.proofs.FixedTypes.{type_fixed, either_fixed, no_fixed, no_fixed_operand, none_converted}
 use Rattle.ec_select.proofs.Setting.{all_at, leaf_inside}
@@ -53,7 +55,7 @@ of_own k F I e h = rw e h
 pub of_others : (k : Bool) (F I : Type 0) → k ≡ false → I → OfKind k F I
 of_others k F I e h = rw e h
 
-module _ (p : PlainIrProgram) (valid : ValidIr p) (leaves : LeavesFillTheirTypes) where
+module _ (p : PlainIrProgram) (valid : ValidWithCells p) (leaves : LeavesFillTheirTypes) where
   by_storage : (o offset bytes : ℕ) (d : PlainObject) (s : PlainStorage) → IsStored (data_of p) d s
       → size_of_type p.structs d.ty ≤ 32767 → offset + bytes ≤ size_of_type p.structs d.ty
       → HasBytes (location_in s o offset) bytes
@@ -65,7 +67,7 @@ module _ (p : PlainIrProgram) (valid : ValidIr p) (leaves : LeavesFillTheirTypes
   object_has : (o offset bytes : ℕ) → HasScalarAt (data_of p) o offset bytes
       → HasBytes (object_location p.objects o offset) bytes
   object_has o offset bytes h =
-      let d = all_at (IsObject (data_of p)) p.objects o h.declared valid.objects h.is_object in
+      let d = all_at (IsObject (data_of p)) p.objects o h.declared valid.1.objects h.is_object in
       rw h.is_object
       (by_storage o offset bytes h.declared h.declared.storage d.storage d.small (leaf_inside p valid leaves o offset bytes h))
 
@@ -179,7 +181,7 @@ module _ (p : PlainIrProgram) (valid : ValidIr p) (leaves : LeavesFillTheirTypes
         (record { types = i.types; from = i.from_bytes; result = i.result_bytes; most = l }))
 
     emits : (need : Need) (i : PlainIr) (code : List PlainIr) → IsCovered (data_of p) results f (called_in all) slots i
-        → ValidOperation p valid.results f slots all i → label_count (i ∷ code) ≤ bound
+        → ValidOperation valid.0 p valid.1.results f slots all i → label_count (i ∷ code) ≤ bound
         → CanBeEmitted (data_of p) k (result_wanted need i) i
     emits need (constant t n) code h v l = let m = h.most in (omega arith, omega arith)
     emits need (copy to from) code h v l = let m = h.2 in (omega arith, omega arith)
@@ -204,7 +206,7 @@ module _ (p : PlainIrProgram) (valid : ValidIr p) (leaves : LeavesFillTheirTypes
     emits need (jump m) code h v l = omega arith
     emits need (branch_zero t m) code h v l = omega arith
     emits need (call_function g to) code h v l =
-        let c = valid.function_count in let d = v.0 in (taken_has need g to h, omega arith)
+        let c = valid.1.function_count in let d = v.0 in (taken_has need g to h, omega arith)
     emits need (return_from from) code h v l = result_has from h
     emits need (address t o offset) code h v l = h.size
     emits need (field ptr space offset) code h v l =
@@ -215,23 +217,28 @@ module _ (p : PlainIrProgram) (valid : ValidIr p) (leaves : LeavesFillTheirTypes
     emits need (port_in to port index width) code h v l =
         let m = h.within in let w = port_some width h.one_two_four in (omega arith, w, m, index_has index h.index_has)
     emits need (port_out from port index width) code h v l = (h.within, index_has index h.index_has)
+    emits need (load_cell to cell) code h v l = tt
+    emits need (store_cell cell from) code h v l = tt
+    emits need (cell_port true to cell offset index width) code h v l =
+        let m = h.within in let w = port_some width h.one_two_four in (omega arith, w, m, index_has index h.index_has)
+    emits need (cell_port false from cell offset index width) code h v l = (h.within, index_has index h.index_has)
 
     -- whose code may stand once
     pub shaped_emits : (need : Need) (i : PlainIr) → is_shaped i ≡ true → IsCovered (data_of p) results f (called_in all) slots i
-        → ValidOperation p valid.results f slots all i → CanBeEmitted (data_of p) k (result_wanted need i) i
+        → ValidOperation valid.0 p valid.1.results f slots all i → CanBeEmitted (data_of p) k (result_wanted need i) i
     shaped_emits need (binary_op op ty mode to a aty b bty) s h v = emits need (binary_op op ty mode to a aty b bty) [] h v (omega arith)
     shaped_emits need (unary_op op ty mode to a) s h v = emits need (unary_op op ty mode to a) [] h v (omega arith)
     shaped_emits need (conversion to ty mode a aty) s h v = emits need (conversion to ty mode a aty) [] h v (omega arith)
     shaped_emits need i s h v = absurd (false≢true s)
 
     emits_behind : (labels : ℕ → Need) (need : Need) (i : PlainIr) (code : List PlainIr)
-        → IsCovered (data_of p) results f (called_in all) slots i → ValidOperation p valid.results f slots all i
+        → IsCovered (data_of p) results f (called_in all) slots i → ValidOperation valid.0 p valid.1.results f slots all i
         → label_count (i ∷ code) ≤ bound → CanBeEmitted (data_of p) k (wanted_behind labels need i) i
     emits_behind labels need (branch_zero t m) code h v l = omega arith
     emits_behind labels need i code h v l = emits need i code h v l
 
     pub all_emitted : (at : Facts) (code : List PlainIr) → AreCovered (data_of p) results f (called_in all) slots code
-        → AllByRecursion (ValidOperation p valid.results f slots all) code → label_count code ≤ bound
+        → AllByRecursion (ValidOperation valid.0 p valid.1.results f slots all) code → label_count code ≤ bound
         → (j : ℕ) (i : PlainIr) → slice_get code j ≡ Some i → CanBeEmitted (data_of p) k (slice_index (wanted_bytes at code) j) i
     all_emitted at [] h v l j i e = absurd (cc)
     all_emitted at (x ∷ code) h v l zero i e =

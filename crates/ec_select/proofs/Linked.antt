@@ -7,8 +7,9 @@ use Rattle.ec_space.specs.declared.Core.{Core}
 use Rattle.ec_core.specs.TypeLaws.{LeavesFillTheirTypes}
 use Rattle.ec_ir.specs.Operations.{PlainIr, constant, copy, address, field, load_at, store_at, load_object}
 use Rattle.ec_ir.specs.Operations.{store_object, binary_op, unary_op, conversion, label, jump, branch_zero}
-use Rattle.ec_ir.specs.Operations.{call_function, return_from, port_in, port_out, PlainIrFunction, PlainIrProgram, data_of}
-use Rattle.ec_ir.specs.Valid.{ValidIr, ValidOperation, called_in}
+use Rattle.ec_ir.specs.Operations.{call_function, return_from, port_in, port_out, load_cell, store_cell, cell_port}
+use Rattle.ec_ir.specs.Operations.{PlainIrFunction, PlainIrProgram, data_of}
+use Rattle.ec_ir.specs.Valid.{ValidOperation, called_in}
 use Rattle.ec_ir_known.specs.declared.known.RightNumber.{RightNumber}
 use Rattle.ec_ir_known.specs.Known.{right_numbers}
 use Rattle.ec_select_functions.specs.Covered.{IsCovered, AreCovered}
@@ -20,7 +21,7 @@ use Rattle.ec_select_operations.specs.Needs.{Need, Facts, facts_of, needs}
 use Rattle.ec_select_operations.specs.Written.{CanBeWritten}
 use Rattle.ec_select.specs.Labels.{label_count, homes_of}
 use Rattle.ec_select.specs.Seen.{CanBeUses, HasRoutine}
-use Rattle.ec_select.specs.Selected.{HasCode}
+use Rattle.ec_select.specs.Selected.{ValidWithCells, HasCode}
 use Rattle.ec_select.specs.Sharing.{Use, alone, is_shaped, use_of, uses_of, uses_in, function_uses, uses_from, program_uses}
 use Rattle.ec_select.proofs.Emits.{all_emitted, shaped_emits}
 use Rattle.ec_select.proofs.RoutineItems.{IsOfResult, can_be_called, can_be_routine}
@@ -49,6 +50,9 @@ module _ (p : PlainIrProgram) (results : ℕ → ℕ) (f : ℕ) (called : List �
   of_result labels need (return_from from) = tt
   of_result labels need (port_in to port index width) = tt
   of_result labels need (port_out from port index width) = tt
+  of_result labels need (load_cell to cell) = tt
+  of_result labels need (store_cell cell from) = tt
+  of_result labels need (cell_port read t cell offset index width) = tt
 
   called_there : (at : Facts) (code : List PlainIr) → AreCovered (data_of p) results f called slots code
       → (j : ℕ) (i : PlainIr) → slice_get code j ≡ Some i → CanBeCalled (slice_index (wanted_bytes at code) j) i
@@ -68,12 +72,12 @@ routine_there routines [] j i e = absurd cc
 routine_there routines (x ∷ code) zero i e = let q : x ≡ i = cc in ap routines q
 routine_there routines (x ∷ code) (suc j) i e = routine_there routines code j i e
 
-module _ (p : PlainIrProgram) (valid : ValidIr p) (leaves : LeavesFillTheirTypes) (results : ℕ → ℕ) (f slots : ℕ)
+module _ (p : PlainIrProgram) (valid : ValidWithCells p) (leaves : LeavesFillTheirTypes) (results : ℕ → ℕ) (f slots : ℕ)
     (all : List PlainIr) where
   module _ (k : Linking) (bound : ℕ) (room : k.first_label + bound < 2 ^ 64) (entries : k.first_entry ≡ 1) where
     pub all_linked : (routines : PlainIr → Option ℕ) (at : Facts) (code : List PlainIr)
         → AreCovered (data_of p) results f (called_in all) slots code
-        → AllByRecursion (ValidOperation p valid.results f slots all) code → label_count code ≤ bound
+        → AllByRecursion (ValidOperation valid.0 p valid.1.results f slots all) code → label_count code ≤ bound
         → CanBeWritten (data_of p) k (wanted_bytes at code) (map routines code) code
     all_linked routines at code h v l j i e =
         let n = slice_index (wanted_bytes at code) j in
@@ -91,7 +95,7 @@ module _ (p : PlainIrProgram) (valid : ValidIr p) (leaves : LeavesFillTheirTypes
 
   -- what is measured can be written
   pub all_used : (core : Core) (h : Homes) (at : Facts) (code : List PlainIr) → AreCovered (data_of p) results f (called_in all) slots code
-      → AllByRecursion (ValidOperation p valid.results f slots all) code → CanBeUses core (data_of p) h (wanted_bytes at code) code
+      → AllByRecursion (ValidOperation valid.0 p valid.1.results f slots all) code → CanBeUses core (data_of p) h (wanted_bytes at code) code
   all_used core h at [] c v j i e s = absurd cc
   all_used core h at (x ∷ code) c v zero i e s =
       let q : x ≡ i = cc in
@@ -107,9 +111,9 @@ module _ (p : PlainIrProgram) (valid : ValidIr p) (leaves : LeavesFillTheirTypes
 
 -- ---- what holds of each use of a shape in a program
 
-module _ (core : Core) (p : PlainIrProgram) (valid : ValidIr p) (has : HasCode p) (P : PlainIr → Type 0)
+module _ (core : Core) (p : PlainIrProgram) (valid : ValidWithCells p) (has : HasCode p) (P : PlainIr → Type 0)
     (each : (f : ℕ) (g : PlainIrFunction) (i : PlainIr) → slice_get p.functions f ≡ Some g
-    → IsCovered (data_of p) has.results f (called_in g.code) g.slots i → ValidOperation p valid.results f g.slots g.code i
+    → IsCovered (data_of p) has.results f (called_in g.code) g.slots i → ValidOperation valid.0 p valid.1.results f g.slots g.code i
     → is_shaped i ≡ true → P i) where
   abbrev Held : Use → Type 0
   Held u = P u.operation
@@ -120,7 +124,7 @@ module _ (core : Core) (p : PlainIrProgram) (valid : ValidIr p) (has : HasCode p
 
   module _ (f : ℕ) (g : PlainIrFunction) (e : slice_get p.functions f ≡ Some g) (h : Homes) where
     of_one : (known : Option RightNumber) (n : ℕ) (i : PlainIr) → IsCovered (data_of p) has.results f (called_in g.code) g.slots i
-        → ValidOperation p valid.results f g.slots g.code i → AllByRecursion Held (uses_of core (data_of p) h known n i)
+        → ValidOperation valid.0 p valid.1.results f g.slots g.code i → AllByRecursion Held (uses_of core (data_of p) h known n i)
     of_one known n i c v = by_test (is_shaped i) refl
       where
         by_test : (b : Bool) → is_shaped i ≡ b → AllByRecursion Held (if b then use_of core (data_of p) h known n i ∷ [] else [])
@@ -128,7 +132,7 @@ module _ (core : Core) (p : PlainIrProgram) (valid : ValidIr p) (has : HasCode p
         by_test false s = tt
 
     of_code : (wanted : List ℕ) (known : List (Option RightNumber)) (code : List PlainIr) → AreCovered (data_of p) has.results f (called_in g.code) g.slots code
-        → AllByRecursion (ValidOperation p valid.results f g.slots g.code) code
+        → AllByRecursion (ValidOperation valid.0 p valid.1.results f g.slots g.code) code
         → AllByRecursion Held (uses_in core (data_of p) h wanted known code)
     of_code [] known code c v = tt
     of_code (n ∷ wanted) [] code c v = tt
@@ -157,7 +161,7 @@ module _ (core : Core) (p : PlainIrProgram) (valid : ValidIr p) (has : HasCode p
       (λ j g e. let q : j ≡ 0 + j = omega arith in subst (λ k. slice_get p.functions k ≡ Some g) q e)
 
 -- the emitter may write their routines
-pub uses_ready : (core : Core) (p : PlainIrProgram) → ValidIr p → HasCode p → (tables : ℕ → ℕ → Need)
+pub uses_ready : (core : Core) (p : PlainIrProgram) → ValidWithCells p → HasCode p → (tables : ℕ → ℕ → Need)
     → AllByRecursion (λ u. HasRoutine u.operation) (program_uses core p tables)
 uses_ready core p valid has tables =
     each_use core p valid has HasRoutine

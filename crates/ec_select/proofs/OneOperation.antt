@@ -3,8 +3,8 @@ use Rattle.std.proofs.Common.{◌≡◌, ◌⊎◌, ℕ, suc, ◌+◌, ◌-◌, 
 use Rattle.std.proofs.Common.{◌∷◌, ◌++◌}
 use Rattle.std.proofs.Common.{refl, sym, ap, ◌∙◌, subst, arith, leb-true, eqb-true, inl, inr}
 use Rattle.std.specs.Prelude.{⊤, min, nat_le, nat_lt, ◌&&◌, ◌||◌, if◌then◌else◌, Option, Some, None, option_map}
-use Rattle.std.specs.Prelude.{slice_get, ℤ}
-use Rattle.std.specs.List.{list_all}
+use Rattle.std.specs.Prelude.{slice_get}
+use Rattle.std.specs.List.{list_all, AllByRecursion}
 use Rattle.std.proofs.lemmas.Bool.{and_parts}
 use Rattle.ec_isa.specs.declared.instructions.Instr.TheVariants.{Ret}
 use Rattle.ec_asm.specs.declared.items.AsmItem.{AsmItem}
@@ -28,7 +28,7 @@ use Rattle.ec_select_fixed.specs.Codes.{fixed_binary_code, fixed_unary_code, fix
 use Rattle.ec_ir.specs.declared.operations.Temp.{Temp}
 use Rattle.ec_ir.specs.Operations.{PlainIr, constant, copy, address, field, load_at, store_at, load_object}
 use Rattle.ec_ir.specs.Operations.{store_object, binary_op, unary_op, conversion, label, jump, branch_zero}
-use Rattle.ec_ir.specs.Operations.{call_function, return_from, port_in, port_out}
+use Rattle.ec_ir.specs.Operations.{call_function, return_from, port_in, port_out, load_cell, store_cell, cell_port}
 use Rattle.ec_ir.specs.Temporaries.{low_bytes}
 use Rattle.ec_select_bytes.specs.Values.{constant_code, test_code, extend_code}
 use Rattle.ec_select_places.specs.Conversions.{embed_code}
@@ -75,6 +75,7 @@ use Rattle.ec_select_functions.specs.Covered.{AreIntegers}
 use Rattle.ec_select_functions.specs.Covered.{HasIndex, HasScalarAt, IsBinary, IsFixedBinary, IsFixedUnary}
 use Rattle.ec_select_functions.specs.Covered.{AreConverted, IsFixedConversion, IsPointerBinary, IsPointerConversion}
 use Rattle.ec_select_functions.specs.Covered.{IsUnary, IsResult, IsCovered, AreCovered}
+use Rattle.ec_select_functions.proofs.Cells.{UsesCells}
 use Rattle.ec_select_functions.proofs.OnIntegers.{whole_type}
 use Rattle.ec_select_functions.proofs.OnWholes.{on_wholes}
 use Rattle.ec_select_operations.specs.Homes.{HasHome, depth, home, result_location}
@@ -85,7 +86,7 @@ use Rattle.ec_select_operations.specs.Needs.{Need, Facts, wanted, wanted_result,
 use Rattle.ec_select.proofs.ByNumber.{changed_by_fits, compared_with_fits}
 use Rattle.ec_select_operations.specs.Places.{object_location}
 use Rattle.ec_select_operations.specs.Pointers.{is_pointer, is_into_data, kept_in, IsPointerSize}
-use Rattle.ec_select_operations.specs.Ports.{in_code, out_code}
+use Rattle.ec_select_operations.specs.Ports.{in_code, out_code, first_cell, cell_place, cell_in_code, cell_out_code}
 use Rattle.ec_select.proofs.FixedItems.{FixedItemLaws, plain_fits, has_places, answer_fits, own_fits, others_fit}
 use Rattle.ec_select.proofs.Carried.{carried_fits}
 use Rattle.ec_select.proofs.InPlace.{whole_fits}
@@ -101,7 +102,7 @@ use Rattle.ec_select.proofs.PointerItems.{load_fits, far_object_fits}
 use Rattle.ec_select.proofs.PointerItems.{store_fits, table_fits, scale_fits, moved_fits, elements_fit, embed_fits}
 use Rattle.ec_select.proofs.PointerTypes.{some_width, two_pointers, first_pointer, second_pointer, pointers_only}
 use Rattle.ec_select.proofs.PointerTypes.{pointer_converted, stays_within, at_least_two, no_pointer, none_pointed}
-use Rattle.ec_select.proofs.PortItems.{IndexFits, in_fits, out_fits}
+use Rattle.ec_select.proofs.PortItems.{IndexFits, in_fits, out_fits, cell_in_fits, cell_out_fits}
 use Rattle.ec_select.proofs.Loops.{counted_fits, shift_fits, product_fits, quotient_fits}
 
 flag_small : (r : Relation) (signed : Bool) → nat_lt (flag_of r signed) 8 ≡ true
@@ -112,11 +113,12 @@ flag_small NotLess false = refl
 flag_small Equal signed = refl
 flag_small NotEqual signed = refl
 
--- the scratch memory has room for so many places, and there are 64 work bytes
-pub record HasRoom (sizes : Sizes) (h : Homes) (slots : ℕ) : Type 0 where
+-- the scratch memory has room for so many places, and there are 64 work bytes and so many cells
+pub record HasRoom (sizes : Sizes) (cells : ℕ) (h : Homes) (slots : ℕ) : Type 0 where
   pub width : (h.width ≡ 2) ⊎ (h.width ≡ 4)
   pub scratch : (k : ℕ) → k ≤ 16 * slots → is_offset sizes h.scratch k ≡ true
   pub work : (k : ℕ) → k ≤ 64 → is_offset sizes 1280 k ≡ true
+  pub cell : (c : ℕ) → c < cells → is_offset sizes 1280 (first_cell + c) ≡ true
 
 -- what the items of operations on fixed-point numbers and on pointers are, by the crates below
 pub record ItemLaws : Type 0 where
@@ -152,6 +154,9 @@ AcceptsLabels q k (conversion to ty mode a aty) = ⊤
 AcceptsLabels q k (return_from from) = ⊤
 AcceptsLabels q k (port_in to port index width) = ⊤
 AcceptsLabels q k (port_out from port index width) = ⊤
+AcceptsLabels q k (load_cell to cell) = ⊤
+AcceptsLabels q k (store_cell cell from) = ⊤
+AcceptsLabels q k (cell_port read t cell offset index width) = ⊤
 
 -- and for the call of a routine
 abbrev pub AcceptsCalls : (AsmItem → Bool) → Linkage → PlainIr → Type 0
@@ -247,18 +252,18 @@ module _ (sizes : Sizes) where
 
   -- ---- homes
 
-  pub home_fits : (h : Homes) (slots : ℕ) → HasRoom sizes h slots → (t : Temp) → HasHome slots t
+  pub home_fits : (cells : ℕ) (h : Homes) (slots : ℕ) → HasRoom sizes cells h slots → (t : Temp) → HasHome slots t
       → BytesFit sizes (home h t) t.bytes
-  home_fits h slots room t k = by_depth (nat_le t.bytes h.width && nat_le (depth h t) 12) where
+  home_fits cells h slots room t k = by_depth (nat_le t.bytes h.width && nat_le (depth h t) 12) where
     by_depth : (near : Bool) → BytesFit sizes (if near then InRegisters (26 - depth h t)
         else InMemory h.scratch (16 * t.at)) t.bytes
     by_depth true i l = let m = k.most in grind arith
     by_depth false i l = let m = k.most in let w = k.within in room.scratch (16 * t.at + i) (omega arith)
 
   -- the registers of a home end below R30
-  pub home_leaves : (h : Homes) (slots : ℕ) → HasRoom sizes h slots → (t : Temp) → HasHome slots t
+  pub home_leaves : (cells : ℕ) (h : Homes) (slots : ℕ) → HasRoom sizes cells h slots → (t : Temp) → HasHome slots t
       → HasPointerPlaces sizes (home h t) t.bytes
-  home_leaves h slots room t k = by_depth (nat_le t.bytes h.width && nat_le (depth h t) 12) refl where
+  home_leaves cells h slots room t k = by_depth (nat_le t.bytes h.width && nat_le (depth h t) 12) refl where
     in_row : h.width * (t.at + 1) ≡ depth h t → t.bytes ≤ h.width → (h.width ≡ 2) ⊎ (h.width ≡ 4) → 26 - depth h t + t.bytes ≤ 30
     in_row e few (inl w) =
         let d : h.width * (t.at + 1) ≡ 2 * (t.at + 1) = ap (λ (x : ℕ). x * (t.at + 1)) w in omega (arith, d, w, few, e)
@@ -273,10 +278,10 @@ module _ (sizes : Sizes) where
 
   -- ---- operations of a function
 
-  module _ (p : PlainProgram) (k : Linkage) (room : HasRoom sizes k.homes k.slots) (objects : ObjectsFit sizes p)
+  module _ (cells : ℕ) (p : PlainProgram) (k : Linkage) (room : HasRoom sizes cells k.homes k.slots) (objects : ObjectsFit sizes p)
       (laws : ItemLaws) where
     at_home : (t : Temp) → HasHome k.slots t → BytesFit sizes (home k.homes t) t.bytes
-    at_home t h = home_fits k.homes k.slots room t h
+    at_home t h = home_fits cells k.homes k.slots room t h
 
     -- the first n bytes
     low_home : (t : Temp) (n : ℕ) → HasHome k.slots t → n ≤ t.bytes → BytesFit sizes (home k.homes t) n
@@ -471,7 +476,7 @@ module _ (sizes : Sizes) where
 
     -- the first n bytes
     low_leaves : (t : Temp) (n : ℕ) → HasHome k.slots t → n ≤ t.bytes → HasPointerPlaces sizes (home k.homes t) n
-    low_leaves t n h l = fewer_places sizes (home k.homes t) n t.bytes l (home_leaves k.homes k.slots room t h)
+    low_leaves t n h l = fewer_places sizes (home k.homes t) n t.bytes l (home_leaves cells k.homes k.slots room t h)
 
     -- a pointer comes to the place of the result, and goes on there
     offset_fits : (minus signed : Bool) (from index to : Temp) (size n : ℕ) → HasHome k.slots from → HasHome k.slots index
@@ -484,7 +489,7 @@ module _ (sizes : Sizes) where
         unless_none n (scale_index_code b signed index.bytes (size % 65536) ++ (move_code a c from.bytes ++ moved))
         (joined (fits sizes) (scale_index_code b signed index.bytes (size % 65536)) (move_code a c from.bytes ++ moved)
         (scale_fits sizes laws.pointers b c signed index.bytes (size % 65536) y.some (omega arith)
-        (home_leaves k.homes k.slots room index y) pair)
+        (home_leaves cells k.homes k.slots room index y) pair)
         (joined (fits sizes) (move_code a c from.bytes) moved
         (move_fits a c from.bytes (at_home from x) (low_home to from.bytes z (omega (arith, same))))
         (moved_fits sizes laws.pointers k.core c minus from.bytes some (low_leaves to from.bytes z (omega (arith, same))))))
@@ -719,10 +724,10 @@ module _ (sizes : Sizes) where
     bank_fits : (kept : Home) (o offset : ℕ) (t : Temp) → HasHome k.slots t → HasScalarAt p o offset t.bytes
         → Fit sizes (banked_code k.core kept p.objects o offset (home k.homes t) t.bytes)
     bank_fits FlashHome o offset t h s =
-        table_fits sizes laws.pointers o offset (home k.homes t) t.bytes (home_leaves k.homes k.slots room t h)
+        table_fits sizes laws.pointers o offset (home k.homes t) t.bytes (home_leaves cells k.homes k.slots room t h)
         (objects.begins o offset t.bytes s)
     bank_fits FarHome o offset t h s =
-        far_object_fits sizes laws.pointers k.core o offset (home k.homes t) t.bytes (home_leaves k.homes k.slots room t h)
+        far_object_fits sizes laws.pointers k.core o offset (home k.homes t) t.bytes (home_leaves cells k.homes k.slots room t h)
         (objects.begins o offset t.bytes s)
     bank_fits DataHome o offset t h s =
         copy_fits sizes (object_location p.objects o offset) (home k.homes t) t.bytes (objects.scalars o offset t.bytes s) (at_home t h)
@@ -833,67 +838,89 @@ module _ (sizes : Sizes) where
       wanted_few : (need : Need) (to : Option Temp) (t : Temp) → to ≡ Some t → wanted_result need to ≤ t.bytes
       wanted_few need to t e = rw e (omega arith)
 
+      -- the byte of a cell
+      cell_fits : (cell n : ℕ) → cell < cells → n ≡ 1 → BytesFit sizes (cell_place cell) n
+      cell_fits cell n l one i j =
+          let z : first_cell + cell + i ≡ first_cell + cell = omega (arith, one, j) in
+          ap (is_offset sizes 1280) z ∙ room.cell cell l
+
       own_passes : (results : ℕ → ℕ) (f : ℕ) (called : List ℕ) (told telling : Option Told) (known : Option RightNumber) (need : Need)
           (i : PlainIr)
-          → IsCovered p results f called k.slots i → AcceptsLabels q k i
+          → IsCovered p results f called k.slots i → UsesCells cells i → AcceptsLabels q k i
           → list_all q (own_code p (home k.homes) k told telling known need i) ≡ true
-      own_passes results f called told telling known need (constant t n) h a =
+      own_passes results f called told telling known need (constant t n) h u a =
           by_fit (constant_code (home k.homes t) (low_bytes 16 n) (wanted need t))
           (constant_fits sizes (home k.homes t) (low_bytes 16 n) (wanted need t) (low_home t (wanted need t) h (omega arith)))
-      own_passes results f called told telling known need (copy to from) h a =
+      own_passes results f called told telling known need (copy to from) h u a =
           let e = h.2 in
           by_fit (move_code (home k.homes from) (home k.homes to) (wanted need to))
           (move_fits (home k.homes from) (home k.homes to) (wanted need to) (low_home from (wanted need to) h.1 (omega arith))
           (low_home to (wanted need to) h.0 (omega arith)))
-      own_passes results f called told telling known need (load_object t o offset) h a =
+      own_passes results f called told telling known need (load_object t o offset) h u a =
           by_fit (banked_code k.core (kept_in p o) p.objects o offset (home k.homes t) t.bytes) (bank_fits (kept_in p o) o offset t h.0 h.1)
-      own_passes results f called told telling known need (store_object o offset t) h a =
+      own_passes results f called told telling known need (store_object o offset t) h u a =
           by_fit (copy_code (home k.homes t) (object_location p.objects o offset) t.bytes)
           (copy_fits sizes (home k.homes t) (object_location p.objects o offset) t.bytes (at_home t h.0)
           (objects.scalars o offset t.bytes h.1))
-      own_passes results f called told telling known need (binary_op op ty mode to x aty y bty) h a =
+      own_passes results f called told telling known need (binary_op op ty mode to x aty y bty) h u a =
           by_fit (own_code p (home k.homes) k told telling known need (binary_op op ty mode to x aty y bty))
           (of_binary known telling op ty aty bty mode to x y (wanted need to) h (omega arith))
-      own_passes results f called told telling known need (unary_op op ty mode to x) h a =
+      own_passes results f called told telling known need (unary_op op ty mode to x) h u a =
           by_fit (own_code p (home k.homes) k told telling known need (unary_op op ty mode to x))
           (of_unary op ty mode to x (wanted need to) h (omega arith))
-      own_passes results f called told telling known need (conversion to ty mode x aty) h a =
+      own_passes results f called told telling known need (conversion to ty mode x aty) h u a =
           by_fit (own_code p (home k.homes) k told telling known need (conversion to ty mode x aty))
           (of_conversion ty aty mode to x (wanted need to) h (omega arith))
-      own_passes results f called told telling known need (label l) h a = rw a refl
-      own_passes results f called told telling known need (jump l) h a = rw a refl
-      own_passes results f called told telling known need (branch_zero t l) h a = tested_passes told t (k.label_of l) h a
-      own_passes results f called told telling known need (call_function g to) h a =
+      own_passes results f called told telling known need (label l) h u a = rw a refl
+      own_passes results f called told telling known need (jump l) h u a = rw a refl
+      own_passes results f called told telling known need (branch_zero t l) h u a = tested_passes told t (k.label_of l) h a
+      own_passes results f called told telling known need (call_function g to) h u a =
           call_passes results g to (wanted_result need to) (kept_need need (call_function g to)) h (wanted_few need to) a
-      own_passes results f called told telling known need (return_from from) h a = return_passes results f k.is_main from h
-      own_passes results f called told telling known need (address t o offset) h a =
+      own_passes results f called told telling known need (return_from from) h u a = return_passes results f k.is_main from h
+      own_passes results f called told telling known need (address t o offset) h u a =
           by_fit (addressed_code k.core p o offset (home k.homes t) t.bytes (wanted need t))
           (addressed_fits sizes laws.pointers k.core p o offset (home k.homes t) t.bytes (wanted need t) h.size
-          (home_leaves k.homes k.slots room t h.result) (objects.offsets o offset h.declared h.is_object h.within))
-      own_passes results f called told telling known need (field ptr space offset) h a =
+          (home_leaves cells k.homes k.slots room t h.result) (objects.offsets o offset h.declared h.is_object h.within))
+      own_passes results f called told telling known need (field ptr space offset) h u a =
           let two = some_width space in let e = h.1 in
           by_fit (member_code k.core ptr.bytes (home k.homes ptr) offset)
           (member_fits sizes laws.pointers k.core (home k.homes ptr) ptr.bytes offset (omega (arith, two, e)) (at_home ptr h.0))
-      own_passes results f called told telling known need (load_at to ptr space) h a =
+      own_passes results f called told telling known need (load_at to ptr space) h u a =
           let few = h.0.most in let e = h.1.1 in
           by_fit (load_code k.core space (home k.homes ptr) (home k.homes to) to.bytes)
           (load_fits sizes laws.pointers k.core space (home k.homes ptr) (home k.homes to) to.bytes (omega (arith, few))
-          (low_leaves ptr (width space) h.1.0 (omega (arith, e))) (home_leaves k.homes k.slots room to h.0))
-      own_passes results f called told telling known need (store_at ptr space from) h a =
+          (low_leaves ptr (width space) h.1.0 (omega (arith, e))) (home_leaves cells k.homes k.slots room to h.0))
+      own_passes results f called told telling known need (store_at ptr space from) h u a =
           let few = h.0.most in let two = some_width space in let e = h.1.1 in
           by_fit (store_data_code (home k.homes from) (home k.homes ptr) from.bytes)
           (store_fits sizes laws.pointers (home k.homes from) (home k.homes ptr) from.bytes (omega (arith, few))
-          (low_leaves ptr 2 h.1.0 (omega (arith, two, e))) (home_leaves k.homes k.slots room from h.0))
-      own_passes results f called told telling known need (port_in to port index width) h a =
+          (low_leaves ptr 2 h.1.0 (omega (arith, two, e))) (home_leaves cells k.homes k.slots room from h.0))
+      own_passes results f called told telling known need (port_in to port index width) h u a =
           let there = option_map (home k.homes) index in
           by_fit (in_code there (home k.homes to) port width (wanted need to))
           (in_fits sizes there (home k.homes to) port width h.address h.one_two_four (index_fits index h.index_has)
           (low_home to width h.number h.within) (wanted need to) (low_home to (wanted need to) h.number (omega arith)))
-      own_passes results f called told telling known need (port_out from port index width) h a =
+      own_passes results f called told telling known need (port_out from port index width) h u a =
           let there = option_map (home k.homes) index in
           by_fit (out_code there (home k.homes from) port width)
           (out_fits sizes there (home k.homes from) port width h.address h.one_two_four (index_fits index h.index_has)
           (low_home from width h.number h.within))
+      own_passes results f called told telling known need (load_cell to cell) h u a =
+          by_fit (copy_code (cell_place cell) (home k.homes to) to.bytes)
+          (copy_fits sizes (cell_place cell) (home k.homes to) to.bytes (cell_fits cell to.bytes u h.1) (at_home to h.0))
+      own_passes results f called told telling known need (store_cell cell from) h u a =
+          by_fit (copy_code (home k.homes from) (cell_place cell) from.bytes)
+          (copy_fits sizes (home k.homes from) (cell_place cell) from.bytes (at_home from h.0) (cell_fits cell from.bytes u h.1))
+      own_passes results f called told telling known need (cell_port true to cell offset index width) h u a =
+          let there = option_map (home k.homes) index in
+          by_fit (cell_in_code there (home k.homes to) cell offset width (wanted need to))
+          (cell_in_fits sizes there (home k.homes to) cell offset width h.address h.one_two_four (index_fits index h.index_has)
+          (low_home to width h.number h.within) (room.cell cell u) (wanted need to) (low_home to (wanted need to) h.number (omega arith)))
+      own_passes results f called told telling known need (cell_port false from cell offset index width) h u a =
+          let there = option_map (home k.homes) index in
+          by_fit (cell_out_code there (home k.homes from) cell offset width)
+          (cell_out_fits sizes there (home k.homes from) cell offset width h.address h.one_two_four (index_fits index h.index_has)
+          (low_home from width h.number h.within) (room.cell cell u))
 
       -- a call of a routine: operands are brought to the work bytes, and the result from there
       answer_passes : (code : List AsmItem) (to : Temp) (n : ℕ) → HasHome k.slots to → n ≤ to.bytes → list_all q code ≡ true
@@ -960,23 +987,23 @@ module _ (sizes : Sizes) where
       called_passes results f called l need i h c = refl
 
       pub operation_passes : (results : ℕ → ℕ) (f : ℕ) (called : List ℕ) (told telling : Option Told) (known : Option RightNumber)
-          (need : Need) (i : PlainIr) → IsCovered p results f called k.slots i → AcceptsLabels q k i → AcceptsCalls q k i
+          (need : Need) (i : PlainIr) → IsCovered p results f called k.slots i → UsesCells cells i → AcceptsLabels q k i → AcceptsCalls q k i
           → list_all q (op_code p (home k.homes) k told telling known need i) ≡ true
-      operation_passes results f called told telling known need i h a c = by_routine (k.routine_of i) refl where
+      operation_passes results f called told telling known need i h u a c = by_routine (k.routine_of i) refl where
         by_routine : (r : Option ℕ) → k.routine_of i ≡ r
             → list_all q (linked_code r (λ l. called_code (home k.homes) l (result_wanted need i) i)
             (own_code p (home k.homes) k told telling known need i)) ≡ true
-        by_routine None e = own_passes results f called told telling known need i h a
+        by_routine None e = own_passes results f called told telling known need i h u a
         by_routine (Some l) e = called_passes results f called l need i h (c l e)
 
       -- all operations
 
       pub operations_pass : (results : ℕ → ℕ) (f : ℕ) (called : List ℕ) (at : Facts) (told : Option Told) (code : List PlainIr)
-          → AreCovered p results f called k.slots code → AllAccepted q k code
+          → AreCovered p results f called k.slots code → AllByRecursion (UsesCells cells) code → AllAccepted q k code
           → list_all q (ops_code p (home k.homes) k at told code) ≡ true
-      operations_pass results f called at told [] h a = refl
-      operations_pass results f called at told (i ∷ code) h a =
+      operations_pass results f called at told [] h u a = refl
+      operations_pass results f called at told (i ∷ code) h u a =
           joined q (op_code p (home k.homes) k told (tells_next at i code) (at.known (i ∷ code)) (needs at code) i)
           (ops_code p (home k.homes) k at (tells_next at i code) code)
-          (operation_passes results f called told (tells_next at i code) (at.known (i ∷ code)) (needs at code) i h.0 a.0 a.1)
-          (operations_pass results f called at (tells_next at i code) code h.1 a.2)
+          (operation_passes results f called told (tells_next at i code) (at.known (i ∷ code)) (needs at code) i h.0 u.0 a.0 a.1)
+          (operations_pass results f called at (tells_next at i code) code h.1 u.1 a.2)

@@ -1,5 +1,5 @@
 -- Valid operations are covered.
-use Rattle.std.proofs.Common.{◌≡◌, ◌≢◌, ◌⊎◌, ⊎_elim, ℕ, ◌+◌, ◌≤◌, ◌==◌, Bool, true, false, List, [], ◌∷◌, refl}
+use Rattle.std.proofs.Common.{◌≡◌, ◌≢◌, ◌⊎◌, ⊎_elim, ℕ, ◌+◌, ◌<◌, ◌≤◌, ◌==◌, Bool, true, false, List, [], ◌∷◌, refl}
 use Rattle.std.proofs.Common.{sym, ◌∙◌, ap, subst, arith, inl, inr}
 use Rattle.std.specs.Prelude.{⊤, ◌&&◌, ◌||◌, nat_lt, Option, Some, None, slice_get, IsSomeAnd}
 use Rattle.std.specs.List.{AllByRecursion, position_from}
@@ -25,10 +25,11 @@ use Rattle.ec_ir.specs.declared.operations.Temp.{Temp}
 use Rattle.ec_ir.specs.Costs.{is_bitwise}
 use Rattle.ec_ir.specs.Operations.{PlainIr, constant, copy, address, field, load_at, store_at, load_object}
 use Rattle.ec_ir.specs.Operations.{store_object, binary_op, unary_op, conversion, label, jump, branch_zero}
-use Rattle.ec_ir.specs.Operations.{call_function, return_from, port_in, port_out, PlainIrFunction, PlainIrProgram}
+use Rattle.ec_ir.specs.Operations.{call_function, return_from, port_in, port_out, load_cell, store_cell, cell_port}
+use Rattle.ec_ir.specs.Operations.{PlainIrFunction, PlainIrProgram}
 use Rattle.ec_ir.specs.Operations.{data_of}
-use Rattle.ec_ir.specs.Valid.{ValidIr, ValidIrFunction, ValidOperation, IsTemp, IsTempOf, IsPointerTemp, HasLeafOf}
-use Rattle.ec_ir.specs.Valid.{HasPointersOf, HaveOperationTypes, HaveCountTypes}
+use Rattle.ec_ir.specs.Valid.{ValidIrFunction, ValidOperation, IsTemp, IsTempOf, IsPointerTemp, HasLeafOf}
+use Rattle.ec_ir.specs.Valid.{HasPointersOf, HaveOperationTypes, HaveCountTypes, HaveBitTypes}
 use Rattle.ec_ir.specs.Valid.{IsResult as IsValidResult, IsIndex, IsPortWidth, IsParameterOf, called_in}
 use Rattle.ec_select_fixed.specs.Types.{IsFixedType}
 use Rattle.ec_select_operations.specs.Code.{family_of}
@@ -44,6 +45,7 @@ use Rattle.ec_select_operations.specs.Homes.{HasHome}
 use Rattle.ec_select.specs.InPlace.{IsInPlace}
 use Rattle.ec_select.specs.Laws.{OperationsHaveCode}
 use Rattle.ec_select.specs.Suited.{IsAdditive, ArePlacesSuited, IsSuited, IsOnPorts}
+use Rattle.ec_select.specs.Selected.{ValidWithCells}
 use Rattle.ec_select.proofs.FixedTypes.{at_most_four, at_most_eight, fixed_type, fixed_either}
 use Rattle.ec_select.proofs.PointerTypes.{few_width, width_is, pointers_only}
 use Rattle.ec_select.proofs.Setting.{all_at, function_valid}
@@ -125,18 +127,25 @@ integer_result op (struct k) s t n m h = absurd h
 -- so the result of an operator on integers is one
 pub result_integer : (op : BinOp) (ty aty bty : PlainType) → IsIntegerType aty → IsIntegerType bty
     → HaveOperationTypes op ty aty bty → IsIntegerType ty
-result_integer op ty aty bty i j (inr h) = subst (λ (x : PlainType). IsIntegerType x) (sym h.value) i
+result_integer op ty aty bty i j (inr (inl h)) = subst (λ (x : PlainType). IsIntegerType x) (sym h.value) i
+result_integer op ty aty bty i j (inr (inr h)) = subst (λ (x : PlainType). IsIntegerType x) (sym h.left) i
 result_integer op ty aty bty i j (inl h) =
     let q = as_integer aty i in let r = as_integer bty j in
     integer_result op ty q.0 r.0 q.1 r.1
     (subst (λ (x : PlainType). HaveBinaryTypes op ty (integer q.0 q.1) x) r.2
     (subst (λ (x : PlainType). HaveBinaryTypes op ty x bty) q.2 h))
 
--- the types of an operator with a pointer are not those of a shift
+-- the types of an operator with a pointer are not those of a shift, and not those of bits
 pointer_types : (op : BinOp) (ty aty bty : PlainType) → (is_pointer aty || is_pointer bty) ≡ true
     → HaveOperationTypes op ty aty bty → HaveBinaryTypes op ty aty bty
 pointer_types op ty aty bty k (inl h) = h
-pointer_types op ty aty bty k (inr h) =
+pointer_types op ty aty bty k (inr (inr h)) =
+    let none = arithmetic_no_pointer ty _ h.integer in
+    let x : is_pointer aty ≡ false = subst (λ (z : PlainType). is_pointer z ≡ false) h.left none in
+    let y : is_pointer bty ≡ false = subst (λ (z : PlainType). is_pointer z ≡ false) h.right none in
+    let z : (is_pointer aty || is_pointer bty) ≡ false = rw (x, y) refl in
+    absurd (false≢true (sym z ∙ k))
+pointer_types op ty aty bty k (inr (inl h)) =
     let x = arithmetic_no_pointer aty _ h.left in let y = arithmetic_no_pointer bty _ h.count in
     let z : (is_pointer aty || is_pointer bty) ≡ false = rw (x, y) refl in
     absurd (false≢true (sym z ∙ k))
@@ -312,10 +321,50 @@ module _ (slots : ℕ) (to a b : Temp) (s t u : Bool) (n m k : ℕ) (homes : Has
   counted Eq apart h = absurd h.shift
   counted Ne apart h = absurd h.shift
 
+  -- bits are of one type
+  one_type : integer s n ≡ integer t m → integer s n ≡ integer u k
+      → AreIntegers slots to a b (integer s n) (integer t m) (integer u k)
+  one_type left right =
+      let x : n ≡ m = cc in let y : n ≡ k = cc in
+      let p = bytes.0 in let q = bytes.1 in let r = bytes.2 in
+      record {
+        signed = s;
+        left_signed = t;
+        right_signed = u;
+        result_type = in_temp s n to bytes.0;
+        left_type = in_temp t m a bytes.1;
+        right_type = in_temp u k b bytes.2;
+        result = homes.0;
+        left = homes.1;
+        right = homes.2;
+        left_bytes = omega arith;
+        right_bytes = omega arith;
+      }
+
+  bits : (op : BinOp) → HaveBitTypes op (integer s n) (integer t m) (integer u k)
+      → IsBinary (family_of op) slots to a b (integer s n) (integer t m) (integer u k)
+  bits And h = one_type h.left h.right
+  bits Or h = one_type h.left h.right
+  bits Xor h = one_type h.left h.right
+  bits Add h = absurd (false≢true h.bitwise)
+  bits Sub h = absurd (false≢true h.bitwise)
+  bits Mul h = absurd (false≢true h.bitwise)
+  bits Div h = absurd (false≢true h.bitwise)
+  bits Rem h = absurd (false≢true h.bitwise)
+  bits Lt h = absurd (false≢true h.bitwise)
+  bits Gt h = absurd (false≢true h.bitwise)
+  bits Le h = absurd (false≢true h.bitwise)
+  bits Ge h = absurd (false≢true h.bitwise)
+  bits Eq h = absurd (false≢true h.bitwise)
+  bits Ne h = absurd (false≢true h.bitwise)
+  bits Shl h = absurd (false≢true h.bitwise)
+  bits Shr h = absurd (false≢true h.bitwise)
+
   -- an operator whose second operand has another place than the result
   binary : (op : BinOp) → to.at ≢ b.at → HaveOperationTypes op (integer s n) (integer t m) (integer u k)
       → IsBinary (family_of op) slots to a b (integer s n) (integer t m) (integer u k)
-  binary op apart (inr h) = counted op apart h
+  binary op apart (inr (inl h)) = counted op apart h
+  binary op apart (inr (inr h)) = bits op h
   binary Add apart (inl h) = integers h
   binary Sub apart (inl h) = integers h
   binary And apart (inl h) = integers h.usual
@@ -338,8 +387,10 @@ module _ (slots : ℕ) (to a b : Temp) (s t u : Bool) (n m k : ℕ) (homes : Has
       → IsBinary (family_of op) slots to a b (integer s n) (integer t m) (integer u k)
   additive Add i (inl h) = integers h
   additive Sub i (inl h) = integers h
-  additive Add i (inr h) = absurd h.shift
-  additive Sub i (inr h) = absurd h.shift
+  additive Add i (inr (inl h)) = absurd h.shift
+  additive Sub i (inr (inl h)) = absurd h.shift
+  additive Add i (inr (inr h)) = absurd (false≢true h.bitwise)
+  additive Sub i (inr (inr h)) = absurd (false≢true h.bitwise)
   additive Mul i h = absurd i
   additive Div i h = absurd i
   additive Rem i h = absurd i
@@ -363,7 +414,7 @@ module _ (slots : ℕ) (to a b : Temp) (s t u : Bool) (n m k : ℕ) (homes : Has
 
 -- ---- operations of a function
 
-module _ (leaves : LeavesFillTheirTypes) (p : PlainIrProgram) (valid : ValidIr p) (f slots : ℕ) (all : List PlainIr) where
+module _ (leaves : LeavesFillTheirTypes) (p : PlainIrProgram) (valid : ValidWithCells p) (f slots : ℕ) (all : List PlainIr) where
   typed_home : (ty : PlainType) (s : Bool) (n : ℕ) (t : Temp) → ty ≡ integer s n → IsTempOf (data_of p) slots ty t
       → HasHome slots t × (t.bytes ≡ n) × (n ≤ 4)
   typed_home ty s n t e h =
@@ -401,7 +452,7 @@ module _ (leaves : LeavesFillTheirTypes) (p : PlainIrProgram) (valid : ValidIr p
       record {
         pointer = k;
         types = pointer_types op ty aty bty k h;
-        structs = valid.structs;
+        structs = valid.1.structs;
         left_known = y.known;
         right_known = z.known;
         result = c.0;
@@ -439,8 +490,8 @@ module _ (leaves : LeavesFillTheirTypes) (p : PlainIrProgram) (valid : ValidIr p
     by_leaf : (leaf : PlainLeaf) → slice_get (leaves_of_type p.structs d.ty) l.k ≡ Some leaf → leaf.at ≡ offset
         → scalar_size leaf.ty ≡ t.bytes → HasHome slots t × HasScalarAt (data_of p) o offset t.bytes
     by_leaf leaf is at size =
-        let object = all_at (IsObject (data_of p)) p.objects o d valid.objects q in
-        let place = (leaves.types p.structs d.ty valid.structs object.ty).each l.k leaf is in
+        let object = all_at (IsObject (data_of p)) p.objects o d valid.1.objects q in
+        let place = (leaves.types p.structs d.ty valid.1.structs object.ty).each l.k leaf is in
         let few : scalar_size leaf.ty ≤ 8 = place.scalar.most in
         let whole : leaf ≡ record { ty = leaf.ty; at = offset } = rw (← at) refl in (
           home_of slots t temp (omega arith),
@@ -479,8 +530,8 @@ module _ (leaves : LeavesFillTheirTypes) (p : PlainIrProgram) (valid : ValidIr p
   pointer_into space t h =
       let bytes = h.bytes in let few = few_width space in (home_of slots t h.temp (omega (arith, bytes, few)), bytes)
 
-  result_covered : (g : ℕ) (t : Option Temp) → IsValidResult p valid.results f slots all g t → IsSuited (return_from t)
-      → IsResult valid.results g slots t
+  result_covered : (g : ℕ) (t : Option Temp) → IsValidResult valid.0 p valid.1.results f slots all g t → IsSuited (return_from t)
+      → IsResult valid.1.results g slots t
   result_covered g None h few = tt
   result_covered g (Some t) h few = (home_of slots t h.0 few, h.1)
 
@@ -488,20 +539,23 @@ module _ (leaves : LeavesFillTheirTypes) (p : PlainIrProgram) (valid : ValidIr p
   index_covered None v = tt
   index_covered (Some t) v = let two = v.1 in (home_of slots t v.0 (omega (arith, two)), two)
 
+  port_below : (port width : ℕ) → (width ≡ 1) ⊎ ((width ≡ 2) ⊎ (width ≡ 4)) → port + width ≤ 0x100 → port < 256
+  port_below port width cases h =
+      ⊎_elim (λ (q : width ≡ 1). omega (arith, h))
+      (λ (r : (width ≡ 2) ⊎ (width ≡ 4)). ⊎_elim (λ (q : width ≡ 2). omega (arith, h)) (λ (q : width ≡ 4). omega (arith, h)) r) cases
+
   port_covered : (t : Temp) (port : ℕ) (index : Option Temp) (width : ℕ) → IsPortWidth slots t width → IsIndex slots index
-      → port + width ≤ 0x100 → t.bytes ≤ 8 → IsPort slots t port index width
+      → port < 256 → t.bytes ≤ 8 → IsPort slots t port index width
   port_covered t port index width v i h s = record {
     number = home_of slots t v.temp s;
     index_has = index_covered index i;
     one_two_four = v.width;
     within = v.within;
-    address = ⊎_elim (λ (q : width ≡ 1). omega (arith, h))
-        (λ (r : (width ≡ 2) ⊎ (width ≡ 4)). ⊎_elim (λ (q : width ≡ 2). omega (arith, h)) (λ (q : width ≡ 4). omega (arith, h)) r)
-        v.width;
+    address = h;
   }
 
-  covered : (i : PlainIr) → ValidOperation p valid.results f slots all i → IsOnPorts i → IsSuited i
-      → IsCovered (data_of p) valid.results f (called_in all) slots i
+  covered : (i : PlainIr) → ValidOperation valid.0 p valid.1.results f slots all i → IsOnPorts i → IsSuited i
+      → IsCovered (data_of p) valid.1.results f (called_in all) slots i
   covered (constant t n) v h s = home_of slots t v.0 s
   covered (copy to from) v h s =
       let e = v.2 in (home_of slots to v.0 s, home_of slots from v.1 (omega arith), e)
@@ -590,12 +644,15 @@ module _ (leaves : LeavesFillTheirTypes) (p : PlainIrProgram) (valid : ValidIr p
   covered (branch_zero t l) v h s = home_of slots t v.0 s
   covered (call_function g to) v h s = result_covered g to v.1 s
   covered (return_from from) v h s = result_covered f from v s
-  covered (port_in to port index width) v h s = port_covered to port index width v.0 v.1 h s
-  covered (port_out from port index width) v h s = port_covered from port index width v.0 v.1 h s
+  covered (port_in to port index width) v h s = port_covered to port index width v.0 v.1 (port_below port width v.0.width h) s
+  covered (port_out from port index width) v h s = port_covered from port index width v.0 v.1 (port_below port width v.0.width h) s
+  covered (load_cell to cell) v h s = let one = v.byte in (home_of slots to v.temp (omega (arith, one)), one)
+  covered (store_cell cell from) v h s = let one = v.byte in (home_of slots from v.temp (omega (arith, one)), one)
+  covered (cell_port read t cell offset index width) v h s = port_covered t offset index width v.1 v.2 h s
 
-  all_covered : (code : List PlainIr) → AllByRecursion (ValidOperation p valid.results f slots all) code
+  all_covered : (code : List PlainIr) → AllByRecursion (ValidOperation valid.0 p valid.1.results f slots all) code
       → AllByRecursion IsOnPorts code → AllByRecursion IsSuited code
-      → AreCovered (data_of p) valid.results f (called_in all) slots code
+      → AreCovered (data_of p) valid.1.results f (called_in all) slots code
   all_covered [] v h s = tt
   all_covered (i ∷ code) v h s = (covered i v.0 h.0 s.0, all_covered code v.1 h.1 s.1)
 
@@ -619,8 +676,8 @@ not_bitwise Ne i k = i
 not_bitwise Shl i k = i
 not_bitwise Shr i k = i
 
-module _ (p : PlainIrProgram) (results : ℕ → ℕ) (f slots : ℕ) (all : List PlainIr) where
-  in_place : (i : PlainIr) → ValidOperation p results f slots all i → IsSuited i → IsInPlace i
+module _ (cells : ℕ) (p : PlainIrProgram) (results : ℕ → ℕ) (f slots : ℕ) (all : List PlainIr) where
+  in_place : (i : PlainIr) → ValidOperation cells p results f slots all i → IsSuited i → IsInPlace i
   in_place (binary_op op ty mode to a aty b bty) v s =
       by_kind (is_fixed aty || is_fixed bty) (is_pointer aty || is_pointer bty) refl s where
         by_kind : (k g : Bool) → (is_pointer aty || is_pointer bty) ≡ g → ArePlacesSuited op to.at a.at b.at k g
@@ -647,27 +704,30 @@ module _ (p : PlainIrProgram) (results : ℕ → ℕ) (f slots : ℕ) (all : Lis
   in_place (store_at ptr space from) v s = tt
   in_place (port_in to port index width) v s = tt
   in_place (port_out from port index width) v s = tt
+  in_place (load_cell to cell) v s = tt
+  in_place (store_cell cell from) v s = tt
+  in_place (cell_port read t cell offset index width) v s = tt
 
-  all_in_place : (code : List PlainIr) → AllByRecursion (ValidOperation p results f slots all) code
+  all_in_place : (code : List PlainIr) → AllByRecursion (ValidOperation cells p results f slots all) code
       → AllByRecursion IsSuited code → AllByRecursion IsInPlace code
   all_in_place [] v s = tt
   all_in_place (i ∷ code) v s = (in_place i v.0 s.0, all_in_place code v.1 s.1)
 
-functions_in_place : (p : PlainIrProgram) (results : ℕ → ℕ) (n : ℕ) (fs : List PlainIrFunction)
-    → EachFrom n (ValidIrFunction p results) fs → AllByRecursion (λ g. AllByRecursion IsSuited g.code) fs
+functions_in_place : (cells : ℕ) (p : PlainIrProgram) (results : ℕ → ℕ) (n : ℕ) (fs : List PlainIrFunction)
+    → EachFrom n (ValidIrFunction cells p results) fs → AllByRecursion (λ g. AllByRecursion IsSuited g.code) fs
     → AllByRecursion (λ g. AllByRecursion IsInPlace g.code) fs
-functions_in_place p results n [] v s = tt
-functions_in_place p results n (g ∷ fs) v s =
-    (all_in_place p results n g.slots g.code g.code v.0.code s.0, functions_in_place p results (n + 1) fs v.1 s.1)
+functions_in_place cells p results n [] v s = tt
+functions_in_place cells p results n (g ∷ fs) v s =
+    (all_in_place cells p results n g.slots g.code g.code v.0.code s.0, functions_in_place cells p results (n + 1) fs v.1 s.1)
 
 pub operations_have_code : LeavesFillTheirTypes → OperationsHaveCode
-operations_have_code leaves p valid are suited = (
+operations_have_code leaves cells p valid are suited = (
   record {
     results = valid.results;
     main_result = valid.main_result;
-    functions = λ f g e. all_covered leaves p valid f g.slots g.code g.code (function_valid p valid f g e).code
+    functions = λ f g e. all_covered leaves p (cells, valid) f g.slots g.code g.code (function_valid p (cells, valid) f g e).code
         (all_at (λ h. AllByRecursion IsOnPorts h.code) p.functions f g are e)
         (all_at (λ h. AllByRecursion IsSuited h.code) p.functions f g suited e);
   },
-  functions_in_place p valid.results 0 p.functions valid.functions suited,
+  functions_in_place cells p valid.results 0 p.functions valid.functions suited,
 )

@@ -1,6 +1,6 @@
 -- The pieces of code fit.
 use Rattle.std.proofs.Common.{◌≡◌, ℕ, zero, suc, ◌+◌, ◌-◌, ◌*◌, ◌/◌, ◌%◌, ◌<◌, ◌≤◌, Bool, true, false, []}
-use Rattle.std.proofs.Common.{◌∷◌, ◌++◌, refl, arith}
+use Rattle.std.proofs.Common.{◌∷◌, refl, arith}
 use Rattle.std.specs.Prelude.{◌==◌, ◌&&◌, nat_le, if◌then◌else◌}
 use Rattle.std.proofs.lemmas.Bool.{lt-ltb, le-leb, eqb-true, eqb-false, and_parts}
 use Rattle.ec_isa.specs.declared.instructions.Instr.{Instr}
@@ -16,7 +16,9 @@ use Rattle.ec_asm.specs.Pieces.{compare_byte, compare_code}
 use Rattle.ec_asm.specs.Items.{chain}
 use Rattle.ec_asm.specs.Valid.{Sizes}
 use Rattle.ec_select_bytes.specs.Complements.{complement_byte, complement_code, carry_byte, carry_code, negation_code}
-use Rattle.ec_select_bytes.specs.Values.{byte_of, constant_byte, constant_code, test_byte, test_code, put_byte}
+use Rattle.ec_select_bytes.specs.Values.{byte_of, constant_byte, constant_code, byte_test, first_byte, join_byte}
+use Rattle.ec_select_bytes.specs.Values.{join_code, test_code, put_byte}
+use Rattle.ec_select_bytes.proofs.Tests.{several}
 use Rattle.ec_select_bytes.specs.Values.{take_byte, fill_code, puts_code, clear_byte, widen_code, extend_code}
 use Rattle.ec_select_operations.specs.Code.{pair_code, odd_code, pairs_code, transfer_code}
 use Rattle.ec_select_order.specs.declared.relations.Relation.{Relation}
@@ -148,12 +150,24 @@ module _ (sizes : Sizes) where
       chained (fits sizes) (λ i. constant_byte p (byte_of number i) i) n
       (λ i l. constant_byte_fits p (byte_of number i) i (omega arith) (x i l))
 
-  test_byte_fits : (p : Location) (i : ℕ) → ByteFits sizes p i → Fit sizes (test_byte p i)
-  test_byte_fits (InRegisters r) i x = rw (compares_fits i (r + i) 1 x (omega arith)) refl
-  test_byte_fits (InMemory o k) i x = rw (x, compares_fits i 0 1 (omega arith) (omega arith)) refl
+  byte_test_fits : (p : Location) → ByteFits sizes p 0 → Fit sizes (byte_test p)
+  byte_test_fits (InRegisters r) x = rw (reg (r + 0) x) refl
+  byte_test_fits (InMemory o k) x = rw x refl
+
+  first_byte_fits : (p : Location) → ByteFits sizes p 0 → Fit sizes (first_byte p)
+  first_byte_fits (InRegisters r) x = rw (reg (r + 0) x) refl
+  first_byte_fits (InMemory o k) x = rw x refl
+
+  join_byte_fits : (p : Location) (i : ℕ) → ByteFits sizes p (1 + i) → Fit sizes (join_byte p i)
+  join_byte_fits (InRegisters r) i x = rw (reg (r + (1 + i)) x) refl
+  join_byte_fits (InMemory o k) i x = rw x refl
 
   pub test_fits : (p : Location) (n : ℕ) → BytesFit sizes p n → Fit sizes (test_code p n)
-  test_fits p n x = chained (fits sizes) (test_byte p) n (λ i l. test_byte_fits p i (x i l))
+  test_fits p zero x = refl
+  test_fits p (suc zero) x = byte_test_fits p (x 0 (omega arith))
+  test_fits p (suc (suc n)) x =
+      rw (several p n) (joined (fits sizes) (first_byte p) (join_code p (suc n)) (first_byte_fits p (x 0 (omega arith)))
+      (chained (fits sizes) (join_byte p) (suc n) (λ i l. join_byte_fits p i (x (1 + i) (omega (arith, l))))))
 
   put_byte_fits : (p : Location) (i : ℕ) → ByteFits sizes p i → Fit sizes (put_byte p i)
   put_byte_fits (InRegisters r) i x = rw (reg (r + i) x) refl

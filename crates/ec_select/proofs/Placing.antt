@@ -1,9 +1,8 @@
 -- Routines can be placed: their items fit, and the label of each stands once.
-use Rattle.std.proofs.Common.{◌≡◌, ℕ, zero, suc, ◌+◌, ◌-◌, ◌<◌, ◌≤◌, ◌==◌, Bool, true, false, List, [], ◌∷◌, ◌++◌, refl, sym, ◌∙◌, ap}
-use Rattle.std.proofs.Common.{subst, arith, map, length}
+use Rattle.std.proofs.Common.{◌≡◌, ℕ, suc, ◌+◌, ◌-◌, ◌<◌, ◌≤◌, ◌==◌, Bool, true, false, List, [], ◌∷◌, ◌++◌, refl, sym, ◌∙◌, ap}
+use Rattle.std.proofs.Common.{subst, arith, map}
 use Rattle.std.specs.Prelude.{⊤, ◌||◌, cond, count_by, if◌then◌else◌, Option, Some, None}
 use Rattle.std.specs.List.{list_all, AllByRecursion}
-use Rattle.std.proofs.lemmas.Bool.{false≢true}
 use Rattle.std.proofs.lemmas.Bool.Decides.{nat_tests}
 use Rattle.ec_isa.specs.declared.instructions.Instr.TheVariants.{Ret}
 use Rattle.ec_asm.specs.declared.items.AsmItem.{AsmItem}
@@ -12,9 +11,8 @@ use Rattle.ec_asm.specs.Pieces.{copy_code}
 use Rattle.ec_asm.specs.Valid.{Sizes, is_offset, is_label}
 use Rattle.ec_core.specs.Layout.{scalar_size}
 use Rattle.ec_core_shapes.specs.Shapes.{Shape, same_shape}
-use Rattle.ec_ir.specs.Operations.{PlainIr, constant, copy, address, field, load_at, store_at, load_object}
-use Rattle.ec_ir.specs.Operations.{store_object, binary_op, unary_op, conversion, label, jump, branch_zero}
-use Rattle.ec_ir.specs.Operations.{call_function, return_from, port_in, port_out, PlainIrProgram, data_of}
+use Rattle.ec_ir.specs.Operations.{PlainIr}
+use Rattle.ec_ir.specs.Operations.{binary_op, unary_op, conversion}
 use Rattle.ec_routines.specs.Routines.{routine_code}
 use Rattle.ec_shapes.specs.Shapes.{has}
 use Rattle.ec_select_fixed.specs.Types.{AreFixedOperands, IsFixedOperand, AreFixedConverted}
@@ -27,8 +25,8 @@ use Rattle.ec_select_operations.specs.declared.families.Family.TheVariants.{Divi
 use Rattle.ec_select_operations.specs.Code.{family_of, is_signed}
 use Rattle.ec_select_operations.specs.Emitted.{OfKind}
 use Rattle.ec_select_operations.specs.Needs.{is_fixed}
-use Rattle.ec_select_operations.specs.Routines.{body_by, division_body, routine_body, routine_with, routine_for, CanBeDivided, CanBeRoutine}
-use Rattle.ec_select.specs.Sharing.{Use, Row, is_shaped, shape_of, shape_routine, used_shapes, with_shape, row_of, row_routine}
+use Rattle.ec_select_operations.specs.Routines.{body_by, division_body, routine_body, routine_with, CanBeDivided, CanBeRoutine}
+use Rattle.ec_select.specs.Sharing.{Use, Row, is_shaped, shape_of, shape_routine, used_shapes, row_of, row_routine}
 use Rattle.ec_select.specs.Sharing.{label_where, label_among, routines_among, stands_once}
 use Rattle.ec_select.proofs.Counted.{joined_count}
 use Rattle.ec_select.proofs.FixedItems.{FixedItemLaws, plain_fits}

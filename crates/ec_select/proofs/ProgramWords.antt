@@ -1,9 +1,8 @@
 -- The words of a program's code.
-use Rattle.std.proofs.Common.{◌≡◌, ℕ, zero, suc, ◌+◌, ◌*◌, ◌≤◌, Bool, true, false, List, [], ◌∷◌, ◌++◌, refl}
-use Rattle.std.proofs.Common.{ap, arith, length, take, length-append}
-use Rattle.std.specs.Prelude.{if◌then◌else◌, Option, Some, None, slice_get}
+use Rattle.std.proofs.Common.{◌≡◌, ℕ, ◌+◌, ◌*◌, ◌≤◌, Bool, true, false, List, [], ◌∷◌, ◌++◌}
+use Rattle.std.proofs.Common.{arith, length, length-append}
+use Rattle.std.specs.Prelude.{if◌then◌else◌, Some, slice_get}
 use Rattle.std.specs.List.{AllByRecursion}
-use Rattle.std.proofs.lemmas.List.{take_all}
 use Rattle.ec_space.specs.declared.Core.{Core}
 use Rattle.ec_space.specs.declared.space.Home.{Home}
 use Rattle.ec_space.specs.declared.space.Home.TheVariants.{Data as DataHome, Flash as FlashHome, Far as FarHome}
@@ -15,7 +14,6 @@ use Rattle.ec_core.specs.Weight.{object_weight, objects_weight}
 use Rattle.ec_core.specs.Words.{program_words}
 use Rattle.ec_ir.specs.Costs.{functions_words}
 use Rattle.ec_ir.specs.Operations.{PlainIr, PlainIrFunction, PlainIrProgram}
-use Rattle.ec_ir.specs.Valid.{ValidIr}
 use Rattle.ec_ir_shapes.specs.Costs.{functions_words_by_shapes}
 use Rattle.ec_core_shapes.specs.Shapes.{Shape}
 use Rattle.ec_select_routines.proofs.Sizes.{sizes_decide}
@@ -29,7 +27,7 @@ use Rattle.ec_select.specs.Laws.{SelectionsHaveWords}
 use Rattle.ec_select.specs.Program.{has_initial_bytes, span_of, spans_from, spans_of}
 use Rattle.ec_select.specs.Program.{functions_code}
 use Rattle.ec_select.specs.Program.{program_code}
-use Rattle.ec_select.specs.Selected.{HasCode}
+use Rattle.ec_select.specs.Selected.{ValidWithCells, HasCode}
 use Rattle.ec_select.specs.Sharing.{Use, routines_code}
 use Rattle.ec_select.proofs.Words.{joined_words}
 use Rattle.ec_select.proofs.AlikeWords.{has_operand_types}
@@ -73,15 +71,15 @@ each_of h [] all = tt
 each_of h (i ∷ code) all = (h i all.0, each_of h code all.1)
 
 -- what is known of the operations of a function
-counted : (p : PlainIrProgram) (valid : ValidIr p) (has : HasCode p) → AreInPlace p → (f : ℕ) (g : PlainIrFunction)
+counted : (p : PlainIrProgram) (valid : ValidWithCells p) (has : HasCode p) → AreInPlace p → (f : ℕ) (g : PlainIrFunction)
     → slice_get p.functions f ≡ Some g → IsCounted p has.results f g
 counted p valid has in_place f g e =
     let v = (function_valid p valid f g e).code in
     record {
       covered = has.functions f g e;
       in_place = all_at (λ h. AllByRecursion IsInPlace h.code) p.functions f g in_place e;
-      bytes = each_of (has_type_bytes p valid.results f g.slots g.code) g.code v;
-      types = each_of (has_operand_types p valid.results f g.slots g.code) g.code v;
+      bytes = each_of (has_type_bytes valid.0 p valid.1.results f g.slots g.code) g.code v;
+      types = each_of (has_operand_types valid.0 p valid.1.results f g.slots g.code) g.code v;
     }
 
 -- what this rests on
@@ -90,7 +88,7 @@ pub record ProgramWordLaws : Type 0 where
   pub routines : RoutineLaws
   pub startup : StartupHasWords
 
-module _ (laws : ProgramWordLaws) (core : Core) (p : PlainIrProgram) (valid : ValidIr p) (has : HasCode p) (in_place : AreInPlace p)
+module _ (laws : ProgramWordLaws) (core : Core) (p : PlainIrProgram) (valid : ValidWithCells p) (has : HasCode p) (in_place : AreInPlace p)
     (tables : ℕ → ℕ → Need) where
   program_few : (most : ℕ) → code_words (functions_code core p tables (length p.functions) ++ routines_code core p tables) ≤ most
       → code_words (program_code core p tables) ≤ program_words + objects_weight p.objects + most

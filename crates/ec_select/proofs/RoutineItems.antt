@@ -17,7 +17,8 @@ use Rattle.ec_space.specs.declared.space.SpaceId.{SpaceId}
 use Rattle.ec_ir.specs.declared.operations.Temp.{Temp}
 use Rattle.ec_ir.specs.Operations.{PlainIr, constant, copy, address, field, load_at, store_at, load_object}
 use Rattle.ec_ir.specs.Operations.{store_object, binary_op, unary_op, conversion, label, jump, branch_zero}
-use Rattle.ec_ir.specs.Operations.{call_function, return_from, port_in, port_out, PlainIrProgram}
+use Rattle.ec_ir.specs.Operations.{call_function, return_from, port_in, port_out, load_cell, store_cell, cell_port}
+use Rattle.ec_ir.specs.Operations.{PlainIrProgram}
 use Rattle.ec_ir.specs.Valid.{HaveOperationTypes, Results, ValidOperation}
 use Rattle.ec_core_shapes.specs.Shapes.{Shape, unary_shape, binary_shape, conversion_shape}
 use Rattle.ec_ir_shapes.specs.Costs.{Code, in_line, integer_code, shape_code, shapes_with, op_shapes, has_one_format}
@@ -208,26 +209,29 @@ abbrev pub HasBody : PlainIr → Type 0
 HasBody i = (body : List AsmItem) × (routine_body i ≡ Some body)
 
 -- valid operations have these types
-pub has_types : (p : PlainIrProgram) (results : Results) (f slots : ℕ) (all : List PlainIr) (i : PlainIr)
-    → ValidOperation p results f slots all i → HasTypes i
-has_types p results f slots all (binary_op op ty mode to a aty b bty) v = v.3
-has_types p results f slots all (unary_op op ty mode to a) v = tt
-has_types p results f slots all (conversion to ty mode a aty) v = tt
-has_types p results f slots all (constant t n) v = tt
-has_types p results f slots all (copy to from) v = tt
-has_types p results f slots all (address t o offset) v = tt
-has_types p results f slots all (field ptr space offset) v = tt
-has_types p results f slots all (load_at to ptr space) v = tt
-has_types p results f slots all (store_at ptr space from) v = tt
-has_types p results f slots all (load_object t o offset) v = tt
-has_types p results f slots all (store_object o offset t) v = tt
-has_types p results f slots all (label l) v = tt
-has_types p results f slots all (jump l) v = tt
-has_types p results f slots all (branch_zero t l) v = tt
-has_types p results f slots all (call_function g to) v = tt
-has_types p results f slots all (return_from from) v = tt
-has_types p results f slots all (port_in to port index width) v = tt
-has_types p results f slots all (port_out from port index width) v = tt
+pub has_types : (cells : ℕ) (p : PlainIrProgram) (results : Results) (f slots : ℕ) (all : List PlainIr) (i : PlainIr)
+    → ValidOperation cells p results f slots all i → HasTypes i
+has_types cells p results f slots all (binary_op op ty mode to a aty b bty) v = v.3
+has_types cells p results f slots all (unary_op op ty mode to a) v = tt
+has_types cells p results f slots all (conversion to ty mode a aty) v = tt
+has_types cells p results f slots all (constant t n) v = tt
+has_types cells p results f slots all (copy to from) v = tt
+has_types cells p results f slots all (address t o offset) v = tt
+has_types cells p results f slots all (field ptr space offset) v = tt
+has_types cells p results f slots all (load_at to ptr space) v = tt
+has_types cells p results f slots all (store_at ptr space from) v = tt
+has_types cells p results f slots all (load_object t o offset) v = tt
+has_types cells p results f slots all (store_object o offset t) v = tt
+has_types cells p results f slots all (label l) v = tt
+has_types cells p results f slots all (jump l) v = tt
+has_types cells p results f slots all (branch_zero t l) v = tt
+has_types cells p results f slots all (call_function g to) v = tt
+has_types cells p results f slots all (return_from from) v = tt
+has_types cells p results f slots all (port_in to port index width) v = tt
+has_types cells p results f slots all (port_out from port index width) v = tt
+has_types cells p results f slots all (load_cell to cell) v = tt
+has_types cells p results f slots all (store_cell cell from) v = tt
+has_types cells p results f slots all (cell_port read t cell offset index width) v = tt
 
 module _ (p : PlainProgram) (results : ℕ → ℕ) (f : ℕ) (called : List ℕ) (slots : ℕ) where
   -- ---- it has a routine
@@ -324,6 +328,9 @@ module _ (p : PlainProgram) (results : ℕ → ℕ) (f : ℕ) (called : List ℕ
   has_routine (return_from from) s c types q = absurd (no_item s q)
   has_routine (port_in to port index width) s c types q = absurd (no_item s q)
   has_routine (port_out from port index width) s c types q = absurd (no_item s q)
+  has_routine (load_cell to cell) s c types q = absurd (no_item s q)
+  has_routine (store_cell cell from) s c types q = absurd (no_item s q)
+  has_routine (cell_port read t cell offset index width) s c types q = absurd (no_item s q)
 
   -- ---- the emitter may write it
 
@@ -388,6 +395,9 @@ module _ (p : PlainProgram) (results : ℕ → ℕ) (f : ℕ) (called : List ℕ
   can_be_routine (return_from from) c = tt
   can_be_routine (port_in to port index width) c = tt
   can_be_routine (port_out from port index width) c = tt
+  can_be_routine (load_cell to cell) c = tt
+  can_be_routine (store_cell cell from) c = tt
+  can_be_routine (cell_port read t cell offset index width) c = tt
 
   -- ---- and a call of it
 
@@ -434,3 +444,6 @@ module _ (p : PlainProgram) (results : ℕ → ℕ) (f : ℕ) (called : List ℕ
   can_be_called wanted (return_from from) c few = tt
   can_be_called wanted (port_in to port index width) c few = tt
   can_be_called wanted (port_out from port index width) c few = tt
+  can_be_called wanted (load_cell to cell) c few = tt
+  can_be_called wanted (store_cell cell from) c few = tt
+  can_be_called wanted (cell_port read t cell offset index width) c few = tt

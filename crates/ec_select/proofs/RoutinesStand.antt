@@ -16,19 +16,19 @@ use Rattle.ec_core.specs.Plain.{PlainType, void, integer, fixed, pointer, array,
 use Rattle.ec_core.specs.Words.{widest}
 use Rattle.ec_core_shapes.specs.Shapes.{binary_shape}
 use Rattle.ec_fx.specs.declared.numbers.Mode.{Mode}
-use Rattle.ec_ir.specs.Operations.{PlainIr, constant, copy, address, field, load_at, store_at, load_object}
-use Rattle.ec_ir.specs.Operations.{store_object, binary_op, unary_op, conversion, label, jump, branch_zero}
-use Rattle.ec_ir.specs.Operations.{call_function, return_from, port_in, port_out, PlainIrFunction, PlainIrProgram, data_of}
+use Rattle.ec_ir.specs.Operations.{PlainIr}
+use Rattle.ec_ir.specs.Operations.{binary_op}
+use Rattle.ec_ir.specs.Operations.{PlainIrFunction, PlainIrProgram, data_of}
 use Rattle.ec_ir_shapes.specs.Costs.{are_exact, any_fixed, any_pointer, is_fixed as counts_fixed, is_pointer as counts_pointer}
-use Rattle.ec_ir.specs.Valid.{ValidIr, ValidOperation, called_in}
+use Rattle.ec_ir.specs.Valid.{ValidOperation, called_in}
 use Rattle.ec_routines.specs.Routines.{routine_code}
 use Rattle.ec_select_functions.specs.Covered.{IsCovered, AreCovered}
 use Rattle.ec_select_functions.specs.Laws.{CanCall}
 use Rattle.ec_select_operations.specs.Code.{family_of, has_one_format, is_on_integers}
 use Rattle.ec_select_operations.specs.Needs.{Need, is_fixed}
-use Rattle.ec_select_operations.specs.Routines.{routine_body, routine_with, routine_for, HasRoutineOf}
+use Rattle.ec_select_operations.specs.Routines.{routine_with, HasRoutineOf}
 use Rattle.ec_select_routines.specs.Laws.{HasRoutine}
-use Rattle.ec_select.specs.Selected.{HasCode}
+use Rattle.ec_select.specs.Selected.{ValidWithCells, HasCode}
 use Rattle.ec_select.specs.Sharing.{Use, Row, is_shaped, shape_of, shape_routine, row_of, row_routine, stands_once, used_shapes}
 use Rattle.ec_select.specs.Sharing.{label_where, label_among, rows_of, routines_among, routines_begin, routines_code, routine_of}
 use Rattle.ec_select.specs.Sharing.{program_uses}
@@ -102,13 +102,13 @@ module _ (parts : PartsStand) (e : Env) (us : List Use) where
       by_test true t z rest = by_once (shapes_told.one r s t) (stands_once us r) refl z
       by_test false t z rest = rest two.0 z two.2
 
-module _ (parts : PartsStand) (core : Core) (p : PlainIrProgram) (valid : ValidIr p) (has : HasCode p) (e : Env) (tables : ℕ → ℕ → Need)
+module _ (parts : PartsStand) (core : Core) (p : PlainIrProgram) (valid : ValidWithCells p) (has : HasCode p) (e : Env) (tables : ℕ → ℕ → Need)
     (f : ℕ) (g : PlainIrFunction) (is : slice_get p.functions f ≡ Some g) where
   abbrev Held : PlainIr → Type 0
   Held i = is_shaped i ≡ true → HasBody i
 
   all_held : (code : List PlainIr) → AreCovered (data_of p) has.results f (called_in g.code) g.slots code
-      → AllByRecursion (ValidOperation p valid.results f g.slots g.code) code → All Held code
+      → AllByRecursion (ValidOperation valid.0 p valid.1.results f g.slots g.code) code → All Held code
   all_held [] c v = All-nil Held
   all_held (i ∷ code) c v = All-cons Held i code (λ s. body_of p valid has f g i c.0 v.0 s) (all_held code c.1 v.1)
 

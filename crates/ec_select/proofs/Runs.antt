@@ -143,9 +143,9 @@ apart_at a b m n c d j q r left right below above = grind arith
 
 -- ---- the program
 
-module _ (laws : RunLaws) (p : PlainIrProgram) (asm : AsmProgram) (e : Env) (place scratch : ℕ → ℕ) (size low : ℕ)
-    (valid : ValidIr p) (has : HasCode p) (h : IsSelection e.core p asm) (fits : Fits e size) (small : size < 65536)
-    (laid : IsLaidOut p asm e place scratch low) where
+module _ (laws : RunLaws) (cells : ℕ) (p : PlainIrProgram) (asm : AsmProgram) (e : Env) (place scratch : ℕ → ℕ) (size low : ℕ)
+    (valid : ValidIr cells p) (has : HasCode p) (h : IsSelection e.core p asm) (fits : Fits e size) (small : size < 65536)
+    (laid : IsLaidOut cells p asm e place scratch low) where
   abbrev code : List AsmItem
   code = program_code e.core p h.tables
 
@@ -195,11 +195,11 @@ module _ (laws : RunLaws) (p : PlainIrProgram) (asm : AsmProgram) (e : Env) (pla
         scratch_stands = laid.memory.stands f g q;
         objects_stand = laid.memory.objects f g q;
         stands = here;
-        routines = λ i l there label. routine_stands laws.parts e.core p valid has e h.tables f g q i l two.0 laid.code.end two.2 there label;
-        callers = λ i l there label. routine_called laws.parts e.core p valid has e h.tables f g q i l there label;
+        routines = λ i l there label. routine_stands laws.parts e.core p (cells, valid) has e h.tables f g q i l two.0 laid.code.end two.2 there label;
+        callers = λ i l there label. routine_called laws.parts e.core p (cells, valid) has e h.tables f g q i l there label;
       })
 
-  are_selected : AreSelected p e place function_label
+  are_selected : AreSelected cells p e place function_label
   are_selected = record {
     results = has.results;
     made = λ f. made_at f (slice_get p.functions f);
@@ -350,11 +350,11 @@ module _ (laws : RunLaws) (p : PlainIrProgram) (asm : AsmProgram) (e : Env) (pla
       → s.pc ≡ laid.code.begin → RunsAsOperations p place e v s inputs
   runs s v inputs shows feeds pc =
       let begun = subst (λ (n : ℕ). CanStart p e place function_label (spans_of p) low n) (sym pc) can_start in
-      let shown = laws.follows p place function_label e (spans_of p) size low s v inputs valid fits shows feeds are_selected begun in
+      let shown = laws.follows cells p place function_label e (spans_of p) size low s v inputs valid fits shows feeds are_selected begun in
       let few = span_steps p.structs 0 p.objects in
       let most = shown.at_most in
       record { shows = shown; few = omega (arith, few, most) }
 
 pub selections_run : RunLaws → SelectionsRun
-selections_run laws p asm e place scratch size low s v inputs valid has h fits small shows feeds laid pc =
-    runs laws p asm e place scratch size low valid has h fits small laid s v inputs shows feeds pc
+selections_run laws cells p asm e place scratch size low s v inputs valid has h fits small shows feeds laid pc =
+    runs laws cells p asm e place scratch size low valid has h fits small laid s v inputs shows feeds pc

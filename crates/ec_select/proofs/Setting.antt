@@ -13,13 +13,15 @@ use Rattle.ec_core.specs.Plain.{PlainStorage, static, local, param, register, Pl
 use Rattle.ec_core.specs.TypeLaws.{LeavesFillTheirTypes}
 use Rattle.ec_core.specs.Valid.{EachFrom, IsObject, IsStored}
 use Rattle.ec_ir.specs.Operations.{PlainIrFunction, PlainIrProgram, data_of}
-use Rattle.ec_ir.specs.Valid.{ValidIr, ValidIrFunction}
+use Rattle.ec_ir.specs.Valid.{ValidIrFunction}
 use Rattle.ec_select_functions.specs.Covered.{HasScalarAt}
 use Rattle.ec_select_operations.specs.Places.{location_in, object_location}
+use Rattle.ec_select_operations.specs.Ports.{first_cell}
 use Rattle.ec_select_startup.specs.Laws.{IsValidSpan}
 use Rattle.ec_select.specs.Labels.{widest_temps, homes_of}
 use Rattle.ec_select.specs.Laws.{object_sizes}
 use Rattle.ec_select.specs.Program.{has_initial_bytes, span_of, spans_from, spans_of}
+use Rattle.ec_select.specs.Selected.{ValidWithCells}
 use Rattle.ec_select.proofs.Fitting.{BytesFit}
 use Rattle.ec_select.proofs.OneOperation.{HasRoom, ObjectsFit}
 
@@ -81,22 +83,22 @@ initial_offset sizes o size e =
 abbrev IsWidth : ℕ → Type 0
 IsWidth w = (w ≡ 2) ⊎ (w ≡ 4)
 
-module _ (p : PlainIrProgram) (valid : ValidIr p) where
+module _ (p : PlainIrProgram) (valid : ValidWithCells p) where
   abbrev pub own_sizes : Sizes
-  own_sizes = sizes_of (object_sizes p) (map (λ g. g.slots) p.functions) 64
+  own_sizes = sizes_of (object_sizes p) (map (λ g. g.slots) p.functions) (64 + valid.0)
 
   pub function_few : (f : ℕ) (g : PlainIrFunction) → slice_get p.functions f ≡ Some g → f < 256
-  function_few f g e = let l = slice_get_within p.functions f g e in let m = valid.function_count in omega arith
+  function_few f g e = let l = slice_get_within p.functions f g e in let m = valid.1.function_count in omega arith
 
   pub function_valid : (f : ℕ) (g : PlainIrFunction) → slice_get p.functions f ≡ Some g
-      → ValidIrFunction p valid.results f g
+      → ValidIrFunction valid.0 p valid.1.results f g
   function_valid f g e =
       let q : 0 + f ≡ f = omega arith in
-      subst (λ k. ValidIrFunction p valid.results k g) q
-      (each_at (ValidIrFunction p valid.results) 0 p.functions f g valid.functions e)
+      subst (λ k. ValidIrFunction valid.0 p valid.1.results k g) q
+      (each_at (ValidIrFunction valid.0 p valid.1.results) 0 p.functions f g valid.1.functions e)
 
   pub object_few : (o : ℕ) (d : PlainObject) → slice_get p.objects o ≡ Some d → o < 1024
-  object_few o d e = let l = slice_get_within p.objects o d e in let m = valid.object_count in omega arith
+  object_few o d e = let l = slice_get_within p.objects o d e in let m = valid.1.object_count in omega arith
 
   pub object_size : (o : ℕ) (d : PlainObject) → slice_get p.objects o ≡ Some d
       → slice_get (object_sizes p) o ≡ Some (size_of_type p.structs d.ty)
@@ -104,11 +106,12 @@ module _ (p : PlainIrProgram) (valid : ValidIr p) where
       slice_get-map (λ x. size_of_type p.structs x.ty) p.objects o ∙ ap (option_map (λ x. size_of_type p.structs x.ty)) e
 
   pub has_room : (f : ℕ) (g : PlainIrFunction) → slice_get p.functions f ≡ Some g
-      → HasRoom own_sizes (homes_of f g.code) g.slots
+      → HasRoom own_sizes valid.0 (homes_of f g.code) g.slots
   has_room f g e = record {
     width = by_width (nat_le (widest_temps g.code) 2);
     scratch = in_scratch;
-    work = λ k l. work_offset own_sizes k l;
+    work = λ k l. work_offset own_sizes k (omega arith);
+    cell = λ c l. work_offset own_sizes (first_cell + c) (omega arith);
   } where
     by_width : (narrow : Bool) → IsWidth (if narrow then 2 else 4)
     by_width true = inl refl
@@ -134,8 +137,8 @@ module _ (p : PlainIrProgram) (valid : ValidIr p) where
   pub leaf_inside : LeavesFillTheirTypes → (o offset bytes : ℕ) → (h : HasScalarAt (data_of p) o offset bytes)
       → offset + bytes ≤ size_of_type p.structs h.declared.ty
   leaf_inside leaves o offset bytes h =
-      let d = all_at (IsObject (data_of p)) p.objects o h.declared valid.objects h.is_object in
-      let all = leaves.types p.structs h.declared.ty valid.structs d.ty in
+      let d = all_at (IsObject (data_of p)) p.objects o h.declared valid.1.objects h.is_object in
+      let all = leaves.types p.structs h.declared.ty valid.1.structs d.ty in
       subst (λ (n : ℕ). offset + n ≤ size_of_type p.structs h.declared.ty) h.size (all.each h.number _ h.is_leaf).inside
 
   inside_object : (o offset : ℕ) (d : PlainObject) → slice_get p.objects o ≡ Some d → offset ≤ size_of_type p.structs d.ty
@@ -146,7 +149,7 @@ module _ (p : PlainIrProgram) (valid : ValidIr p) where
   scalar_stands : LeavesFillTheirTypes → (o offset bytes : ℕ) → HasScalarAt (data_of p) o offset bytes
       → BytesFit own_sizes (object_location p.objects o offset) bytes
   scalar_stands leaves o offset bytes h =
-      let d = all_at (IsObject (data_of p)) p.objects o h.declared valid.objects h.is_object in
+      let d = all_at (IsObject (data_of p)) p.objects o h.declared valid.1.objects h.is_object in
       rw h.is_object (by_storage o offset bytes h.declared h.declared.storage h.is_object d.storage (leaf_inside leaves o offset bytes h))
 
   pub objects_fit : LeavesFillTheirTypes → ObjectsFit own_sizes (data_of p)
@@ -164,7 +167,7 @@ module _ (p : PlainIrProgram) (valid : ValidIr p) where
   one_span o d e = by_kind (has_initial_bytes d.storage d.home) where
     is_valid : IsValidSpan own_sizes (record { from = 2048 + o; to = o; bytes = size_of_type p.structs d.ty })
     is_valid =
-        let k = all_at (IsObject (data_of p)) p.objects o d valid.objects e in
+        let k = all_at (IsObject (data_of p)) p.objects o d valid.1.objects e in
         let small = k.small in
         record {
           from = initial_offset own_sizes o (size_of_type p.structs d.ty) (object_size o d e);

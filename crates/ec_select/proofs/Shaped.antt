@@ -1,9 +1,8 @@
 -- Operations whose code may stand once have the routine of their shape.
 use Rattle.std.proofs.Common.{◌≡◌, ℕ, true, List, [], ◌∷◌, refl}
 use Rattle.std.proofs.lemmas.Bool.{false≢true}
-use Rattle.ec_ir.specs.Operations.{PlainIr, constant, copy, address, field, load_at, store_at, load_object}
-use Rattle.ec_ir.specs.Operations.{store_object, binary_op, unary_op, conversion, label, jump, branch_zero}
-use Rattle.ec_ir.specs.Operations.{call_function, return_from, port_in, port_out}
+use Rattle.ec_ir.specs.Operations.{PlainIr}
+use Rattle.ec_ir.specs.Operations.{binary_op, unary_op, conversion}
 use Rattle.ec_select_operations.specs.Routines.{routine_for}
 use Rattle.ec_select.specs.Sharing.{has_some, is_shaped, shape_of, shape_routine}
 use Rattle.ec_core_shapes.specs.Shapes.{Shape}

@@ -1,5 +1,5 @@
 -- The words of each operation's own code: at most what it counts by itself, or its shape for one use.
-use Rattle.std.proofs.Common.{◌≡◌, ◌⊎◌, ℕ, ◌+◌, ◌≤◌, List, [], ◌∷◌, ◌++◌, refl, ap, arith}
+use Rattle.std.proofs.Common.{◌≡◌, ◌⊎◌, ℕ, ◌+◌, ◌≤◌, true, false, List, [], ◌∷◌, ◌++◌, refl, ap, arith}
 use Rattle.std.specs.Prelude.{⊤, Option, Some, None, option_map}
 use Rattle.std.specs.List.{AllByRecursion}
 use Rattle.ec_asm.specs.Items.{code_words}
@@ -11,7 +11,8 @@ use Rattle.ec_ir.specs.declared.operations.Temp.{Temp}
 use Rattle.ec_ir.specs.Costs.{op_words, index_words}
 use Rattle.ec_ir.specs.Operations.{PlainIr, constant, copy, address, field, load_at, store_at, load_object}
 use Rattle.ec_ir.specs.Operations.{store_object, binary_op, unary_op, conversion, label, jump, branch_zero}
-use Rattle.ec_ir.specs.Operations.{call_function, return_from, port_in, port_out, PlainIrProgram}
+use Rattle.ec_ir.specs.Operations.{call_function, return_from, port_in, port_out, load_cell, store_cell, cell_port}
+use Rattle.ec_ir.specs.Operations.{PlainIrProgram}
 use Rattle.ec_ir.specs.Temporaries.{low_bytes}
 use Rattle.ec_ir.specs.Valid.{ValidOperation}
 use Rattle.ec_ir_known.specs.declared.known.RightNumber.{RightNumber}
@@ -23,12 +24,13 @@ use Rattle.ec_select_operations.specs.Homes.{home}
 use Rattle.ec_select_operations.specs.Needs.{Need, wanted}
 use Rattle.ec_select_operations.specs.Places.{object_location}
 use Rattle.ec_select_operations.specs.Pointers.{kept_in}
+use Rattle.ec_select_operations.specs.Ports.{cell_place}
 use Rattle.ec_select_functions.specs.Covered.{IsCovered}
 use Rattle.ec_select.specs.InPlace.{IsInPlace}
 use Rattle.ec_select.proofs.OperationWords.{WordLaws, move_words, addressed_most, member_most, load_most, bank_most, tested_most}
 use Rattle.ec_select.proofs.OperationWords.{call_most, return_most, one_binary, one_unary, one_conversion}
 use Rattle.ec_select.proofs.OwnWords.{most_in, binary_own, unary_own, conversion_own}
-use Rattle.ec_select.proofs.PortItems.{point_words, in_words_most, out_words_most}
+use Rattle.ec_select.proofs.PortItems.{point_words, in_words_most, out_words_most, cell_in_words, cell_out_words}
 use Rattle.ec_select.proofs.Words.{copy_words_most}
 
 -- ---- what an operation may have
@@ -49,32 +51,35 @@ HasTypeBytes (conversion to ty mode a aty) = (to.bytes ≡ scalar_size ty) × (a
 HasTypeBytes i = ⊤
 
 -- as those of valid operations have
-pub has_type_bytes : (p : PlainIrProgram) (results : ℕ → ℕ) (f slots : ℕ) (code : List PlainIr) (i : PlainIr)
-    → ValidOperation p results f slots code i → HasTypeBytes i
-has_type_bytes p results f slots code (binary_op op ty mode to a aty b bty) h = (h.0.bytes, h.1.bytes, h.2.bytes)
-has_type_bytes p results f slots code (unary_op op ty mode to a) h = (h.0.bytes, h.1.bytes)
-has_type_bytes p results f slots code (conversion to ty mode a aty) h = (h.0.bytes, h.1.bytes)
-has_type_bytes p results f slots code (constant t n) h = tt
-has_type_bytes p results f slots code (copy to from) h = tt
-has_type_bytes p results f slots code (address t o offset) h = tt
-has_type_bytes p results f slots code (field ptr space offset) h = tt
-has_type_bytes p results f slots code (load_at to ptr space) h = tt
-has_type_bytes p results f slots code (store_at ptr space from) h = tt
-has_type_bytes p results f slots code (load_object t o offset) h = tt
-has_type_bytes p results f slots code (store_object o offset t) h = tt
-has_type_bytes p results f slots code (label l) h = tt
-has_type_bytes p results f slots code (jump l) h = tt
-has_type_bytes p results f slots code (branch_zero t l) h = tt
-has_type_bytes p results f slots code (call_function g to) h = tt
-has_type_bytes p results f slots code (return_from from) h = tt
-has_type_bytes p results f slots code (port_in to port index width) h = tt
-has_type_bytes p results f slots code (port_out from port index width) h = tt
+pub has_type_bytes : (cells : ℕ) (p : PlainIrProgram) (results : ℕ → ℕ) (f slots : ℕ) (code : List PlainIr) (i : PlainIr)
+    → ValidOperation cells p results f slots code i → HasTypeBytes i
+has_type_bytes cells p results f slots code (binary_op op ty mode to a aty b bty) h = (h.0.bytes, h.1.bytes, h.2.bytes)
+has_type_bytes cells p results f slots code (unary_op op ty mode to a) h = (h.0.bytes, h.1.bytes)
+has_type_bytes cells p results f slots code (conversion to ty mode a aty) h = (h.0.bytes, h.1.bytes)
+has_type_bytes cells p results f slots code (constant t n) h = tt
+has_type_bytes cells p results f slots code (copy to from) h = tt
+has_type_bytes cells p results f slots code (address t o offset) h = tt
+has_type_bytes cells p results f slots code (field ptr space offset) h = tt
+has_type_bytes cells p results f slots code (load_at to ptr space) h = tt
+has_type_bytes cells p results f slots code (store_at ptr space from) h = tt
+has_type_bytes cells p results f slots code (load_object t o offset) h = tt
+has_type_bytes cells p results f slots code (store_object o offset t) h = tt
+has_type_bytes cells p results f slots code (label l) h = tt
+has_type_bytes cells p results f slots code (jump l) h = tt
+has_type_bytes cells p results f slots code (branch_zero t l) h = tt
+has_type_bytes cells p results f slots code (call_function g to) h = tt
+has_type_bytes cells p results f slots code (return_from from) h = tt
+has_type_bytes cells p results f slots code (port_in to port index width) h = tt
+has_type_bytes cells p results f slots code (port_out from port index width) h = tt
+has_type_bytes cells p results f slots code (load_cell to cell) h = tt
+has_type_bytes cells p results f slots code (store_cell cell from) h = tt
+has_type_bytes cells p results f slots code (cell_port read t cell offset index width) h = tt
 
-pub have_type_bytes : (p : PlainIrProgram) (results : ℕ → ℕ) (f slots : ℕ) (all code : List PlainIr)
-    → AllByRecursion (ValidOperation p results f slots all) code → AllByRecursion HasTypeBytes code
-have_type_bytes p results f slots all [] h = tt
-have_type_bytes p results f slots all (i ∷ code) h =
-    (has_type_bytes p results f slots all i h.0, have_type_bytes p results f slots all code h.1)
+pub have_type_bytes : (cells : ℕ) (p : PlainIrProgram) (results : ℕ → ℕ) (f slots : ℕ) (all code : List PlainIr)
+    → AllByRecursion (ValidOperation cells p results f slots all) code → AllByRecursion HasTypeBytes code
+have_type_bytes cells p results f slots all [] h = tt
+have_type_bytes cells p results f slots all (i ∷ code) h =
+    (has_type_bytes cells p results f slots all i h.0, have_type_bytes cells p results f slots all code h.1)
 
 at_most : (x y z : ℕ) → x ≤ y → y ≤ z → x ≤ z
 at_most x y z h k = omega (arith, h, k)
@@ -109,6 +114,9 @@ no_own (call_function g to) s e = absurd cc
 no_own (return_from from) s e = absurd cc
 no_own (port_in to port index width) s e = absurd cc
 no_own (port_out from port index width) s e = absurd cc
+no_own (load_cell to cell) s e = absurd cc
+no_own (store_cell cell from) s e = absurd cc
+no_own (cell_port read t cell offset index width) s e = absurd cc
 
 -- what some operations may have is what they count by themselves, and what each of their shapes counts for one use
 joined_shapes : (xs ys : List Shape) → total shape_most (xs ++ ys) ≡ total shape_most xs + total shape_most ys
@@ -188,6 +196,17 @@ module _ (laws : WordLaws) (p : PlainProgram) (results : ℕ → ℕ) (f : ℕ) 
   use_most told telling known need kept (port_out from port index width) h q b =
       let x = out_words_most (option_map (home k.homes) index) (home k.homes from) port width in
       let y = index_row k.homes index in omega (arith, x, y)
+  use_most told telling known need kept (load_cell to cell) h q b =
+      let x = copy_words_most (cell_place cell) (home k.homes to) to.bytes in omega (arith, x)
+  use_most told telling known need kept (store_cell cell from) h q b =
+      let x = copy_words_most (home k.homes from) (cell_place cell) from.bytes in omega (arith, x)
+  use_most told telling known need kept (cell_port true to cell offset index width) h q b =
+      let x =
+      cell_in_words laws.values (option_map (home k.homes) index) (home k.homes to) cell offset width (wanted need to) to.bytes
+      h.one_two_four (omega arith) in
+      omega (arith, x)
+  use_most told telling known need kept (cell_port false from cell offset index width) h q b =
+      let x = cell_out_words (option_map (home k.homes) index) (home k.homes from) cell offset width in omega (arith, x)
 
   -- an operation without a shape counts by itself
   pub own_most : (told telling : Option Told) (known : Option RightNumber) (need kept : Need) (i : PlainIr)

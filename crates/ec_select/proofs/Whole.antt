@@ -13,10 +13,12 @@ use Rattle.ec_asm.specs.Valid.{sizes_of, is_valid_item, used_label, is_label, st
 use Rattle.ec_core.specs.TypeLaws.{LeavesFillTheirTypes}
 use Rattle.ec_ir.specs.Operations.{PlainIr, constant, copy, address, field, load_at, store_at, load_object}
 use Rattle.ec_ir.specs.Operations.{store_object, binary_op, unary_op, conversion, label, jump, branch_zero}
-use Rattle.ec_ir.specs.Operations.{call_function, return_from, port_in, port_out, PlainIrFunction, PlainIrProgram}
+use Rattle.ec_ir.specs.Operations.{call_function, return_from, port_in, port_out, load_cell, store_cell, cell_port}
+use Rattle.ec_ir.specs.Operations.{PlainIrFunction, PlainIrProgram}
 use Rattle.ec_ir.specs.Operations.{data_of}
-use Rattle.ec_ir.specs.Valid.{ValidIr, ValidOperation, count, called_in}
+use Rattle.ec_ir.specs.Valid.{ValidOperation, count, called_in}
 use Rattle.ec_select_functions.specs.Covered.{IsCovered}
+use Rattle.ec_select_functions.proofs.Cells.{functions_use}
 use Rattle.ec_select_operations.specs.Code.{Linkage}
 use Rattle.ec_select_operations.specs.Needs.{Need, facts_of}
 use Rattle.ec_select_startup.specs.Laws.{StartupIsValid, StartupUsesMain, StartupPlacesNoLabel}
@@ -24,7 +26,7 @@ use Rattle.ec_select_startup.specs.Startup.{startup_code}
 use Rattle.ec_select.specs.Labels.{entry_label, function_label, first_label}
 use Rattle.ec_select.specs.Laws.{object_sizes, SelectionsAreValid}
 use Rattle.ec_select.specs.Program.{spans_of, code_of, functions_code, program_code}
-use Rattle.ec_select.specs.Selected.{HasCode, IsSelection}
+use Rattle.ec_select.specs.Selected.{ValidWithCells, HasCode}
 use Rattle.ec_select.specs.Sharing.{Use, is_shaped, shape_of, program_uses, used_shapes, rows_of, label_among, routine_of}
 use Rattle.ec_select.specs.Sharing.{routines_begin, routines_code}
 use Rattle.ec_select.proofs.Fitting.{fits, joined, chained, valid_item, placed_item}
@@ -48,21 +50,21 @@ pub record CodeLaws : Type 0 where
   pub placed : StartupPlacesNoLabel
 
 -- the routine of an operation of a program
-module _ (p : PlainIrProgram) (valid : ValidIr p) (has : HasCode p) where
-  pub types_of : (f : ℕ) (g : PlainIrFunction) (i : PlainIr) → ValidOperation p valid.results f g.slots g.code i
+module _ (p : PlainIrProgram) (valid : ValidWithCells p) (has : HasCode p) where
+  pub types_of : (f : ℕ) (g : PlainIrFunction) (i : PlainIr) → ValidOperation valid.0 p valid.1.results f g.slots g.code i
       → HasTypes i
   types_of f g (binary_op op ty mode to a aty b bty) v = v.3
   types_of f g i v = tt
 
   pub body_of : (f : ℕ) (g : PlainIrFunction) (i : PlainIr)
-      → IsCovered (data_of p) has.results f (called_in g.code) g.slots i → ValidOperation p valid.results f g.slots g.code i
+      → IsCovered (data_of p) has.results f (called_in g.code) g.slots i → ValidOperation valid.0 p valid.1.results f g.slots g.code i
       → is_shaped i ≡ true → HasBody i
   body_of f g i c v s =
       let one = one_shape i s in
       has_routine (data_of p) has.results f (called_in g.code) g.slots i one.0 c (types_of f g i v) one.1
 
   pub sound : FixedItemLaws → (f : ℕ) (g : PlainIrFunction) (i : PlainIr) → slice_get p.functions f ≡ Some g
-      → IsCovered (data_of p) has.results f (called_in g.code) g.slots i → ValidOperation p valid.results f g.slots g.code i
+      → IsCovered (data_of p) has.results f (called_in g.code) g.slots i → ValidOperation valid.0 p valid.1.results f g.slots g.code i
       → is_shaped i ≡ true → IsSound (own_sizes p valid) (shape_of i)
   sound fixed f g i e c v s =
       let body = body_of f g i c v s in
@@ -70,7 +72,7 @@ module _ (p : PlainIrProgram) (valid : ValidIr p) (has : HasCode p) where
       (body_fits (own_sizes p valid) fixed (has_room p valid f g e).work i body.0
       (can_be_routine (data_of p) has.results f (called_in g.code) g.slots i c) body.1)
 
-module _ (laws : CodeLaws) (core : Core) (p : PlainIrProgram) (valid : ValidIr p) (has : HasCode p) (tables : ℕ → ℕ → Need) where
+module _ (laws : CodeLaws) (core : Core) (p : PlainIrProgram) (valid : ValidWithCells p) (has : HasCode p) (tables : ℕ → ℕ → Need) where
   abbrev code : List AsmItem
   code = program_code core p tables
 
@@ -108,8 +110,9 @@ module _ (laws : CodeLaws) (core : Core) (p : PlainIrProgram) (valid : ValidIr p
         by_function f (Some g) e =
             let k = link core p valid has laws.leaves laws.pieces tables f g in
             let rest =
-            operations_pass (own_sizes p valid) (data_of p) k (has_room p valid f g e) (objects_fit p valid laws.leaves) laws.pieces
-            q passes has.results f (called_in g.code) (facts_of (tables f) g.code) None g.code (has.functions f g e) (accepts f g e) in
+            operations_pass (own_sizes p valid) valid.0 (data_of p) k (has_room p valid f g e) (objects_fit p valid laws.leaves) laws.pieces
+            q passes has.results f (called_in g.code) (facts_of (tables f) g.code) None g.code (has.functions f g e)
+            (functions_use valid.0 p valid.1 f g e) (accepts f g e) in
             rw (labels (function_label f), rest) refl
 
   -- ---- fields
@@ -137,6 +140,9 @@ module _ (laws : CodeLaws) (core : Core) (p : PlainIrProgram) (valid : ValidIr p
   right_labels k (store_at ptr space from) = tt
   right_labels k (port_in to port index width) = tt
   right_labels k (port_out from port index width) = tt
+  right_labels k (load_cell to cell) = tt
+  right_labels k (store_cell cell from) = tt
+  right_labels k (cell_port read t cell offset index width) = tt
 
   all_right : (k : Linkage) (is : List PlainIr) → AllAccepted is_right k is
   unfolding is_right
@@ -217,7 +223,7 @@ module _ (laws : CodeLaws) (core : Core) (p : PlainIrProgram) (valid : ValidIr p
   is_put i = is_placed code (used_label i)
 
   put_labels : (f : ℕ) (g : PlainIrFunction) → slice_get p.functions f ≡ Some g → (i : PlainIr)
-      → ValidOperation p valid.results f g.slots g.code i
+      → ValidOperation valid.0 p valid.1.results f g.slots g.code i
       → AcceptsLabels is_put (link core p valid has laws.leaves laws.pieces tables f g) i
   unfolding is_put
   put_labels f g e (label l) h = refl
@@ -238,9 +244,12 @@ module _ (laws : CodeLaws) (core : Core) (p : PlainIrProgram) (valid : ValidIr p
   put_labels f g e (store_at ptr space from) h = tt
   put_labels f g e (port_in to port index width) h = tt
   put_labels f g e (port_out from port index width) h = tt
+  put_labels f g e (load_cell to cell) h = tt
+  put_labels f g e (store_cell cell from) h = tt
+  put_labels f g e (cell_port read t cell offset index width) h = tt
 
   all_put : (f : ℕ) (g : PlainIrFunction) → slice_get p.functions f ≡ Some g → (is : List PlainIr)
-      → AllByRecursion (ValidOperation p valid.results f g.slots g.code) is
+      → AllByRecursion (ValidOperation valid.0 p valid.1.results f g.slots g.code) is
       → AllAccepted is_put (link core p valid has laws.leaves laws.pieces tables f g) is
   unfolding is_put
   all_put f g e [] h = tt
@@ -250,7 +259,7 @@ module _ (laws : CodeLaws) (core : Core) (p : PlainIrProgram) (valid : ValidIr p
   unfolding is_put
   items_are_placed =
       joined is_put start (functions ++ routines)
-      (laws.used code (spans_of p) (function_label p.main) (function_once p.main valid.main))
+      (laws.used code (spans_of p) (function_label p.main) (function_once p.main valid.1.main))
       (joined is_put functions routines
       (by_functions is_put (placed_item (own_sizes p valid) code) (λ l. refl)
       (λ f g e. all_put f g e g.code (function_valid p valid f g e).code))
@@ -260,14 +269,15 @@ module _ (laws : CodeLaws) (core : Core) (p : PlainIrProgram) (valid : ValidIr p
   -- ---- the program
 
   pub is_valid : (asm : AsmProgram) → asm.items.items ≡ code → asm.frames.items ≡ map (λ g. g.slots) p.functions
-      → asm.entry ≡ entry_label → ValidAsm (object_sizes p) 64 asm
+      → asm.entry ≡ entry_label → ValidAsm (object_sizes p) (64 + valid.0) asm
   is_valid asm items frames entry = record {
-    items = subst (λ is. list_all (is_valid_item (sizes_of (object_sizes p) asm.frames.items 64)) is ≡ true) (sym items)
-        (subst (λ fs. list_all (is_valid_item (sizes_of (object_sizes p) fs 64)) code ≡ true) (sym frames) items_are_right);
+    items = subst (λ is. list_all (is_valid_item (sizes_of (object_sizes p) asm.frames.items (64 + valid.0))) is ≡ true) (sym items)
+        (subst (λ fs. list_all (is_valid_item (sizes_of (object_sizes p) fs (64 + valid.0))) code ≡ true) (sym frames) items_are_right);
     labels = subst (λ is. list_all (λ i. is_placed is (used_label i)) is ≡ true) (sym items) items_are_placed;
     entry = subst (λ is. stands_once is asm.entry ≡ true) (sym items) (rw entry entry_once);
-    functions = rw frames (let l = valid.function_count in omega (arith, length-map p.functions (λ (g : PlainIrFunction). g.slots)));
+    functions = rw frames (let l = valid.1.function_count in omega (arith, length-map p.functions (λ (g : PlainIrFunction). g.slots)));
   }
 
 pub selections_are_valid : CodeLaws → SelectionsAreValid
-selections_are_valid laws core p asm valid has h = is_valid laws core p valid has h.tables asm h.items h.frames h.entry
+selections_are_valid laws core cells p asm valid has h =
+    is_valid laws core p (cells, valid) has h.tables asm h.items h.frames h.entry

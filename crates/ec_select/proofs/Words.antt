@@ -12,8 +12,7 @@ use Rattle.ec_asm.specs.declared.pieces.Operator.{Operator}
 use Rattle.ec_asm.specs.declared.pieces.Operator.TheVariants.{Sum, Difference, BitAnd, BitOr, BitXor}
 use Rattle.ec_asm.specs.Change.{words}
 use Rattle.ec_asm.specs.Items.{chain, code_words, item_words}
-use Rattle.ec_asm.specs.Pieces.{copy_byte, copy_code, instruction, operate_byte, operate_code, compares, compare_byte}
-use Rattle.ec_asm.specs.Pieces.{compare_code}
+use Rattle.ec_asm.specs.Pieces.{copy_byte, copy_code, instruction, operate_byte, operate_code, compares}
 use Rattle.ec_select_quotients.specs.Quotients.{remainder_row, divisor_register, rotate_byte, rotate_code, test_byte}
 use Rattle.ec_select_quotients.specs.Quotients.{test_code, rows_code, bring_code, less_byte, less_code, note_code, take_code}
 use Rattle.ec_select_quotients.specs.Quotients.{skip_code, count_code, divide_code}

@@ -5,7 +5,8 @@ use Rattle.std.specs.Prelude.{Option, Some, None}
 use Rattle.ec_ir.specs.Costs.{temp_bytes}
 use Rattle.ec_ir.specs.Operations.{PlainIr, constant, copy, address, field, load_at, store_at, load_object}
 use Rattle.ec_ir.specs.Operations.{store_object, binary_op, unary_op, conversion, label, jump, branch_zero}
-use Rattle.ec_ir.specs.Operations.{call_function, return_from, port_in, port_out, PlainIrFunction}
+use Rattle.ec_ir.specs.Operations.{call_function, return_from, port_in, port_out, load_cell, store_cell, cell_port}
+use Rattle.ec_ir.specs.Operations.{PlainIrFunction}
 use Rattle.ec_select_operations.specs.declared.homes.Homes.{Homes}
 
 -- ---- homes
@@ -30,6 +31,9 @@ widest_temp (call_function f to) = temp_bytes to
 widest_temp (return_from from) = temp_bytes from
 widest_temp (port_in to port index width) = max to.bytes (temp_bytes index)
 widest_temp (port_out from port index width) = max from.bytes (temp_bytes index)
+widest_temp (load_cell to cell) = to.bytes
+widest_temp (store_cell cell from) = from.bytes
+widest_temp (cell_port read t cell offset index width) = max t.bytes (temp_bytes index)
 
 abbrev pub widest_temps : List PlainIr → ℕ
 widest_temps [] = 0

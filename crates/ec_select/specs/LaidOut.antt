@@ -61,17 +61,18 @@ pub record StackStands (p : PlainIrProgram) (e : Env) (low : ℕ) : Type 0 where
   pub stacked : (k : ℕ) → low ≤ k → k ≤ e.address_of 1281 0 → e.kind k ≡ Stacked
   pub room : (fs : List ℕ) → CallsOn p p.main fs → low + 2 * length fs + 17 ≤ e.address_of 1281 0
 
--- the work bytes stand apart from the scratch memory of each function
-pub record WorkIsLaidOut (p : PlainIrProgram) (e : Env) (place scratch : ℕ → ℕ) : Type 0 where
+-- the work bytes, and so many cells behind them, stand apart from the scratch memory of each function
+pub record WorkIsLaidOut (cells : ℕ) (p : PlainIrProgram) (e : Env) (place scratch : ℕ → ℕ) : Type 0 where
   pub work : ℕ
-  pub stands : WorkStands (data_of p) e place work
+  pub stands : WorkStands cells (data_of p) e place work
   pub apart : (f : ℕ) (g : PlainIrFunction) → slice_get p.functions f ≡ Some g
-      → Apart (scratch f) (16 * g.slots) work 64
+      → Apart (scratch f) (16 * g.slots) work (64 + cells)
 
-pub record IsLaidOut (p : PlainIrProgram) (asm : AsmProgram) (e : Env) (place scratch : ℕ → ℕ) (low : ℕ) : Type 0 where
+pub record IsLaidOut (cells : ℕ) (p : PlainIrProgram) (asm : AsmProgram) (e : Env) (place scratch : ℕ → ℕ)
+    (low : ℕ) : Type 0 where
   pub code : CodeStands asm e
   pub memory : ScratchIsLaidOut p e place scratch
-  pub work : WorkIsLaidOut p e place scratch
+  pub work : WorkIsLaidOut cells p e place scratch
   pub initials : InitialsStand p e place
   pub tables : TablesStand (data_of p) e place
   pub stack : StackStands p e low

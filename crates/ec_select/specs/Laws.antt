@@ -21,16 +21,19 @@ use Rattle.ec_select.specs.InPlace.{AreInPlace}
 use Rattle.ec_select.specs.Suited.{AreOnPorts, AreSuited}
 use Rattle.ec_select.specs.LaidOut.{IsLaidOut, start_steps}
 use Rattle.ec_select.specs.Program.{spans_of}
-use Rattle.ec_select.specs.Selected.{HasCode, IsSelection}
+use Rattle.ec_select.specs.Selected.{ValidWithCells, HasCode, IsSelection}
 
 abbrev pub object_sizes : PlainIrProgram → List ℕ
 object_sizes p = map (λ d. size_of_type p.structs d.ty) p.objects
 
--- the code can be placed, with 64 work bytes
+-- the code can be placed, with 64 work bytes and one more for each cell of so many with which the program is valid
+abbrev pub CanBePlaced : PlainIrProgram → AsmProgram → Type 0
+CanBePlaced p asm = (cells : ℕ) → ValidIr cells p → ValidAsm (object_sizes p) (64 + cells) asm
+
 abbrev pub SelectionsAreValid : Type 0
 SelectionsAreValid =
-    (core : Core) (p : PlainIrProgram) (asm : AsmProgram) → ValidIr p → HasCode p → IsSelection core p asm
-    → ValidAsm (object_sizes p) 64 asm
+    (core : Core) (cells : ℕ) (p : PlainIrProgram) (asm : AsmProgram) → ValidIr cells p → HasCode p
+    → IsSelection core p asm → ValidAsm (object_sizes p) (64 + cells) asm
 
 -- it has no more words than the rows of the program and of its objects and the operations: counted by shapes, and each by
 -- itself
@@ -41,12 +44,13 @@ pub record HasWords (p : PlainIrProgram) (asm : AsmProgram) : Type 0 where
 
 abbrev pub SelectionsHaveWords : Type 0
 SelectionsHaveWords =
-    (core : Core) (p : PlainIrProgram) (asm : AsmProgram) → ValidIr p → HasCode p → AreInPlace p → IsSelection core p asm
-    → HasWords p asm
+    (core : Core) (p : PlainIrProgram) (asm : AsmProgram) → ValidWithCells p → HasCode p → AreInPlace p
+    → IsSelection core p asm → HasWords p asm
 
 -- valid operations have code, where their temporaries suit it and their ports have addresses
 abbrev pub OperationsHaveCode : Type 0
-OperationsHaveCode = (p : PlainIrProgram) → ValidIr p → AreOnPorts p → AreSuited p → HasCode p × AreInPlace p
+OperationsHaveCode =
+    (cells : ℕ) (p : PlainIrProgram) → ValidIr cells p → AreOnPorts p → AreSuited p → HasCode p × AreInPlace p
 
 -- ---- what the code does
 
@@ -61,7 +65,7 @@ pub record RunsAsOperations (p : PlainIrProgram) (place : ℕ → ℕ) (e : Env)
 -- wherever the code for the core, objects and stack stand, and whatever the memory holds
 abbrev pub SelectionsRun : Type 0
 SelectionsRun =
-    (p : PlainIrProgram) (asm : AsmProgram) (e : Env) (place scratch : ℕ → ℕ) (size low : ℕ) (s : State) (v : View)
-    (inputs : Inputs) → ValidIr p → HasCode p → IsSelection e.core p asm → Fits e size → size < 65536
+    (cells : ℕ) (p : PlainIrProgram) (asm : AsmProgram) (e : Env) (place scratch : ℕ → ℕ) (size low : ℕ) (s : State)
+    (v : View) (inputs : Inputs) → ValidIr cells p → HasCode p → IsSelection e.core p asm → Fits e size → size < 65536
     → Shows e size s.core s.mem v → ((port : ℕ) → v.inputs port ≡ inputs port)
-    → (laid : IsLaidOut p asm e place scratch low) → s.pc ≡ laid.code.begin → RunsAsOperations p place e v s inputs
+    → (laid : IsLaidOut cells p asm e place scratch low) → s.pc ≡ laid.code.begin → RunsAsOperations p place e v s inputs

@@ -4,13 +4,17 @@ use Rattle.ec_space.specs.declared.Core.{Core}
 use Rattle.ec_asm.specs.declared.items.AsmItem.{AsmItem}
 use Rattle.ec_asm.specs.declared.items.AsmProgram.{AsmProgram}
 use Rattle.ec_ir.specs.Operations.{PlainIrFunction, PlainIrProgram, data_of}
-use Rattle.ec_ir.specs.Valid.{called_in}
+use Rattle.ec_ir.specs.Valid.{ValidIr, called_in}
 use Rattle.ec_select_live.specs.Least.{IsLeast}
 use Rattle.ec_select_functions.specs.Covered.{AreCovered}
 use Rattle.ec_select_operations.specs.Needs.{Need, IsLive}
 use Rattle.ec_select.specs.Labels.{entry_label}
 use Rattle.ec_select.specs.Program.{functions_code, program_code}
 use Rattle.ec_select.specs.Sharing.{routines_code}
+
+-- a valid program, with some number of cells
+abbrev pub ValidWithCells : PlainIrProgram → Type 0
+ValidWithCells p = (cells : ℕ) × ValidIr cells p
 
 -- All operations of a program have code. `results` are the bytes of the results of its functions
 pub record HasCode (p : PlainIrProgram) : Type 0 where

@@ -1,12 +1,13 @@
 -- Valid operations that have code.
-use Rattle.std.specs.Prelude.{◌≡◌, ◌≢◌, ◌⊎◌, ℕ, ◌+◌, ◌≤◌, ◌||◌, Bool, true, false, ⊤}
+use Rattle.std.specs.Prelude.{◌≡◌, ◌≢◌, ◌⊎◌, ℕ, ◌+◌, ◌<◌, ◌≤◌, ◌||◌, Bool, true, false, ⊤}
 use Rattle.std.specs.List.{AllByRecursion}
 use Rattle.ec_core.specs.declared.expressions.BinOp.{BinOp}
 use Rattle.ec_core.specs.declared.expressions.BinOp.TheVariants.{Add, Sub}
 use Rattle.ec_ir.specs.Costs.{temp_bytes}
 use Rattle.ec_ir.specs.Operations.{PlainIr, constant, copy, address, field, load_at, store_at, load_object}
 use Rattle.ec_ir.specs.Operations.{store_object, binary_op, unary_op, conversion, label, jump, branch_zero}
-use Rattle.ec_ir.specs.Operations.{call_function, return_from, port_in, port_out, PlainIrProgram}
+use Rattle.ec_ir.specs.Operations.{call_function, return_from, port_in, port_out, load_cell, store_cell, cell_port}
+use Rattle.ec_ir.specs.Operations.{PlainIrProgram}
 use Rattle.ec_select_operations.specs.Needs.{is_fixed}
 use Rattle.ec_select_operations.specs.Pointers.{is_pointer}
 
@@ -45,14 +46,18 @@ IsSuited (call_function f to) = temp_bytes to ≤ 8
 IsSuited (return_from from) = temp_bytes from ≤ 8
 IsSuited (port_in to port index width) = to.bytes ≤ 8
 IsSuited (port_out from port index width) = from.bytes ≤ 8
+IsSuited (load_cell to cell) = ⊤
+IsSuited (store_cell cell from) = ⊤
+IsSuited (cell_port read t cell offset index width) = t.bytes ≤ 8
 
 abbrev pub AreSuited : PlainIrProgram → Type 0
 AreSuited p = AllByRecursion (λ g. AllByRecursion IsSuited g.code) p.functions
 
--- the bytes of a port are at 0xFF or below
+-- the bytes of a port are at 0xFF or below, and one whose address is behind what a cell holds is less than 0x100 behind it
 abbrev pub IsOnPorts : PlainIr → Type 0
 IsOnPorts (port_in to port index width) = port + width ≤ 0x100
 IsOnPorts (port_out from port index width) = port + width ≤ 0x100
+IsOnPorts (cell_port read t cell offset index width) = offset < 0x100
 IsOnPorts i = ⊤
 
 abbrev pub AreOnPorts : PlainIrProgram → Type 0

@@ -2,11 +2,10 @@
 ghost use Rattle.std.specs.Prelude.{◌≡◌, ◌++◌, ◌+◌, ◌^◌, ◌<◌, ◌==◌, map, length, IfOk, OnOk, Some, slice_get};
 ghost use Rattle.std.specs.List.{AllByRecursion};
 ghost use Rattle.ec_ir.specs.Operations.{plain_ir, plain_ir_function, plain_ir_program};
-ghost use Rattle.ec_ir.specs.Valid.{ValidIr};
 ghost use Rattle.ec_select.specs.Labels.{homes_of, label_count, first_label};
 ghost use Rattle.ec_select.specs.Program.{code_of, functions_with};
 ghost use Rattle.ec_select.specs.Seen.{plain_row, row_operation, tables_in, HasRoutine};
-ghost use Rattle.ec_select.specs.Selected.{HasCode, AreWritten};
+ghost use Rattle.ec_select.specs.Selected.{ValidWithCells, HasCode, AreWritten};
 ghost use Rattle.ec_select.specs.Sharing.{routine_among, routines_begin};
 ghost use Rattle.ec_select_live.specs.Tables.{needs_of};
 
@@ -61,7 +60,7 @@ fn add_function(
     rows: &[Row],
     routines: u64,
 ) -> Result<(), NoMemory>
-    requires valid { ValidIr (plain_ir_program ir.now) }
+    requires valid { ValidWithCells (plain_ir_program ir.now) }
     requires code { HasCode (plain_ir_program ir.now) }
     requires is { slice_get (plain_ir_program ir.now).functions f ≡ Some (plain_ir_function g.now) }
     requires first { first ≡ first_label (plain_ir_program ir.now).functions f }
@@ -98,7 +97,7 @@ fn next_label(first: u64, g: &IrFunc) -> Result<u64, NoMemory>
 
 /// The label behind those of all functions, where so many routines have labels from there on.
 fn routines_begin(ir: &IrProgram, count: usize) -> Result<u64, NoMemory>
-    requires { ValidIr (plain_ir_program ir.now) }
+    requires { ValidWithCells (plain_ir_program ir.now) }
     ensures is { IfOk result (λ begin. begin ≡ routines_begin (plain_ir_program ir.now)) }
     ensures room { IfOk result (λ begin. begin + count < 2 ^ 64) }
 {
@@ -122,7 +121,7 @@ fn add_functions(
     rows: &[Row],
     routines: u64,
 ) -> Result<(), NoMemory>
-    requires valid { ValidIr (plain_ir_program ir.now) }
+    requires valid { ValidWithCells (plain_ir_program ir.now) }
     requires code { HasCode (plain_ir_program ir.now) }
     requires tables { length tables.now ≡ length ir.now.funcs.items }
     requires labels { routines + length rows.now < 2 ^ 64 }
@@ -148,7 +147,7 @@ pub(crate) fn add_code(
     ir: &IrProgram,
     core: Core,
 ) -> Result<(), NoMemory>
-    requires valid { ValidIr (plain_ir_program ir.now) }
+    requires valid { ValidWithCells (plain_ir_program ir.now) }
     requires code { HasCode (plain_ir_program ir.now) }
     ensures { OnOk result (AreWritten core (plain_ir_program ir.now) out.old.items out.new.items) }
 {

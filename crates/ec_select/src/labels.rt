@@ -26,7 +26,9 @@ fn widest_temp(i: &Ir) -> u8
         | Ir::Addr(t, _, _)
         | Ir::LoadObj(t, _, _)
         | Ir::StoreObj(_, _, t)
-        | Ir::BranchZero(t, _) => t.bytes,
+        | Ir::BranchZero(t, _)
+        | Ir::LoadCell(t, _)
+        | Ir::StoreCell(_, t) => t.bytes,
         Ir::Field { ptr, .. } => ptr.bytes,
         Ir::Copy(to, from) => to.bytes.max(from.bytes),
         Ir::Load { to, ptr, .. } => to.bytes.max(ptr.bytes),
@@ -37,6 +39,7 @@ fn widest_temp(i: &Ir) -> u8
         Ir::Call(_, t) | Ir::Return(t) => temp_bytes(*t),
         Ir::PortIn { to, index, .. } => to.bytes.max(temp_bytes(*index)),
         Ir::PortOut { from, index, .. } => from.bytes.max(temp_bytes(*index)),
+        Ir::CellPort { temp, index, .. } => temp.bytes.max(temp_bytes(*index)),
     }
 }
 

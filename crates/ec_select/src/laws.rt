@@ -33,7 +33,8 @@ pub fn operations_have_code()
     leaves_fill_their_types();
 }
 
-/// The code of a program for a core can be placed, with the sizes of its objects and 64 work bytes.
+/// The code of a program for a core can be placed, with the sizes of its objects and 64 work bytes, behind which is one for
+/// each cell.
 pub fn selections_are_valid()
     ensures { SelectionsAreValid }
 {

@@ -1,16 +1,14 @@
 //! The code of a program.
 ghost use Rattle.std.specs.Prelude.{◌≡◌, ◌≤◌, ◌+◌, map, IfOk};
 ghost use Rattle.ec_asm.specs.Items.{code_words};
-ghost use Rattle.ec_asm.specs.Valid.{ValidAsm};
 ghost use Rattle.ec_core.specs.Weight.{objects_weight};
 ghost use Rattle.ec_core.specs.Words.{program_words};
 ghost use Rattle.ec_ir.specs.Costs.{functions_words};
 ghost use Rattle.ec_ir.specs.Operations.{plain_ir_program};
-ghost use Rattle.ec_ir.specs.Valid.{ValidIr};
 ghost use Rattle.ec_ir_shapes.specs.Costs.{functions_words_by_shapes};
 ghost use Rattle.ec_select.specs.InPlace.{AreInPlace};
-ghost use Rattle.ec_select.specs.Laws.{object_sizes};
-ghost use Rattle.ec_select.specs.Selected.{HasCode, IsSelection};
+ghost use Rattle.ec_select.specs.Laws.{CanBePlaced};
+ghost use Rattle.ec_select.specs.Selected.{ValidWithCells, HasCode, IsSelection};
 
 use crate::functions::add_code;
 use crate::laws::{selections_are_valid, selections_have_words};
@@ -35,14 +33,15 @@ fn frames_of(alloc: Global, ir: &IrProgram) -> Result<Seq<u16>, NoMemory>
 /// The code of a program whose operations all have code, for a core: what runs before `main`, behind it each function,
 /// and the routines that they call.
 ///
-/// It can be placed, with the sizes of the program's objects and 64 work bytes. Where operators have their results in
-/// place, it has at most the words of the rows of the program and its objects and those that the operations may take,
-/// counted by shapes; and never more than where each counts by itself. Or the answer is that memory ran out.
+/// It can be placed, with the sizes of the program's objects and 64 work bytes, behind which is one for each cell. Where
+/// operators have their results in place, it has at most the words of the rows of the program and its objects and those
+/// that the operations may take, counted by shapes; and never more than where each counts by itself. Or the answer is
+/// that memory ran out.
 pub fn select(alloc: Global, ir: &IrProgram, core: Core) -> Result<AsmProgram, NoMemory>
-    requires valid { ValidIr (plain_ir_program ir.now) }
+    requires valid { ValidWithCells (plain_ir_program ir.now) }
     requires code { HasCode (plain_ir_program ir.now) }
     ensures code { IfOk result (λ asm. IsSelection core (plain_ir_program ir.now) asm) }
-    ensures valid { IfOk result (λ asm. ValidAsm (object_sizes (plain_ir_program ir.now)) 64 asm) }
+    ensures valid { IfOk result (λ asm. CanBePlaced (plain_ir_program ir.now) asm) }
     ensures words { AreInPlace (plain_ir_program ir.now) → IfOk result (λ asm. code_words asm.items.items
         ≤ program_words + objects_weight (plain_ir_program ir.now).objects
         + functions_words_by_shapes (plain_ir_program ir.now).functions) }

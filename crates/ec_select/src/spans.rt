@@ -2,8 +2,8 @@
 ghost use Rattle.std.specs.Prelude.{◌≡◌, ◌++◌, ◌<◌, map, IfOk, OnOk, Some, slice_get};
 ghost use Rattle.ec_core.specs.Plain.{plain_object, plain_storage, plain_struct};
 ghost use Rattle.ec_ir.specs.Operations.{plain_ir_program};
-ghost use Rattle.ec_ir.specs.Valid.{ValidIr};
 ghost use Rattle.ec_select.specs.Program.{has_initial_bytes, span_of, spans_of};
+ghost use Rattle.ec_select.specs.Selected.{ValidWithCells};
 
 use ec_core::{Obj, Storage, size_of};
 use ec_ir::IrProgram;
@@ -23,7 +23,7 @@ fn has_initial_bytes(obj: &Obj) -> bool
 
 /// Appends the span of object `o` of a program, if it has one.
 fn add_span(spans: &mut Seq<Span>, ir: &IrProgram, o: usize, obj: &Obj) -> Result<(), NoMemory>
-    requires valid { ValidIr (plain_ir_program ir.now) }
+    requires valid { ValidWithCells (plain_ir_program ir.now) }
     requires is { slice_get (plain_ir_program ir.now).objects o ≡ Some (plain_object obj.now) }
     ensures { OnOk result (spans.new.items
         ≡ spans.old.items ++ span_of (map plain_struct ir.now.structs.items) o (plain_object obj.now)) }
@@ -40,7 +40,7 @@ fn add_span(spans: &mut Seq<Span>, ir: &IrProgram, o: usize, obj: &Obj) -> Resul
 
 /// The spans of the objects of a program.
 pub(crate) fn spans_of(alloc: Global, ir: &IrProgram) -> Result<Seq<Span>, NoMemory>
-    requires { ValidIr (plain_ir_program ir.now) }
+    requires { ValidWithCells (plain_ir_program ir.now) }
     ensures { IfOk result (λ spans. spans.items ≡ spans_of (plain_ir_program ir.now)) }
 {
     let mut spans = Seq::new(alloc);

@@ -1,9 +1,8 @@
 //! What is needed at the labels of each function.
 ghost use Rattle.std.specs.Prelude.{◌≡◌, length, IfOk, Some, slice_get};
 ghost use Rattle.ec_ir.specs.Operations.{plain_ir_function, plain_ir_program};
-ghost use Rattle.ec_ir.specs.Valid.{ValidIr};
 ghost use Rattle.ec_select.specs.Seen.{tables_in};
-ghost use Rattle.ec_select.specs.Selected.{AreTables};
+ghost use Rattle.ec_select.specs.Selected.{ValidWithCells, AreTables};
 ghost use Rattle.ec_select_live.specs.Least.{IsLeast};
 ghost use Rattle.ec_select_live.specs.Tables.{needs_of};
 ghost use Rattle.ec_select_operations.specs.Needs.{IsLive};
@@ -16,7 +15,7 @@ use std::alloc::Global;
 
 /// The table of the function with a number.
 fn table_of(alloc: Global, ir: &IrProgram, f: u16, g: &IrFunc) -> Result<LabelNeeds, NoMemory>
-    requires valid { ValidIr (plain_ir_program ir.now) }
+    requires valid { ValidWithCells (plain_ir_program ir.now) }
     requires is { slice_get (plain_ir_program ir.now).functions f ≡ Some (plain_ir_function g.now) }
     ensures live { IfOk result (λ table. IsLive (needs_of table) (plain_ir_function g.now).code) }
     ensures least { IfOk result (λ table. IsLeast g.now.slots (needs_of table) (plain_ir_function g.now).code) }
@@ -29,7 +28,7 @@ fn table_of(alloc: Global, ir: &IrProgram, f: u16, g: &IrFunc) -> Result<LabelNe
 
 /// The tables of all functions.
 pub(crate) fn tables_of(alloc: Global, ir: &IrProgram) -> Result<Vec<LabelNeeds>, NoMemory>
-    requires { ValidIr (plain_ir_program ir.now) }
+    requires { ValidWithCells (plain_ir_program ir.now) }
     ensures are { IfOk result (λ tables. AreTables (plain_ir_program ir.now) (tables_in tables.items)
         (length (plain_ir_program ir.now).functions)) }
     ensures count { IfOk result (λ tables. length tables.items ≡ length ir.now.funcs.items) }

@@ -2,13 +2,12 @@
 ghost use Rattle.std.specs.Prelude.{◌≡◌, ◌++◌, true, map, length, IfOk, OnOk, Some, slice_get};
 ghost use Rattle.ec_asm.specs.Items.{code_words};
 ghost use Rattle.ec_ir.specs.Operations.{plain_ir, plain_ir_function, plain_ir_program};
-ghost use Rattle.ec_ir.specs.Valid.{ValidIr};
 ghost use Rattle.ec_select_live.specs.Tables.{needs_of};
 ghost use Rattle.ec_select_operations.specs.Code.{called_code};
 ghost use Rattle.ec_select_operations.specs.Emitted.{declarations, CanBeEmitted, CanBeCalled};
 ghost use Rattle.ec_select_operations.specs.Homes.{home};
 ghost use Rattle.ec_select.specs.Seen.{plain_use, tables_in, CanBeUsed, CanBeUses};
-ghost use Rattle.ec_select.specs.Selected.{HasCode};
+ghost use Rattle.ec_select.specs.Selected.{ValidWithCells, HasCode};
 ghost use Rattle.ec_select.specs.Sharing.{alone, is_shaped, own_items, use_of, uses_in, uses_of, function_uses, program_uses};
 
 use crate::labels::homes_of;
@@ -171,7 +170,7 @@ fn add_function_uses<'a>(
     g: &'a IrFunc,
     table: &LabelNeeds,
 ) -> Result<(), NoMemory>
-    requires valid { ValidIr (plain_ir_program ir.now) }
+    requires valid { ValidWithCells (plain_ir_program ir.now) }
     requires code { HasCode (plain_ir_program ir.now) }
     requires is { slice_get (plain_ir_program ir.now).functions f ≡ Some (plain_ir_function g.now) }
     ensures { OnOk result (map plain_use uses.new.items ≡ map plain_use uses.old.items
@@ -203,7 +202,7 @@ pub(crate) fn uses_of<'a>(
     core: Core,
     tables: &[LabelNeeds],
 ) -> Result<Vec<Use<'a>>, NoMemory>
-    requires valid { ValidIr (plain_ir_program ir.now) }
+    requires valid { ValidWithCells (plain_ir_program ir.now) }
     requires code { HasCode (plain_ir_program ir.now) }
     requires tables { length tables.now ≡ length ir.now.funcs.items }
     ensures { IfOk result (λ uses. map plain_use uses.items

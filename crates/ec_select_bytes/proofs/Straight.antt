@@ -10,10 +10,12 @@ use Rattle.ec_asm.specs.declared.pieces.Location.{Location}
 use Rattle.ec_asm.specs.declared.pieces.Location.TheVariants.{InRegisters, InMemory}
 use Rattle.ec_asm.specs.Items.{all_straight, code_steps, code_words, item_words, chain}
 use Rattle.ec_asm.proofs.Hoare.{straight-append, steps-append}
-use Rattle.ec_select_bytes.specs.Values.{byte_of, constant_byte, constant_code, test_byte, tests_code, test_code, put_byte}
+use Rattle.ec_select_bytes.specs.Values.{byte_of, constant_byte, constant_code, byte_test, first_byte, join_byte, join_code}
+use Rattle.ec_select_bytes.specs.Values.{test_code, put_byte}
 use Rattle.ec_select_bytes.specs.Values.{fill_code, puts_code, clear_byte, clears_code, widen_code, extend_code}
 use Rattle.ec_select_bytes.specs.Laws.{ValuesAreStraight, ValuesTake, ValuesHave}
 use Rattle.ec_select_bytes.specs.Complements.{complement_byte, complement_code, carry_byte, carry_code, negation_code}
+use Rattle.ec_select_bytes.proofs.Tests.{several}
 use Rattle.ec_select_bytes.specs.ComplementLaws.{ComplementsAreStraight, ComplementsTake, ComplementsHave}
 
 -- code that is straight, with at most so many steps and words
@@ -59,11 +61,17 @@ constant_short (InRegisters r) byte i =
     (record { straight = refl; steps_are = omega arith; words_are = omega arith })
 constant_short (InMemory o k) byte i = record { straight = refl; steps_are = omega arith; words_are = omega arith }
 
-test_short : (p : Location) (i : ℕ) → IsShort (test_byte p i) 2 3
-test_short (InRegisters r) zero = record { straight = refl; steps_are = omega arith; words_are = omega arith }
-test_short (InRegisters r) (suc i) = record { straight = refl; steps_are = omega arith; words_are = omega arith }
-test_short (InMemory o k) zero = record { straight = refl; steps_are = omega arith; words_are = omega arith }
-test_short (InMemory o k) (suc i) = record { straight = refl; steps_are = omega arith; words_are = omega arith }
+byte_short : (p : Location) → IsShort (byte_test p) 2 3
+byte_short (InRegisters r) = record { straight = refl; steps_are = omega arith; words_are = omega arith }
+byte_short (InMemory o k) = record { straight = refl; steps_are = omega arith; words_are = omega arith }
+
+first_short : (p : Location) → IsShort (first_byte p) 1 2
+first_short (InRegisters r) = record { straight = refl; steps_are = omega arith; words_are = omega arith }
+first_short (InMemory o k) = record { straight = refl; steps_are = omega arith; words_are = omega arith }
+
+join_short : (p : Location) (i : ℕ) → IsShort (join_byte p i) 2 3
+join_short (InRegisters r) i = record { straight = refl; steps_are = omega arith; words_are = omega arith }
+join_short (InMemory o k) i = record { straight = refl; steps_are = omega arith; words_are = omega arith }
 
 put_short : (p : Location) (i : ℕ) → IsShort (put_byte p i) 1 2
 put_short (InRegisters r) i = record { straight = refl; steps_are = omega arith; words_are = omega arith }
@@ -80,10 +88,13 @@ constants p number n =
     (chained (λ i. constant_byte p (byte_of number i) i) n 2 3 (λ i. constant_short p (byte_of number i) i))
 
 tests : (p : Location) (n : ℕ) → IsShort (test_code p n) (1 + 2 * n) (1 + 3 * n)
-tests p n =
-    weaker (test_code p n) (1 + n * 2) (1 + 2 * n) (1 + n * 3) (1 + 3 * n) (omega arith)
-    (omega arith) (joined (Plain (Eor 1 1) ∷ []) (tests_code p n) 1 (n * 2) 1 (n * 3)
-    (record { straight = refl; steps_are = omega arith; words_are = omega arith }) (chained (test_byte p) n 2 3 (test_short p)))
+tests p zero = record { straight = refl; steps_are = omega arith; words_are = omega arith }
+tests p (suc zero) = weaker (byte_test p) 2 3 3 4 (omega arith) (omega arith) (byte_short p)
+tests p (suc (suc n)) =
+    rw (several p n)
+    (weaker (first_byte p ++ join_code p (suc n)) (1 + suc n * 2) (1 + 2 * suc (suc n)) (2 + suc n * 3) (1 + 3 * suc (suc n))
+    (omega arith) (omega arith) (joined (first_byte p) (join_code p (suc n)) 1 (suc n * 2) 2 (suc n * 3) (first_short p)
+    (chained (join_byte p) (suc n) 2 3 (join_short p))))
 
 puts : (p : Location) (m n : ℕ) → IsShort (puts_code p m (n - m)) n (2 * n)
 puts p m n =

@@ -75,3 +75,37 @@ in_code index to port width n =
 -- the low bytes of a number are written to a port
 abbrev pub out_code : (index : Option Location) → (from : Location) → (port width : ℕ) → List AsmItem
 out_code index from port width = point_code index port width ++ write_code index port from 0 width
+
+-- ---- a port of a dynamic group: its address is so far behind what the group's cell holds
+
+-- the cells are bytes of the object of the work bytes, behind the 64 work bytes
+abbrev pub first_cell : ℕ
+first_cell = 64
+
+abbrev pub cell_place : (cell : ℕ) → Location
+cell_place cell = InMemory 1280 (first_cell + cell)
+
+-- what is given for an index where Z points, with an index or without: it tells that Z does, and is not looked at
+abbrev pub pointed : Option Location
+pointed = Some (InRegisters 30)
+
+-- R30 goes further by an offset, and R31 becomes 0
+abbrev pub further_code : (offset : ℕ) → List AsmItem
+further_code offset = Plain (Ldi 31 offset) ∷ Plain (Add 30 31) ∷ Plain (Ldi 31 0) ∷ []
+
+-- Z becomes the address of a port, or of an element of it. It is below 0x100, so one byte is enough
+abbrev pub cell_point_code : (index : Option Location) → (cell offset width : ℕ) → List AsmItem
+cell_point_code None cell offset width = LoadObj 30 1280 (first_cell + cell) ∷ further_code offset
+cell_point_code (Some at) cell offset width =
+    copy_code at (InRegisters 30) 1
+    ++ (scale_code width ++ LoadObj 31 1280 (first_cell + cell) ∷ Plain (Add 30 31) ∷ further_code offset)
+
+-- it is read to a place, of which n bytes are needed: those past the width are 0
+abbrev pub cell_in_code : (index : Option Location) → (to : Location) → (cell offset width n : ℕ) → List AsmItem
+cell_in_code index to cell offset width n =
+    cell_point_code index cell offset width ++ (chain (read_byte pointed 0 to) width ++ extend_code false to width n)
+
+-- the low bytes of a number are written to it
+abbrev pub cell_out_code : (index : Option Location) → (from : Location) → (cell offset width : ℕ) → List AsmItem
+cell_out_code index from cell offset width =
+    cell_point_code index cell offset width ++ write_code pointed 0 from 0 width

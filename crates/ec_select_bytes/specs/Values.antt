@@ -1,15 +1,15 @@
 -- Pieces of code for a constant, for a test of a number, and for bytes above a number: what they are, and what they
 -- do. R0, R1 and R30 are work registers.
-use Rattle.std.specs.Prelude.{◌≡◌, ◌≢◌, ℕ, ◌+◌, ◌-◌, ◌*◌, ◌/◌, ◌%◌, ◌^◌, ◌<◌, nat_le, Bool, true, false}
+use Rattle.std.specs.Prelude.{◌≡◌, ◌≢◌, ℕ, ◌+◌, ◌-◌, ◌*◌, ◌/◌, ◌%◌, ◌^◌, ◌<◌, ◌==◌, nat_le, Bool, true, false}
 use Rattle.std.specs.Prelude.{if◌then◌else◌, List, [], ◌∷◌, ◌++◌}
-use Rattle.ec_isa.specs.declared.instructions.Instr.TheVariants.{Ldi, Mov, Eor, Add, Sbc}
+use Rattle.ec_isa.specs.declared.instructions.Instr.TheVariants.{Ldi, Mov, Eor, Add, Sbc, And, Or}
 use Rattle.ec_asm.specs.declared.items.AsmItem.{AsmItem}
 use Rattle.ec_asm.specs.declared.items.AsmItem.TheVariants.{Plain, LoadObj, StoreObj}
 use Rattle.ec_asm.specs.declared.pieces.Location.{Location}
 use Rattle.ec_asm.specs.declared.pieces.Location.TheVariants.{InRegisters, InMemory}
 use Rattle.ec_asm.specs.View.{View}
 use Rattle.ec_asm.specs.Items.{chain}
-use Rattle.ec_asm.specs.Pieces.{Outside, Keeps, compares}
+use Rattle.ec_asm.specs.Pieces.{Outside, Keeps}
 
 -- byte i of a number
 abbrev pub byte_of : ℕ → ℕ → ℕ
@@ -36,17 +36,27 @@ pub record ConstantTo (v0 : View) (a number i : ℕ) (v : View) : Type 0 where
   pub safe : v.safe ≡ v0.safe
   pub seen : v.seen ≡ v0.seen
 
--- ---- tests: each byte is compared with R1, which is 0
+-- ---- tests: a byte by AND with itself, and several by OR, in R0
 
-abbrev pub test_byte : Location → ℕ → List AsmItem
-test_byte (InRegisters r) i = Plain (compares i (r + i) 1) ∷ []
-test_byte (InMemory o k) i = LoadObj 0 o (k + i) ∷ Plain (compares i 0 1) ∷ []
+abbrev pub byte_test : Location → List AsmItem
+byte_test (InRegisters r) = Plain (And (r + 0) (r + 0)) ∷ []
+byte_test (InMemory o k) = LoadObj 0 o (k + 0) ∷ Plain (And 0 0) ∷ []
 
-abbrev pub tests_code : Location → ℕ → List AsmItem
-tests_code p n = chain (test_byte p) n
+abbrev pub first_byte : Location → List AsmItem
+first_byte (InRegisters r) = Plain (Mov 0 (r + 0)) ∷ []
+first_byte (InMemory o k) = LoadObj 0 o (k + 0) ∷ []
+
+-- the byte behind byte i
+abbrev pub join_byte : Location → ℕ → List AsmItem
+join_byte (InRegisters r) i = Plain (Or 0 (r + (1 + i))) ∷ []
+join_byte (InMemory o k) i = LoadObj 1 o (k + (1 + i)) ∷ Plain (Or 0 1) ∷ []
+
+abbrev pub join_code : Location → ℕ → List AsmItem
+join_code p n = chain (join_byte p) n
 
 abbrev pub test_code : Location → ℕ → List AsmItem
-test_code p n = Plain (Eor 1 1) ∷ tests_code p n
+test_code p n =
+    if n == 0 then [] else (if n == 1 then byte_test p else first_byte p ++ join_code p (n - 1))
 
 -- ---- bytes above a number
 

@@ -1,12 +1,13 @@
 //! Pieces of code for numbers of several bytes, beside those of `ec_asm`: a constant put to its place, a test whether a
 //! number is 0, the bytes that a wider type has above a number, and its complement and negation; and pieces for accesses to
-//! ports, jumps, signs and operands that are exchanged, with the places of temporaries.
+//! ports and cells, jumps, signs and operands that are exchanged, with the places of temporaries.
 //!
 //! `specs/Values.antt` and `specs/Complements.antt` have the former pieces, `specs/Laws.antt` and
 //! `specs/ComplementLaws.antt` what they do; `specs/Ports.antt`, `specs/Signs.antt`, `specs/Operators.antt` and
 //! `specs/Homes.antt` have the latter. R0, R1 and R30 are work registers.
 #![tactic(auto)]
 
+mod cells;
 mod complements;
 mod homes;
 mod jumps;
@@ -16,6 +17,7 @@ mod ports;
 mod signs;
 mod values;
 
+pub use cells::{CellAccess, load_cell, read_cell_port, store_cell, write_cell_port};
 pub use complements::{complement, negate};
 pub use homes::home_of_place;
 pub use jumps::jump;

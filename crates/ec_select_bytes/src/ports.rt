@@ -120,7 +120,11 @@ fn write_byte(out: &mut Seq<AsmItem>, of: PortAccess, from: Location, i: u8) -> 
 
 /// Appends code that reads all bytes, by rising address.
 #[tactic(auto, using(crate::proofs::Bytes::byte_there))]
-fn read_bytes(out: &mut Seq<AsmItem>, of: PortAccess, to: Location) -> Result<(), NoMemory>
+pub(crate) fn read_bytes(
+    out: &mut Seq<AsmItem>,
+    of: PortAccess,
+    to: Location,
+) -> Result<(), NoMemory>
     requires { HasBytes to of.width }
     ensures ok { OnOk result (out.new.items ≡ out.old.items ++ chain (read_byte of.index of.port to) of.width) }
     ensures err { OnErr result (BeginWith out.old.items out.new.items) }
@@ -133,7 +137,11 @@ fn read_bytes(out: &mut Seq<AsmItem>, of: PortAccess, to: Location) -> Result<()
 
 /// Appends code that writes all bytes, by falling address.
 #[tactic(auto, using(crate::proofs::Bytes::byte_there))]
-fn write_bytes(out: &mut Seq<AsmItem>, of: PortAccess, from: Location) -> Result<(), NoMemory>
+pub(crate) fn write_bytes(
+    out: &mut Seq<AsmItem>,
+    of: PortAccess,
+    from: Location,
+) -> Result<(), NoMemory>
     requires { HasBytes from of.width }
     ensures ok { OnOk result (out.new.items ≡ out.old.items ++ write_code of.index of.port from 0 of.width) }
     ensures err { OnErr result (BeginWith out.old.items out.new.items) }
@@ -145,7 +153,7 @@ fn write_bytes(out: &mut Seq<AsmItem>, of: PortAccess, from: Location) -> Result
 }
 
 /// Appends code that multiplies R30 by a width.
-fn scale(out: &mut Seq<AsmItem>, width: u8) -> Result<(), NoMemory>
+pub(crate) fn scale(out: &mut Seq<AsmItem>, width: u8) -> Result<(), NoMemory>
     ensures ok { OnOk result (out.new.items ≡ out.old.items ++ scale_code width) }
     ensures err { OnErr result (BeginWith out.old.items out.new.items) }
 {

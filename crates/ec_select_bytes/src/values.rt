@@ -2,8 +2,8 @@
 ghost use Rattle.std.specs.Prelude.{◌≡◌, ◌≤◌, ◌+◌, ◌<◌, ◌^◌, ◌++◌, OnOk, OnErr};
 ghost use Rattle.ec_runs.specs.Behaviours.{BeginWith};
 ghost use Rattle.ec_asm.specs.Pieces.{HasByte, HasBytes, compares};
-ghost use Rattle.ec_select_bytes.specs.Values.{byte_of, constant_byte, constant_code, test_byte, test_code, put_byte};
-ghost use Rattle.ec_select_bytes.specs.Values.{tests_code};
+ghost use Rattle.ec_select_bytes.specs.Values.{byte_of, constant_byte, constant_code, byte_test, first_byte, put_byte};
+ghost use Rattle.ec_select_bytes.specs.Values.{join_byte, join_code, test_code};
 ghost use Rattle.ec_select_bytes.specs.Values.{take_byte, fill_code, puts_code, clears_code, widen_code, extend_code};
 
 use ec_asm::{AsmItem, Location};
@@ -93,19 +93,56 @@ fn compares(i: u8, d: u8, r: u8) -> Instr
     }
 }
 
-/// Appends code that compares byte `i` of a number with R1.
-fn test_byte(out: &mut Seq<AsmItem>, at: Location, i: u8) -> Result<(), NoMemory>
-    requires { HasByte at i }
-    ensures ok { OnOk result (out.new.items ≡ out.old.items ++ test_byte at i) }
+/// Appends code that leaves in Z whether the first byte of a number is 0.
+fn test_byte(out: &mut Seq<AsmItem>, at: Location) -> Result<(), NoMemory>
+    requires { HasByte at 0 }
+    ensures ok { OnOk result (out.new.items ≡ out.old.items ++ byte_test at) }
     ensures err { OnErr result (out.new.items ≡ out.old.items) }
 {
     match at {
         Location::InRegisters(r) => {
-            out.extend_from_slice(&[AsmItem::Plain(compares(i, r + i, 1))])
+            out.extend_from_slice(&[AsmItem::Plain(Instr::And { d: r, r })])
         }
         Location::InMemory { object, offset } => out.extend_from_slice(&[
-            load(0, object, offset, i),
-            AsmItem::Plain(compares(i, 0, 1)),
+            load(0, object, offset, 0),
+            AsmItem::Plain(Instr::And { d: 0, r: 0 }),
+        ]),
+    }
+}
+
+/// Appends code that brings the first byte of a number to R0.
+fn bring_first(out: &mut Seq<AsmItem>, at: Location) -> Result<(), NoMemory>
+    requires { HasByte at 0 }
+    ensures ok { OnOk result (out.new.items ≡ out.old.items ++ first_byte at) }
+    ensures err { OnErr result (out.new.items ≡ out.old.items) }
+{
+    match at {
+        Location::InRegisters(r) => {
+            out.extend_from_slice(&[AsmItem::Plain(Instr::Mov { d: 0, r })])
+        }
+        Location::InMemory { object, offset } => {
+            out.extend_from_slice(&[load(0, object, offset, 0)])
+        }
+    }
+}
+
+/// Appends code that joins the byte behind byte `i` to R0 by OR.
+fn join_byte(out: &mut Seq<AsmItem>, at: Location, i: u8) -> Result<(), NoMemory>
+    requires some { i < 255 }
+    requires there { HasByte at (1 + i) }
+    ensures ok { OnOk result (out.new.items ≡ out.old.items ++ join_byte at i) }
+    ensures err { OnErr result (out.new.items ≡ out.old.items) }
+{
+    match at {
+        Location::InRegisters(r) => {
+            out.extend_from_slice(&[AsmItem::Plain(Instr::Or {
+                d: 0,
+                r: r + (1 + i),
+            })])
+        }
+        Location::InMemory { object, offset } => out.extend_from_slice(&[
+            load(1, object, offset, 1 + i),
+            AsmItem::Plain(Instr::Or { d: 0, r: 1 }),
         ]),
     }
 }
@@ -117,17 +154,25 @@ pub fn test(out: &mut Seq<AsmItem>, at: Location, bytes: u8) -> Result<(), NoMem
     ensures ok { OnOk result (out.new.items ≡ out.old.items ++ test_code at bytes) }
     ensures err { OnErr result (BeginWith out.old.items out.new.items) }
 {
-    out.extend_from_slice(&[AsmItem::Plain(Instr::Eor { d: 1, r: 1 })])?;
-    test_bytes(out, at, bytes)
+    if bytes == 0 {
+        return Ok(());
+    }
+    if bytes == 1 {
+        return test_byte(out, at);
+    }
+    bring_first(out, at)?;
+    join_bytes(out, at, bytes - 1)
 }
 
-fn test_bytes(out: &mut Seq<AsmItem>, at: Location, bytes: u8) -> Result<(), NoMemory>
-    requires { HasBytes at bytes }
-    ensures ok { OnOk result (out.new.items ≡ out.old.items ++ tests_code at bytes) }
+/// Appends code that joins so many bytes behind the first one to R0.
+fn join_bytes(out: &mut Seq<AsmItem>, at: Location, count: u8) -> Result<(), NoMemory>
+    requires some { count < 255 }
+    requires there { HasBytes at (count + 1) }
+    ensures ok { OnOk result (out.new.items ≡ out.old.items ++ join_code at count) }
     ensures err { OnErr result (BeginWith out.old.items out.new.items) }
 {
-    for i in 0..bytes {
-        test_byte(out, at, i)?;
+    for i in 0..count {
+        join_byte(out, at, i)?;
     }
     Ok(())
 }

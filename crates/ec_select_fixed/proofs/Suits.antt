@@ -94,30 +94,39 @@ shifted op ty kind saturates signed bytes h = record {
 neither : ⊥ ⊎ ⊥ → ⊥
 neither h = ⊎_elim (λ (z : ⊥). z) (λ (z : ⊥). z) h
 
+-- a type that is one of integers is no fixed-point one
+no_bits : (ty : PlainType) (k : FxKind) (t : Bool) → IsSomeAnd (arithmetic_of ty) IsIntegerKind → ty ≡ fixed k t → ⊥
+no_bits ty k t whole same = subst (λ x. IsSomeAnd (arithmetic_of x) IsIntegerKind) same whole
+
 by_types : (op : BinOp) (ty aty bty : PlainType) → HaveOperationTypes op ty aty bty → IsScalar aty → IsScalar bty
     → IsFixedType aty ⊎ IsFixedType bty → Arithmetics op ty aty bty
 by_types op ty (integer s m) (integer u n) h l r f = absurd (neither f)
 by_types op ty (integer s m) (fixed k t) (inl h) l r f =
     with_result op ty (Integer (record { signed = s; bytes = m })) (Fixed (record { kind = k; sat = t })) h
-by_types op ty (integer s m) (fixed k t) (inr h) l r f = absurd h.count
+by_types op ty (integer s m) (fixed k t) (inr (inl h)) l r f = absurd h.count
+by_types op ty (integer s m) (fixed k t) (inr (inr h)) l r f = absurd (no_bits ty k t h.integer h.right)
 by_types op ty (integer s m) (pointer p c z) h l r f = absurd (neither f)
 by_types op ty (integer s m) void h l r f = absurd r
 by_types op ty (integer s m) (array z n) h l r f = absurd r
 by_types op ty (integer s m) (struct n) h l r f = absurd r
 by_types op ty (fixed k t) (integer u n) (inl h) l r f =
     with_result op ty (Fixed (record { kind = k; sat = t })) (Integer (record { signed = u; bytes = n })) h
-by_types op ty (fixed k t) (integer u n) (inr h) l r f = shifted op ty k t u n h
+by_types op ty (fixed k t) (integer u n) (inr (inl h)) l r f = shifted op ty k t u n h
+by_types op ty (fixed k t) (integer u n) (inr (inr h)) l r f = absurd (no_bits ty k t h.integer h.left)
 by_types op ty (fixed k t) (fixed j u) (inl h) l r f =
     with_result op ty (Fixed (record { kind = k; sat = t })) (Fixed (record { kind = j; sat = u })) h
-by_types op ty (fixed k t) (fixed j u) (inr h) l r f = absurd h.count
+by_types op ty (fixed k t) (fixed j u) (inr (inl h)) l r f = absurd h.count
+by_types op ty (fixed k t) (fixed j u) (inr (inr h)) l r f = absurd (no_bits ty k t h.integer h.left)
 by_types op ty (fixed k t) (pointer p c z) (inl h) l r f = absurd h.1
-by_types op ty (fixed k t) (pointer p c z) (inr h) l r f = absurd h.count
+by_types op ty (fixed k t) (pointer p c z) (inr (inl h)) l r f = absurd h.count
+by_types op ty (fixed k t) (pointer p c z) (inr (inr h)) l r f = absurd (no_bits ty k t h.integer h.left)
 by_types op ty (fixed k t) void h l r f = absurd r
 by_types op ty (fixed k t) (array z n) h l r f = absurd r
 by_types op ty (fixed k t) (struct n) h l r f = absurd r
 by_types op ty (pointer p c z) (integer u n) h l r f = absurd (neither f)
 by_types op ty (pointer p c z) (fixed j u) (inl h) l r f = absurd (no_offset op j u h.0)
-by_types op ty (pointer p c z) (fixed j u) (inr h) l r f = absurd h.left
+by_types op ty (pointer p c z) (fixed j u) (inr (inl h)) l r f = absurd h.left
+by_types op ty (pointer p c z) (fixed j u) (inr (inr h)) l r f = absurd (no_bits ty j u h.integer h.right)
 by_types op ty (pointer p c z) (pointer q d y) h l r f = absurd (neither f)
 by_types op ty (pointer p c z) void h l r f = absurd r
 by_types op ty (pointer p c z) (array y n) h l r f = absurd r

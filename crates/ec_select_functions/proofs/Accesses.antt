@@ -43,6 +43,7 @@ use Rattle.ec_select_operations.specs.Pointers.{home_of, address_number}
 use Rattle.ec_select_functions.proofs.Setting.{Setting, together}
 use Rattle.ec_select_functions.specs.Relation.{byte_accesses, number_told, object_accesses, event_accesses, accesses}
 use Rattle.ec_select_functions.specs.Relation.{HoldsContent, HoldsLeaf, FramesStand, Matches}
+use Rattle.ec_select_functions.proofs.Cells.{memory_of, same_objects, same_groups}
 use Rattle.ec_select_functions.proofs.Match.{wanted_most, kept_left, held_row, same_content, same_leaf, at_width}
 use Rattle.ec_select_functions.proofs.Match.{written_wide}
 use Rattle.ec_select_functions.proofs.Moves.{Frame, Wide, widened, row_kept_wide, numbers_kept, work_kept}
@@ -90,11 +91,11 @@ leaf_seen p bank place l make u = rw (l.is_object, l.is_leaf, l.size) refl
 pub home_is : (p : PlainProgram) (bank : Bank) (l : ObjectLeaf p bank) → home_of p l.object ≡ bank
 home_is p bank l = rw (l.is_object) l.home
 
-recorded_objects : (storage : PlainStorage) (x : Event) (s : State) → (recorded storage x s).objects ≡ s.objects
-recorded_objects (static inits) x s = refl
-recorded_objects (local f) x s = refl
-recorded_objects (param f) x s = refl
-recorded_objects (register first) x s = refl
+recorded_memory : (storage : PlainStorage) (x : Event) (s : State) → memory_of (recorded storage x s) ≡ memory_of s
+recorded_memory (static inits) x s = refl
+recorded_memory (local f) x s = refl
+recorded_memory (param f) x s = refl
+recorded_memory (register first) x s = refl
 
 pub recorded_work : (storage : PlainStorage) (x : Event) (s : State) → (recorded storage x s).work ≡ s.work
 recorded_work (static inits) x s = refl
@@ -355,7 +356,7 @@ leaf_found xs offset k q =
 module _ (p : PlainProgram) (e : Env) (slots : ℕ) (home : Temp → Location) (base : Temp → ℕ) (place : ℕ → ℕ)
     (y : Setting p e slots home base place) where
   abbrev A : Need → Mach → View → Type 0
-  A need m v = Matches p e y.inputs slots base place y.aside y.was y.active y.called need m v
+  A need m v = Matches p e y.inputs slots base place y.aside y.stands y.active y.called need m v
 
   -- the bytes of a bank
   abbrev pub bytes_of : Bank → View → ℕ → ℕ
@@ -419,7 +420,7 @@ module _ (p : PlainProgram) (e : Env) (slots : ℕ) (home : Temp → Location) (
       let is_seen : w.seen ≡ accesses p place s1.events =
       seen ∙ ap (λ b. b ++ log) z.seen ∙ sym (read_seen p bank place l space (told u) s storage) in
       written_wide p e slots home base place y t (content_of t.bytes u) need need0 m s1 v w it z more frame here numbers
-      (recorded_objects storage _ s) is_seen
+      (recorded_memory storage _ s) is_seen
       (λ port. kept_left y.inputs m.state v w inputs z.left port ∙ sym (recorded_left y.inputs port storage _ s refl)) (safe ∙ z.safe)
 
   -- by a copy
@@ -607,7 +608,9 @@ module _ (p : PlainProgram) (e : Env) (slots : ℕ) (home : Temp → Location) (
       let log = log_of (kind_in storage) ByteWrite b (seen_number p place l.bytes (told u)) l.bytes in
       let is_seen : w.seen ≡ accesses p place s1.events =
       seen ∙ ap (λ f. f ++ log) z.seen ∙ sym (write_seen p DataBank place l space (told u) s0 storage) in
-      let objects : s1.objects ≡ changed_at l.object (with_leaf l.number u) m.state.objects = recorded_objects storage _ s0 in
+      let memory : memory_of s1 ≡ memory_of s0 = recorded_memory storage _ s0 in
+      let objects : s1.objects ≡ changed_at l.object (with_leaf l.number u) m.state.objects = same_objects s1 s0 memory in
+      let groups : s1.groups ≡ m.state.groups = same_groups s1 s0 memory in
       record {
         temps_hold = λ t h it r q. same_content p place v.at w.at (base t) (wanted need t) t.bytes h.content
             (λ j f. row_kept_wide v w b l.bytes (base t) t.bytes (y.layout.temps_at t it).clear (y.layout.temps_work t it)
@@ -619,9 +622,9 @@ module _ (p : PlainProgram) (e : Env) (slots : ℕ) (home : Temp → Location) (
             (sym (changed_other l.object f.object (with_leaf l.number u) m.state.objects (other_object l f))
             ∙ ap (λ g. slice_get g f.object) (sym objects) ∙ r) q;
         frames = subst (λ g. FramesStand p y.active y.called g) (sym objects) (stored_frames l u need0 m v z mine);
-        kept = λ f r.
+        kept = λ f byte r q.
             (let i = y.high f r in frame f (omega arith) (omega arith) (λ o. omega arith) (λ o. omega arith) (y.leaves_aside l f r))
-            ∙ z.kept f r;
+            ∙ z.kept f byte r (ap (λ g. y.stands g f) (sym groups) ∙ q);
         bytes = numbers;
         left = λ port. kept_left y.inputs m.state v w inputs z.left port ∙ sym (recorded_left y.inputs port storage _ s0 refl);
         seen = is_seen;

@@ -1,8 +1,8 @@
 -- The function that runs, and what is set aside for those that wait for it.
-use Rattle.std.proofs.Common.{◌≡◌, ◌≢◌, ℕ, ◌+◌, ◌-◌, ◌*◌, ◌<◌, ◌≤◌, ◌⊎◌, inl, inr, ⊎_elim, Bool, true, ◌&&◌, ◌||◌, List, [], ◌∷◌}
-use Rattle.std.proofs.Common.{Some, length, refl, sym, ◌∙◌, subst, arith, leb-true, ltb-true, eqb-true, Contains}
-use Rattle.std.specs.Prelude.{◌==◌, nat_le, nat_lt, slice_get, slice_index}
-use Rattle.std.proofs.lemmas.Bool.{and_parts, and_from, or_cases, or_left, or_right, lt-ltb, le-leb, eq-eqb, cases_lt}
+use Rattle.std.proofs.Common.{◌≡◌, ◌≢◌, ℕ, ◌+◌, ◌-◌, ◌*◌, ◌<◌, ◌≤◌, ◌⊎◌, inl, inr, ⊎_elim, Bool, true, ◌||◌, List, [], ◌∷◌}
+use Rattle.std.proofs.Common.{Option, Some, length, refl, sym, ◌∙◌, subst, arith, eqb-true, Contains}
+use Rattle.std.specs.Prelude.{◌==◌, slice_get, slice_index}
+use Rattle.std.proofs.lemmas.Bool.{or_cases, or_left, or_right, eq-eqb, cases_lt}
 use Rattle.ec_space.specs.declared.space.Bank.TheVariants.{Data as DataBank}
 use Rattle.ec_asm.specs.View.{View, pair}
 use Rattle.ec_asm.specs.Change.{Env, Kind, Own, Object, Stacked, sp}
@@ -10,7 +10,7 @@ use Rattle.ec_asm.specs.Pieces.{Outside}
 use Rattle.ec_core.specs.Layout.{size_of_type}
 use Rattle.ec_core.specs.Laws.{BytesAreTakenInOrder}
 use Rattle.ec_core.specs.Plain.{PlainStorage, static, local, param, register}
-use Rattle.ec_core.specs.State.{Inputs}
+use Rattle.ec_core.specs.State.{Inputs, GroupStates}
 use Rattle.ec_core.specs.TypeLaws.{LeavesFillTheirTypes}
 use Rattle.ec_ir.specs.declared.operations.Temp.{Temp}
 use Rattle.ec_ir.specs.Meaning.{is_among}
@@ -20,8 +20,9 @@ use Rattle.ec_select_operations.specs.declared.homes.Homes.{Homes}
 use Rattle.ec_select_operations.specs.Homes.{home, HasHome}
 use Rattle.ec_select_functions.specs.Laws.{AreSelected, IsSelected, CallsOn}
 use Rattle.ec_select_operations.specs.Places.{ObjectLeaf, Chained, CanBeLiveTogether, Apart, Layout}
-use Rattle.ec_select_functions.specs.Relation.{AreFrames}
+use Rattle.ec_select_functions.specs.Relation.{AreFrames, standing_byte}
 use Rattle.ec_select_functions.specs.Standing.{home_address, ObjectStands}
+use Rattle.ec_select_functions.proofs.Cells.{in_row, row_parts, row_from, cell_stands, other_stands}
 use Rattle.ec_select_functions.proofs.Moves.{outside_row}
 use Rattle.ec_select_functions.proofs.Setting.{Setting, FixedLaws, RoutineLaws, PointerLaws, NumberLaws}
 use Rattle.ec_select_functions.proofs.Standing.{InRegister, InScratch, kinds, ends_low, homes_are_laid_out}
@@ -29,8 +30,9 @@ use Rattle.ec_select_functions.proofs.Standing.{leaf_where, lies}
 
 -- the code of a valid program, bytes of the stack from one address to another, and the inputs, which are bytes
 pub record World (p : PlainIrProgram) (e : Env) (place entry_of : ℕ → ℕ) : Type 0 where
-  pub selected : AreSelected p e place entry_of
-  pub valid : ValidIr p
+  pub cells : ℕ
+  pub selected : AreSelected cells p e place entry_of
+  pub valid : ValidIr cells p
   pub fill : LeavesFillTheirTypes
   pub inputs : Inputs
   pub feeds : (port k : ℕ) → slice_index (inputs port) k < 256
@@ -45,16 +47,7 @@ pub record World (p : PlainIrProgram) (e : Env) (place entry_of : ℕ → ℕ) :
   pub below : top < 65536
   pub stacked : (k : ℕ) → low ≤ k → k ≤ top → e.kind k ≡ Stacked
 
--- ---- rows of bytes
-
-abbrev pub in_row : (a n k : ℕ) → Bool
-in_row a n k = nat_le a k && nat_lt k (a + n)
-
-pub row_parts : (a n k : ℕ) → in_row a n k ≡ true → (a ≤ k) × (k < a + n)
-row_parts a n k h = let r = and_parts (nat_le a k) (nat_lt k (a + n)) h in (leb-true a k r.0, ltb-true k (a + n) r.1)
-
-pub row_from : (a n k : ℕ) → a ≤ k → k < a + n → in_row a n k ≡ true
-row_from a n k l m = and_from (nat_le a k) (nat_lt k (a + n)) (le-leb a k l) (lt-ltb k (a + n) m)
+-- ---- what is set aside
 
 -- what is set aside by a call: the scratch memory of the caller, and the return address
 abbrev pub aside_by : (aside : ℕ → Bool) → (scratch size s : ℕ) → ℕ → Bool
@@ -107,6 +100,19 @@ module _ (p : PlainIrProgram) (e : Env) (place entry_of : ℕ → ℕ) (w : Worl
   abbrev pub leaf_at : ObjectLeaf (data_of p) DataBank → ℕ
   leaf_at l = place l.object + l.at
 
+  -- where the bytes of cells begin
+  abbrev pub first_cell_at : ℕ
+  first_cell_at = w.selected.work + 64
+
+  -- what has to stand where it is set aside
+  abbrev pub standing_by : (was : ℕ → ℕ) → GroupStates → ℕ → Option ℕ
+  standing_by was = standing_byte first_cell_at w.cells was
+
+  -- no cell has a low address
+  pub low_stands : (was : ℕ → ℕ) (groups : GroupStates) (k : ℕ) → k < 256 → standing_by was groups k ≡ Some (was k)
+  low_stands was groups k l =
+      let above = w.selected.work_stands.high in other_stands first_cell_at w.cells was k groups (λ z. absurd (omega arith))
+
   -- The function f runs with the stack pointer s. What is set aside stands apart from its own scratch memory and that of
   -- all which it calls, from leaves, and from the bytes that it pushes; and there are bytes enough to push, and 16 more
   pub record Active (f : ℕ) (g : PlainIrFunction) (s : ℕ) (aside : ℕ → Bool) (was : ℕ → ℕ) : Type 0 where
@@ -123,6 +129,7 @@ module _ (p : PlainIrProgram) (e : Env) (place entry_of : ℕ → ℕ) (w : Worl
         → aside k ≡ true → Outside (scratch_of b) (16 * h.slots) k
     pub free : (k : ℕ) → aside k ≡ true → w.low ≤ k → s < k
     pub work : (k : ℕ) → aside k ≡ true → Outside w.selected.work 64 k
+    pub cells : (c : ℕ) → c < w.cells → aside (first_cell_at + c) ≡ true
     pub pointer_low : aside 93 ≡ true
     pub pointer_high : aside 94 ≡ true
     pub pointer : pair was 93 ≡ s
@@ -137,13 +144,13 @@ module _ (p : PlainIrProgram) (e : Env) (place entry_of : ℕ → ℕ) (w : Worl
       → Layout (data_of p) (CanBeLiveTogether p) e g.slots (home (homes_of f)) (base_of f) place
   layout_of f g q =
       let x = selected_of f g q in
-      homes_are_laid_out w.fill p w.valid e g.slots (homes_of f) (scratch_of f) place x.scratch_stands x.objects_stand
+      homes_are_laid_out w.fill w.cells p w.valid e g.slots (homes_of f) (scratch_of f) place x.scratch_stands x.objects_stand
 
   pub leaf_is : (f : ℕ) (g : PlainIrFunction) → slice_get p.functions f ≡ Some g → (l : ObjectLeaf (data_of p) DataBank)
       → (leaf_at l + l.bytes ≤ 8) ⊎ (256 ≤ leaf_at l)
   leaf_is f g q l =
       let x = selected_of f g q in
-      leaf_where w.fill p w.valid e g.slots (homes_of f) (scratch_of f) place x.scratch_stands x.objects_stand l
+      leaf_where w.fill w.cells p w.valid e g.slots (homes_of f) (scratch_of f) place x.scratch_stands x.objects_stand l
 
   -- what is set aside is none of a temporary's
   pub temp_aside : (f : ℕ) (g : PlainIrFunction) (k : ℕ) (t : Temp) → slice_get p.functions f ≡ Some g → 32 ≤ k
@@ -179,27 +186,58 @@ module _ (p : PlainIrProgram) (e : Env) (place entry_of : ℕ → ℕ) (w : Worl
       }))
       (kinds (homes_of f) (scratch_of f) t)
 
+  leaf_apart : (f : ℕ) (g : PlainIrFunction) → slice_get p.functions f ≡ Some g → (l : ObjectLeaf (data_of p) DataBank)
+      → (leaf_at l + l.bytes ≤ w.selected.work) ⊎ (w.selected.work + (64 + w.cells) ≤ leaf_at l)
+  leaf_apart f g q l =
+      let x = selected_of f g q in
+      let n = size_of_type p.structs l.declared.ty in
+      let inside = (lies w.fill w.cells p w.valid e g.slots (homes_of f) (scratch_of f) place x.scratch_stands x.objects_stand l).inside in
+      let r = w.selected.work_stands.objects_apart l.object l.declared l.is_object l.home in
+      ⊎_elim
+      (λ (z : place l.object < w.selected.work). let y = r.left z in inl (omega arith))
+      (λ (z : w.selected.work ≤ place l.object). let y = r.right z in inr (omega arith))
+      (cases_lt (place l.object) w.selected.work)
+
   pub leaf_outside_work : (f : ℕ) (g : PlainIrFunction) → slice_get p.functions f ≡ Some g → (l : ObjectLeaf (data_of p) DataBank)
       (i : ℕ) → i < l.bytes → Outside w.selected.work 64 (leaf_at l + i)
   leaf_outside_work f g q l i m u =
-      let x = selected_of f g q in
-      let n = size_of_type p.structs l.declared.ty in
-      let inside = (lies w.fill p w.valid e g.slots (homes_of f) (scratch_of f) place x.scratch_stands x.objects_stand l).inside in
-      let r = w.selected.work_stands.objects_apart l.object l.declared l.is_object l.home in
-      ⊎_elim
-      (λ (z : place l.object < w.selected.work). let y = r.left z in absurd (omega arith))
-      (λ (z : w.selected.work ≤ place l.object). let y = r.right z in omega arith)
-      (cases_lt (place l.object) w.selected.work)
+      ⊎_elim (λ (z : leaf_at l + l.bytes ≤ w.selected.work). absurd (omega arith))
+      (λ (z : w.selected.work + (64 + w.cells) ≤ leaf_at l). omega arith)
+      (leaf_apart f g q l)
+
+  pub leaf_outside_cell : (f : ℕ) (g : PlainIrFunction) → slice_get p.functions f ≡ Some g → (l : ObjectLeaf (data_of p) DataBank)
+      (k : ℕ) → first_cell_at ≤ k → k < first_cell_at + w.cells → Outside (leaf_at l) l.bytes k
+  leaf_outside_cell f g q l k low high u =
+      ⊎_elim (λ (z : leaf_at l + l.bytes ≤ w.selected.work). omega arith)
+      (λ (z : w.selected.work + (64 + w.cells) ≤ leaf_at l). absurd (omega arith))
+      (leaf_apart f g q l)
+
+  work_kind : (k : ℕ) → w.selected.work ≤ k → k < first_cell_at + w.cells → e.kind k ≡ Own
+  work_kind k l m =
+      let i : w.selected.work + (k - w.selected.work) ≡ k = omega arith in
+      subst (λ j. e.kind j ≡ Own) i (w.selected.work_stands.kind (k - w.selected.work) (omega arith))
 
   pub stack_work : (k : ℕ) → e.kind k ≡ Stacked → Outside w.selected.work 64 k
   stack_work k stacked l =
       ⊎_elim
-      (λ (m : k < w.selected.work + 64).
-      let i : w.selected.work + (k - w.selected.work) ≡ k = omega arith in
-      let own : e.kind k ≡ Own = subst (λ j. e.kind j ≡ Own) i (w.selected.work_stands.kind (k - w.selected.work) (omega arith)) in
-      absurd (own_is_not_stacked (e.kind k) own stacked))
+      (λ (m : k < w.selected.work + 64). absurd (own_is_not_stacked (e.kind k) (work_kind k l (omega arith)) stacked))
       (λ (m : w.selected.work + 64 ≤ k). m)
       (cases_lt k (w.selected.work + 64))
+
+  pub stack_cell : (k : ℕ) → e.kind k ≡ Stacked → Outside first_cell_at w.cells k
+  stack_cell k stacked l =
+      ⊎_elim
+      (λ (m : k < first_cell_at + w.cells). absurd (own_is_not_stacked (e.kind k) (work_kind k (omega arith) m) stacked))
+      (λ (m : first_cell_at + w.cells ≤ k). m)
+      (cases_lt k (first_cell_at + w.cells))
+
+  pub scratch_cell : (f : ℕ) (g : PlainIrFunction) → slice_get p.functions f ≡ Some g → (k : ℕ) → scratch_of f ≤ k
+      → k < scratch_of f + 16 * g.slots → Outside first_cell_at w.cells k
+  scratch_cell f g q k l m u =
+      let far = w.selected.work_apart f g q in
+      ⊎_elim (λ (z : scratch_of f < w.selected.work). let y = far.left z in absurd (omega arith))
+      (λ (z : w.selected.work ≤ scratch_of f). let y = far.right z in omega arith)
+      (cases_lt (scratch_of f) w.selected.work)
 
   -- a chain of calls that is called from has the called function too
   leads_on : (f b : ℕ) (g : PlainIrFunction) (a : ℕ) → slice_get p.functions f ≡ Some g → Contains (called_in g.code) b
@@ -280,7 +318,7 @@ module _ (p : PlainIrProgram) (e : Env) (place entry_of : ℕ → ℕ) (w : Worl
   stack_leaf f g q l k high stacked u =
       let x = selected_of f g q in
       let n = size_of_type p.structs l.declared.ty in
-      let inside = (lies w.fill p w.valid e g.slots (homes_of f) (scratch_of f) place x.scratch_stands x.objects_stand l).inside in
+      let inside = (lies w.fill w.cells p w.valid e g.slots (homes_of f) (scratch_of f) place x.scratch_stands x.objects_stand l).inside in
       ⊎_elim
       (λ (m : k < leaf_at l + l.bytes). absurd (by_storage l.declared.storage n inside
       (x.objects_stand.each l.object l.declared l.is_object l.home) m))
@@ -335,14 +373,19 @@ module _ (p : PlainIrProgram) (e : Env) (place entry_of : ℕ → ℕ) (w : Worl
     layout = layout_of f g a.is;
     aside = aside;
     was = was;
+    stands = standing_by was;
     inputs = w.inputs;
     feeds = w.feeds;
     taken = w.taken;
     work = w.selected.work;
+    cells = w.cells;
     work_stands = w.selected.work_stands;
     temps_work = λ t it. temp_work f g t a.is it;
     leaves_work = λ l j m. leaf_outside_work f g a.is l j m;
     work_aside = a.work;
+    cells_aside = a.cells;
+    cells_stand = λ c s l. cell_stands first_cell_at w.cells was c s l;
+    others_stand = λ k groups o. other_stands first_cell_at w.cells was k groups o;
     fixed = w.fixed;
     routines = w.routines;
     pointers = w.pointers;
@@ -381,7 +424,7 @@ module _ (p : PlainIrProgram) (e : Env) (place entry_of : ℕ → ℕ) (w : Worl
   leaf_outside_scratch f g q l i m u =
       let x = selected_of f g q in
       let n = size_of_type p.structs l.declared.ty in
-      let inside = (lies w.fill p w.valid e g.slots (homes_of f) (scratch_of f) place x.scratch_stands x.objects_stand l).inside in
+      let inside = (lies w.fill w.cells p w.valid e g.slots (homes_of f) (scratch_of f) place x.scratch_stands x.objects_stand l).inside in
       let r = x.objects_stand.scratch_apart l.object l.declared l.is_object l.home in
       ⊎_elim
       (λ (z : place l.object < scratch_of f). let y = r.left z in absurd (omega arith))
@@ -446,8 +489,9 @@ module _ (p : PlainIrProgram) (e : Env) (place entry_of : ℕ → ℕ) (w : Worl
         free = λ k q l. aside_cases aside (scratch_of f) (16 * g.slots) s k (s - 2 < k) q (λ r. let z = a.free k r l in omega arith)
             (λ i m. scratch_free k l i m) (λ i m. omega arith);
         work = λ k q. aside_cases aside (scratch_of f) (16 * g.slots) s k (Outside w.selected.work 64 k) q (λ r. a.work k r)
-            (λ l m. row_outside_back w.selected.work 64 (scratch_of f) (16 * g.slots) k (w.selected.work_apart f g a.is) l m)
+            (λ l m. scratch_work k l m)
             (λ l m. stack_work k (w.stacked k (omega arith) (omega arith)));
+        cells = λ c l. aside_before aside (scratch_of f) (16 * g.slots) s (first_cell_at + c) (a.cells c l);
         pointer_low = aside_before aside (scratch_of f) (16 * g.slots) s 93 a.pointer_low;
         pointer_high = aside_before aside (scratch_of f) (16 * g.slots) s 94 a.pointer_high;
         pointer = pointer;
@@ -459,11 +503,18 @@ module _ (p : PlainIrProgram) (e : Env) (place entry_of : ℕ → ℕ) (w : Worl
           → Outside (leaf_at l) l.bytes k
       leaf_scratch l k i m q =
           let x = selected_of f g a.is in
-          let inside = (lies w.fill p w.valid e g.slots (homes_of f) (scratch_of f) place x.scratch_stands x.objects_stand l).inside in
+          let inside = (lies w.fill w.cells p w.valid e g.slots (homes_of f) (scratch_of f) place x.scratch_stands x.objects_stand l).inside in
           let z = row_outside (place l.object) (size_of_type p.structs l.declared.ty) (scratch_of f) (16 * g.slots) k
           (x.objects_stand.scratch_apart l.object l.declared l.is_object l.home) i m in
           let y = z (omega arith) in
           omega arith
+
+      scratch_work : (k : ℕ) → scratch_of f ≤ k → k < scratch_of f + 16 * g.slots → Outside w.selected.work 64 k
+      scratch_work k i m q =
+          let far = w.selected.work_apart f g a.is in
+          ⊎_elim (λ (z : scratch_of f < w.selected.work). let y = far.left z in absurd (omega arith))
+          (λ (z : w.selected.work ≤ scratch_of f). let y = far.right z in omega arith)
+          (cases_lt (scratch_of f) w.selected.work)
 
       scratch_free : (k : ℕ) → w.low ≤ k → scratch_of f ≤ k → k < scratch_of f + 16 * g.slots → s - 2 < k
       scratch_free k l i m =

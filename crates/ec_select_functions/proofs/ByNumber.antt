@@ -288,7 +288,7 @@ number_low k n bytes l m = low_part k n 16 (omega arith) ∙ sym (low_part k n b
 module _ (p : PlainProgram) (e : Env) (slots : ℕ) (home : Temp → Location) (base : Temp → ℕ) (place : ℕ → ℕ)
     (y : Setting p e slots home base place) where
   abbrev N : Need → Mach → View → Type 0
-  N need m v = Matches p e y.inputs slots base place y.aside y.was y.active y.called need m v
+  N need m v = Matches p e y.inputs slots base place y.aside y.stands y.active y.called need m v
 
   -- the first operand is brought to the result's place, and changed there
   pub number_matches : (op : Operator) → is_changed op ≡ true → (t a : Temp) (k : ℤ) (need : Need) (m : Mach) (v : View) (c x : ℕ)

@@ -136,7 +136,8 @@ untold_by true apart f signed q = ap (λ x. told_by x f signed) q
 module _ (p : PlainProgram) (e : Env) (slots : ℕ) (home : Temp → Location) (base : Temp → ℕ) (place : ℕ → ℕ)
     (y : Setting p e slots home base place) where
   pub has_work : HasWork e y.work
-  has_work = let w = y.work_stands in record { high = w.high; at = w.at; kind = w.kind }
+  has_work =
+      let w = y.work_stands in record { high = w.high; at = λ i l. w.at i (omega arith); kind = λ i l. w.kind i (omega arith) }
 
   pub operand_at : (t : Temp) (n : ℕ) → HasHome slots t → t.bytes ≡ n → IsOperandAt e (home t) n (base t) y.work
   operand_at t n it same =
@@ -149,7 +150,7 @@ module _ (p : PlainProgram) (e : Env) (slots : ℕ) (home : Temp → Location) (
       })
 
   pub can_push : (need : Need) (m : Mach) (v : View)
-      → Matches p e y.inputs slots base place y.aside y.was y.active y.called need m v → CanPush e v
+      → Matches p e y.inputs slots base place y.aside y.stands y.active y.called need m v → CanPush e v
   can_push need m v h =
       let pointer = pointer_is p e slots home base place y need m v h in
       let below = below_is p e slots home base place y need m v h in

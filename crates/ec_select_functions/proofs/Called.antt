@@ -1,5 +1,5 @@
 -- A call: what is needed waits in memory, the called function runs, and the caller goes on.
-use Rattle.std.proofs.Common.{◌≡◌, ◌≢◌, ℕ, suc, ◌+◌, ◌-◌, ◌*◌, ◌%◌, ◌<◌, ◌≤◌, ◌⊎◌, ⊎_elim, inl, inr, Bool, List, []}
+use Rattle.std.proofs.Common.{◌≡◌, ◌≢◌, ℕ, suc, ◌+◌, ◌-◌, ◌*◌, ◌%◌, ◌<◌, ◌≤◌, ◌⊎◌, ⊎_elim, inl, inr, Bool, true, List, []}
 use Rattle.std.proofs.Common.{◌∷◌, ◌++◌, Option, Some, None, refl, sym, ap, ◌∙◌, subst, arith, Contains, ℤ}
 use Rattle.std.specs.Prelude.{◌==◌, if◌then◌else◌, drop, slice_get}
 use Rattle.std.proofs.lemmas.Bool.{cases_eq, eq-eqb, ne_eqb}
@@ -39,7 +39,10 @@ use Rattle.ec_select_operations.specs.Places.{ObjectLeaf}
 use Rattle.ec_select_functions.specs.Relation.{accesses, HoldsContent, FramesStand, Matches}
 use Rattle.ec_select_functions.proofs.Active.{World, Active, homes_of, scratch_of, base_of, leaf_at, leaf_is}
 use Rattle.ec_select_functions.proofs.Active.{layout_of, setting_of, selected_of, aside_by, aside_stack, called, called_functions}
-use Rattle.ec_select_functions.proofs.Active.{has_room, leaf_outside_scratch, leaf_not_stacked}
+use Rattle.ec_select_functions.proofs.Active.{has_room, leaf_outside_scratch, leaf_not_stacked, first_cell_at, standing_by}
+use Rattle.ec_select_functions.proofs.Active.{low_stands, stack_cell, pushed_free}
+use Rattle.ec_select_functions.proofs.Cells.{memory_of, same_objects, same_groups, by_row, other_stands, cell_stands_alike}
+use Rattle.ec_select_functions.proofs.Cells.{other_is, functions_use}
 use Rattle.ec_select_functions.proofs.Computed.{moved_numbers}
 use Rattle.ec_select_functions.proofs.Follow.{Follows, after}
 use Rattle.ec_select_functions.proofs.Match.{kept_matches, kept_left, same_content, same_leaf, less_content, held_row, same_temp}
@@ -96,9 +99,9 @@ module _ (p : PlainIrProgram) (e : Env) (place entry_of : ℕ → ℕ) (w : Worl
       let here : x.pc ≡ e.word_of (entry_of b) = sym (stands.1.0 word) in
       let mid : stands.0 ≡ e.word_of (entry_of b) = stands.1.1 ∙ here in
       record {
-        covered = are_ready D e w.selected.results b (called_in gb.code) gb.slots
+        covered = are_ready D e w.cells w.selected.results b (called_in gb.code) gb.slots
             (linkage_of e.core p entry_of b gb.slots (w.selected.made b)) gb.code x.covered
-            (λ i there l q. (x.routines i l there q, x.callers i l there q));
+            (functions_use w.cells p w.valid b gb a.is) (λ i there l q. (x.routines i l there q, x.callers i l there q));
         live = x.live;
         inside = λ c q. q;
         here = record { active = a.runs; stacked = stacked; core = refl };
@@ -144,7 +147,7 @@ module _ (p : PlainIrProgram) (e : Env) (place entry_of : ℕ → ℕ) (w : Worl
     T to v v1 = Took p e place entry_of w f g s aside was a to v v1
 
     abbrev MM : Need → Mach → View → Type 0
-    MM need m v = Matches D e w.inputs slots bs place aside was a.functions (called_in g.code) need m v
+    MM need m v = Matches D e w.inputs slots bs place aside (standing_by p e place entry_of w was) a.functions (called_in g.code) need m v
 
     -- ---- the result is taken
 
@@ -256,20 +259,34 @@ module _ (p : PlainIrProgram) (e : Env) (place entry_of : ℕ → ℕ) (w : Worl
       unfolding active
       functions_are = called_functions p e place entry_of w f g s aside was a b gb there is (pushed back v1) pushed_is
 
+      abbrev v2 : View
+      v2 = pushed back v1
+
+      -- the two bytes that are pushed are the stack's
+      pushed_there : (k : ℕ) → s - 1 ≤ k → k ≤ s → e.kind k ≡ Stacked
+      pushed_there k l m =
+          let one = first in
+          let last = a.below in
+          w.stacked k (omega arith) (omega arith)
+
       -- what a called function left
       module _ (s1 : State) (u : View) (left : Left p e place entry_of w gb b around_b aside_b (pushed back v1).at s1 u) where
         pointer_u : sp u ≡ s - 2
         pointer_u =
-            let low = left.kept 93 active.pointer_low in
-            let up = left.kept 94 active.pointer_high in
+            let low = left.kept 93 (v2.at 93) active.pointer_low (low_stands p e place entry_of w v2.at s1.groups 93 (omega arith)) in
+            let up = left.kept 94 (v2.at 94) active.pointer_high (low_stands p e place entry_of w v2.at s1.groups 94 (omega arith)) in
             rw (low, up) pushed_is
 
         goes_back : back_at u % 65536 ≡ back
         goes_back =
             let last = deep.0 in
             back_is back v1 u s pointer deep.0 deep.1 room pointer_u
-            (left.kept (s - 1) (aside_stack aside scratch (16 * slots) s (s - 1) (omega arith) (omega arith)))
-            (left.kept s (aside_stack aside scratch (16 * slots) s s (omega arith) (omega arith)))
+            (left.kept (s - 1) (v2.at (s - 1)) (aside_stack aside scratch (16 * slots) s (s - 1) (omega arith) (omega arith))
+            (other_stands (first_cell_at p e place entry_of w) w.cells v2.at (s - 1) s1.groups
+            (stack_cell p e place entry_of w (s - 1) (pushed_there (s - 1) (omega arith) (omega arith)))))
+            (left.kept s (v2.at s) (aside_stack aside scratch (16 * slots) s s (omega arith) (omega arith))
+            (other_stands (first_cell_at p e place entry_of w) w.cells v2.at s s1.groups
+            (stack_cell p e place entry_of w s (pushed_there s (omega arith) (omega arith)))))
 
         popped_u : HoldsNumbers (popped u)
         popped_u = popped_numbers u left.bytes
@@ -296,8 +313,8 @@ module _ (p : PlainIrProgram) (e : Env) (place entry_of : ℕ → ℕ) (w : Worl
             (omega (arith, most, some, credit))
             (below j l f g s aside was a stack ready.here.stacked (λ i r. returns i (omega (arith, r, l))) end0 rest
             (machine temps (left_over s1)) v5 ready
-            (kept_matches D e w.inputs slots bs place aside was around_b (called_in gb.code) a.functions (called_in g.code) need around
-            temps s1 v5 (inl ready.here.stacked) matches))
+            (kept_matches D e w.inputs slots bs place aside (standing_by p e place entry_of w was) around_b (called_in gb.code)
+            a.functions (called_in g.code) need around temps s1 v5 (inl ready.here.stacked) matches))
 
       back_with : (j : ℕ) → j ≤ n → (to1 : Option Temp) → to ≡ to1 → (result : Option Held) (s1 : State) (u : View) (spent : ℕ)
           → spent + 64 ≤ s1.work
@@ -381,17 +398,18 @@ module _ (p : PlainIrProgram) (e : Env) (place entry_of : ℕ → ℕ) (w : Worl
           (back_with j l to refl result s1 u spent credit hands left)
 
       -- it begins with the caller's objects
-      entered : MM need0 m v → (st : State) → st.objects ≡ m.state.objects → st.events ≡ m.state.events
-          → Matches D e w.inputs gb.slots (base_of p e place entry_of w b) place aside_b (pushed back v1).at
-          a.functions (called_in g.code) (needs (facts_of (w.selected.made b).labels gb.code) gb.code) (machine no_temps st)
+      entered : MM need0 m v → (st : State) → memory_of st ≡ memory_of m.state → st.events ≡ m.state.events
+          → Matches D e w.inputs gb.slots (base_of p e place entry_of w b) place aside_b
+          (standing_by p e place entry_of w (pushed back v1).at) a.functions (called_in g.code) (needs (facts_of (w.selected.made b).labels gb.code) gb.code) (machine no_temps st)
           (pushed back v1)
-      entered z st objects events = record {
+      entered z st memory events = record {
         temps_hold = λ t c it q r. absurd cc;
         leaves_hold = λ l y o q k. same_leaf D place v.at (pushed back v1).at (place l.object + l.at) l.bytes o (λ i r. leaf_kept l i r)
-            (z.leaves_hold l y o (ap (λ i. slice_get i l.object) (sym objects) ∙ q) k);
-        tables_hold = λ l y o q k. z.tables_hold l y o (ap (λ i. slice_get i l.object) (sym objects) ∙ q) k;
-        frames = subst (λ i. FramesStand D a.functions (called_in g.code) i) (sym objects) z.frames;
-        kept = λ k q. refl;
+            (z.leaves_hold l y o (ap (λ i. slice_get i l.object) (sym (same_objects st m.state memory)) ∙ q) k);
+        tables_hold = λ l y o q k.
+            z.tables_hold l y o (ap (λ i. slice_get i l.object) (sym (same_objects st m.state memory)) ∙ q) k;
+        frames = subst (λ i. FramesStand D a.functions (called_in g.code) i) (sym (same_objects st m.state memory)) z.frames;
+        kept = λ k byte q r. stands_there k byte r;
         bytes = pushed_numbers back v1 saved.numbers;
         left = λ port. kept_left w.inputs m.state v v1 saved.quiet.inputs z.left port
             ∙ ap (λ es. drop (reads_of port es) (w.inputs port)) (sym events);
@@ -399,6 +417,33 @@ module _ (p : PlainIrProgram) (e : Env) (place entry_of : ℕ → ℕ) (w : Worl
         safe = saved.quiet.safe ∙ z.safe;
       }
         where
+          -- a cell is no byte that is pushed, and none that waits for the call
+          cell_kept : (k : ℕ) → aside k ≡ true → 256 ≤ k → v2.at k ≡ v.at k
+          cell_kept k q high =
+              let one = deep.0 in
+              let down : lowered (sp v1) ≡ s - 1 = rw pointer (omega (arith, one, deep.1)) in
+              let free = pushed_free p e place entry_of w f g s aside was a k q in
+              let own = a.own k q in
+              pushed_same back v1 k (λ r. free.0 (r ∙ pointer)) (λ r. free.1 (r ∙ down)) (omega arith) (omega arith)
+              ∙ saved.same k (omega arith)
+              (λ j i r. let few4 = (are_kept e slots h scratch x.scratch_stands need0 j).most in let o = own (omega arith) in omega
+              (arith, few4, o))
+
+          stands_there : (k byte : ℕ) → standing_by p e place entry_of w v2.at st.groups k ≡ Some byte → v2.at k ≡ byte
+          stands_there k byte q =
+              let above = w.selected.work_stands.high in
+              ⊎_elim
+              (λ (c : (i : ℕ) × (i < w.cells) × (k ≡ first_cell_at p e place entry_of w + i)).
+              let here = first_cell_at p e place entry_of w + c.0 in
+              let set_aside = a.cells c.0 c.1 in
+              let stands : standing_by p e place entry_of w was m.state.groups here ≡ Some byte =
+              ap (λ o. standing_by p e place entry_of w was o here) (sym (same_groups st m.state memory))
+              ∙ cell_stands_alike (first_cell_at p e place entry_of w) w.cells was v2.at c.0 st.groups c.1
+              ∙ ap (standing_by p e place entry_of w v2.at st.groups) (sym c.2) ∙ q in
+              ap v2.at c.2 ∙ cell_kept here set_aside (omega arith) ∙ z.kept here byte set_aside stands)
+              (λ o. other_is (first_cell_at p e place entry_of w) w.cells v2.at k byte st.groups o q)
+              (by_row (first_cell_at p e place entry_of w) w.cells k)
+
           leaf_kept : (l : ObjectLeaf D DataBank) (i : ℕ) → i < l.bytes → (pushed back v1).at (place l.object + l.at + i)
               ≡ v.at (place l.object + l.at + i)
           leaf_kept l i r =
@@ -501,8 +546,8 @@ module _ (p : PlainIrProgram) (e : Env) (place entry_of : ℕ → ℕ) (w : Worl
             let start = begins b gb (s - 2) (aside_by aside scratch (16 * slots) s) v2.at active1 (frame ∷ stack) stacked word in
             let st1 = kept_for D (b ∷ around) st in
             let matches =
-            kept_matches D e w.inputs gb.slots (base_of p e place entry_of w b) place (aside_by aside scratch (16 * slots) s) v2.at
-            a.functions (called_in g.code) active1.functions (called_in gb.code)
+            kept_matches D e w.inputs gb.slots (base_of p e place entry_of w b) place (aside_by aside scratch (16 * slots) s)
+            (standing_by p e place entry_of w v2.at) a.functions (called_in g.code) active1.functions (called_in gb.code)
             (needs (facts_of (w.selected.made b).labels gb.code) gb.code) (b ∷ around) no_temps st v2 (inl stacked)
             (entered n below returns b gb is there to r.covered.0.0 rest m v z back s0.0 s2.0 room s2.1 s2.2 ready z st refl refl) in
             after D place e (code_steps save + 1) n (suc n) m.state.work st.work pc (e.word_of (entry_of b)) v v2

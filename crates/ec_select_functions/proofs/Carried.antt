@@ -111,7 +111,7 @@ as_apart a n x = record { first = x.left; second = x.right }
 module _ (p : PlainProgram) (e : Env) (slots : ℕ) (home : Temp → Location) (base : Temp → ℕ) (place : ℕ → ℕ)
     (y : Setting p e slots home base place) where
   abbrev M : Need → Mach → View → Type 0
-  M need m v = Matches p e y.inputs slots base place y.aside y.was y.active y.called need m v
+  M need m v = Matches p e y.inputs slots base place y.aside y.stands y.active y.called need m v
 
   -- where a temporary of so many bytes stands
   record Stands (t : Temp) (n : ℕ) : Type 0 where

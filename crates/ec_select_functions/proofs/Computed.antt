@@ -282,7 +282,7 @@ work_after v1 v2 b n h f there =
 module _ (p : PlainProgram) (e : Env) (slots : ℕ) (home : Temp → Location) (base : Temp → ℕ) (place : ℕ → ℕ)
     (y : Setting p e slots home base place) where
   abbrev N : Need → Mach → View → Type 0
-  N need m v = Matches p e y.inputs slots base place y.aside y.was y.active y.called need m v
+  N need m v = Matches p e y.inputs slots base place y.aside y.stands y.active y.called need m v
 
   -- the low bytes of a temporary stand at its base
   pub stand : (t : Temp) (n : ℕ) → HasHome slots t → n ≤ t.bytes → StandsFrom e (home t) n (base t) Own

@@ -149,7 +149,7 @@ shortened signed n w low l =
 module _ (p : PlainProgram) (e : Env) (slots : ℕ) (home : Temp → Location) (base : Temp → ℕ) (place : ℕ → ℕ)
     (y : Setting p e slots home base place) where
   abbrev C : Need → Mach → View → Type 0
-  C need m v = Matches p e y.inputs slots base place y.aside y.was y.active y.called need m v
+  C need m v = Matches p e y.inputs slots base place y.aside y.stands y.active y.called need m v
 
   -- what a conversion leaves
   pub record Converted (signed : Bool) (t : Temp) (bytes n low : ℕ) (v w : View) : Type 0 where

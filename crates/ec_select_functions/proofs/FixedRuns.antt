@@ -67,7 +67,7 @@ apart_from_part a n w i k some many l x =
 module _ (p : PlainProgram) (e : Env) (slots : ℕ) (home : Temp → Location) (base : Temp → ℕ) (place : ℕ → ℕ)
     (y : Setting p e slots home base place) where
   abbrev M : Need → Mach → View → Type 0
-  M need m v = Matches p e y.inputs slots base place y.aside y.was y.active y.called need m v
+  M need m v = Matches p e y.inputs slots base place y.aside y.stands y.active y.called need m v
 
   -- the work bytes, and the result behind them
   work_there : StandsFrom e work_location 40 y.work Own
@@ -99,8 +99,9 @@ module _ (p : PlainProgram) (e : Env) (slots : ℕ) (home : Temp → Location) (
 
   pub pointer_is : (need : Need) (m : Mach) (v : View) → M need m v → sp v ≡ y.stack
   pointer_is need m v h =
-      let low = h.kept 93 y.pointer_low in
-      let high = h.kept 94 y.pointer_high in
+      let above = y.work_stands.high in
+      let low = h.kept 93 (y.was 93) y.pointer_low (y.others_stand 93 m.state.groups (λ l. absurd (omega arith))) in
+      let high = h.kept 94 (y.was 94) y.pointer_high (y.others_stand 94 m.state.groups (λ l. absurd (omega arith))) in
       rw (low, high) y.pointer
 
   pub below_is : (need : Need) (m : Mach) (v : View) → M need m v → lowered (sp v) ≡ y.stack - 1
@@ -137,9 +138,9 @@ module _ (p : PlainProgram) (e : Env) (slots : ℕ) (home : Temp → Location) (
         (h.leaves_hold l x u q w);
     tables_hold = h.tables_hold;
     frames = h.frames;
-    kept = λ k q. (let high = y.high k q in
+    kept = λ k byte q w. (let high = y.high k q in
         let free = y.stack_free k q in
-        same k (omega arith) (omega arith) (λ l. omega arith) (λ l. omega arith) (y.work_aside k q) free.0 free.1) ∙ h.kept k q;
+        same k (omega arith) (omega arith) (λ l. omega arith) (λ l. omega arith) (y.work_aside k q) free.0 free.1) ∙ h.kept k byte q w;
     bytes = numbers;
     left = λ port. kept_left y.inputs m.state v v1 inputs h.left port;
     seen = seen ∙ h.seen;

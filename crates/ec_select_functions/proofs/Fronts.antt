@@ -17,16 +17,18 @@ use Rattle.ec_core.specs.Plain.{PlainType, PlainStorage, static, local, param, r
 use Rattle.ec_core.specs.Plain.{PlainProgram}
 use Rattle.ec_core.specs.PortAccesses.{number_read, bytes_read, bytes_written, byte_read}
 use Rattle.ec_core.specs.State.{Inputs, Event, Out, Read, told, State, worked, Outcome, got, more, undefined, next}
-use Rattle.ec_core.specs.State.{given}
+use Rattle.ec_core.specs.State.{given, with_choice, chosen}
 use Rattle.ec_core.specs.Typing.{int}
 use Rattle.ec_ir.specs.Costs.{op_steps}
 use Rattle.ec_ir.specs.Meaning.{Mach, machine, held_as, pointer_in, held_pointer, number_in, held_number, object_access}
 use Rattle.ec_ir.specs.Meaning.{pointer_access, accessed_type, put_leaf, put, Frame, Place, place, find, Go, jump_to}
-use Rattle.ec_ir.specs.Meaning.{enter, returned, resulted, leave, element_of_port, in_ports, port_read, port_written}
+use Rattle.ec_ir.specs.Meaning.{enter, returned, resulted, leave, element_of_port, based, element_of_cell, in_ports, port_read}
+use Rattle.ec_ir.specs.Meaning.{port_written}
 use Rattle.ec_ir.specs.Meaning.{perform, pointer_at, put_named, put_object, before_store, kept_for, active}
 use Rattle.ec_ir.specs.Operations.{PlainIr, constant, copy, address, field, load_at, store_at, load_object}
 use Rattle.ec_ir.specs.Operations.{store_object, binary_op, unary_op, conversion, label, jump, branch_zero}
-use Rattle.ec_ir.specs.Operations.{call_function, return_from, port_in, port_out, PlainIrFunction}
+use Rattle.ec_ir.specs.Operations.{call_function, return_from, port_in, port_out, load_cell, store_cell, cell_port}
+use Rattle.ec_ir.specs.Operations.{PlainIrFunction}
 use Rattle.ec_ir.specs.Temporaries.{Content, bits, points, value_in, value_of_type, is_zero, Held, Temps, no_temps}
 use Rattle.ec_ir.specs.Temporaries.{with_content, with_temp, read_held, held}
 use Rattle.ec_ir.specs.declared.operations.Temp.{Temp}
@@ -163,6 +165,15 @@ adds_element port width None m = stays m.state (got port m.state) refl
 adds_element port width (Some t) m =
     adds_next m.state (held_number t m.temps m.state) _ (adds_number t m.temps m.state) (λ i s. stays s (got (port + i * width) s) refl)
 
+adds_based : (b : Option ℕ) (s : State) → Adds s (based b s)
+adds_based None s = stays {A = ℕ} s (based None s) refl
+adds_based (Some b) s = stays s (based (Some b) s) refl
+
+adds_cell_element : (cell offset width : ℕ) (t : Option Temp) (m : Mach) → Adds m.state (element_of_cell cell offset width t m)
+adds_cell_element cell offset width t m =
+    adds_next m.state (based (chosen cell m.state) m.state) _ (adds_based (chosen cell m.state) m.state)
+    (λ b s. adds_element (b + offset) width t (machine m.temps s))
+
 adds_bytes_read : (inputs : Inputs) (n port : ℕ) (x : Value) (s : State) → Adds s (got x (bytes_read inputs n port s))
 adds_bytes_read inputs zero port x s = stays s (got x s) refl
 adds_bytes_read inputs (suc n) port x s =
@@ -268,6 +279,27 @@ module _ (functions : List PlainIrFunction) (program : PlainProgram) (inputs : I
         (λ v s2. g (place code stack rest) (machine (with_temp to v temps) s2)))
     perform_adds (port_out from port index width) code stack rest temps s =
         adds_next s (element_of_port port width index (machine temps s)) _ (adds_element port width index (machine temps s))
+        (λ at s1. adds_next s1 (held_number from temps s1) _ (adds_number from temps s1)
+        (λ low s2. adds_next s2 (port_written at width low s2) _
+        (adds_ports at width (λ s3. got (Number (pos low)) (bytes_written width at low s3)) s2
+        (adds_bytes_written width at low (Number (pos low)) s2)) (λ v s3. g (place code stack rest) (machine temps s3))))
+    perform_adds (load_cell to cell) code stack rest temps s =
+        adds_next s (based (chosen cell s) s) _ (adds_based (chosen cell s) s)
+        (λ b s1. g (place code stack rest) (machine (with_temp to (Number (pos b)) temps) s1))
+    perform_adds (store_cell cell from) code stack rest temps s =
+        adds_next s (held_number from temps s) _ (adds_number from temps s)
+        (λ low s1. adds_after s1 (with_choice cell low s1) _ (begin_itself s1.events)
+        (g (place code stack rest) (machine temps (with_choice cell low s1))))
+    perform_adds (cell_port true to cell offset index width) code stack rest temps s =
+        adds_next s (element_of_cell cell offset width index (machine temps s)) _
+        (adds_cell_element cell offset width index (machine temps s))
+        (λ at s1. adds_next s1 (port_read inputs at width s1) _
+        (adds_ports at width (λ s2. got (Number (pos (number_read inputs width at s2))) (bytes_read inputs width at s2)) s1
+        (adds_bytes_read inputs width at (Number (pos (number_read inputs width at s1))) s1))
+        (λ v s2. g (place code stack rest) (machine (with_temp to v temps) s2)))
+    perform_adds (cell_port false from cell offset index width) code stack rest temps s =
+        adds_next s (element_of_cell cell offset width index (machine temps s)) _
+        (adds_cell_element cell offset width index (machine temps s))
         (λ at s1. adds_next s1 (held_number from temps s1) _ (adds_number from temps s1)
         (λ low s2. adds_next s2 (port_written at width low s2) _
         (adds_ports at width (λ s3. got (Number (pos low)) (bytes_written width at low s3)) s2

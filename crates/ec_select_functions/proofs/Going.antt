@@ -1,6 +1,7 @@
 -- Operations that are left, and what is shown of a run of them.
 use Rattle.std.proofs.Common.{◌≡◌, ℕ, ◌+◌, ◌≤◌, true, List, [], ◌∷◌, ◌++◌, None, Some, Option, refl, subst, arith}
 use Rattle.std.specs.Prelude.{Contains, ⊤}
+use Rattle.std.specs.List.{AllByRecursion}
 use Rattle.std.proofs.lemmas.List.Elements.{Contains-append_right}
 use Rattle.ec_asm.specs.declared.items.AsmItem.{AsmItem}
 use Rattle.ec_asm.specs.declared.pieces.Location.{Location}
@@ -23,6 +24,7 @@ use Rattle.ec_select_functions.specs.Covered.{IsCovered, AreCovered}
 use Rattle.ec_select_functions.specs.Laws.{CanCall}
 use Rattle.ec_select_operations.specs.Needs.{Need, Facts, facts_of, needs, IsLiveBy}
 use Rattle.ec_select_functions.specs.Relation.{Matches}
+use Rattle.ec_select_functions.proofs.Cells.{UsesCells}
 use Rattle.ec_select_functions.proofs.Checked.{checked_on, performed}
 use Rattle.ec_select_functions.proofs.Follow.{Follows, after}
 use Rattle.ec_select_functions.proofs.Setting.{Setting}
@@ -37,20 +39,21 @@ own_is (Some l) called own none = absurd (none l refl)
 abbrev pub IsLinked : Env → Linkage → PlainIr → Type 0
 IsLinked e link i = (l : ℕ) → link.routine_of i ≡ Some l → HasRoutineOf e l i × CanCall i
 
--- operations that are covered, and whose routines stand
-abbrev pub AreReady : (p : PlainProgram) (e : Env) (results : ℕ → ℕ) (f : ℕ) (called : List ℕ) (slots : ℕ) → Linkage → List PlainIr
-    → Type 0
-AreReady p e results f called slots link [] = ⊤
-AreReady p e results f called slots link (i ∷ code) =
-    (IsCovered p results f called slots i × IsLinked e link i) × AreReady p e results f called slots link code
+-- operations that are covered, whose routines stand, and which use none but so many cells
+abbrev pub AreReady : (p : PlainProgram) (e : Env) (cells : ℕ) (results : ℕ → ℕ) (f : ℕ) (called : List ℕ) (slots : ℕ) → Linkage
+    → List PlainIr → Type 0
+AreReady p e cells results f called slots link [] = ⊤
+AreReady p e cells results f called slots link (i ∷ code) =
+    (IsCovered p results f called slots i × IsLinked e link i × UsesCells cells i) × AreReady p e cells results f called slots link code
 
-pub are_ready : (p : PlainProgram) (e : Env) (results : ℕ → ℕ) (f : ℕ) (called : List ℕ) (slots : ℕ) (link : Linkage)
-    (code : List PlainIr) → AreCovered p results f called slots code → ((i : PlainIr) → Contains code i → IsLinked e link i)
-    → AreReady p e results f called slots link code
-are_ready p e results f called slots link [] covered linked = tt
-are_ready p e results f called slots link (i ∷ code) covered linked = (
-  (covered.0, linked i (0, omega arith, refl)),
-  are_ready p e results f called slots link code covered.1 (λ j there. linked j (Contains-append_right (i ∷ []) code j there)),
+pub are_ready : (p : PlainProgram) (e : Env) (cells : ℕ) (results : ℕ → ℕ) (f : ℕ) (called : List ℕ) (slots : ℕ) (link : Linkage)
+    (code : List PlainIr) → AreCovered p results f called slots code → AllByRecursion (UsesCells cells) code
+    → ((i : PlainIr) → Contains code i → IsLinked e link i) → AreReady p e cells results f called slots link code
+are_ready p e cells results f called slots link [] covered cell linked = tt
+are_ready p e cells results f called slots link (i ∷ code) covered cell linked = (
+  (covered.0, linked i (0, omega arith, refl), cell.0),
+  are_ready p e cells results f called slots link code covered.1 cell.1
+      (λ j there. linked j (Contains-append_right (i ∷ []) code j there)),
 )
 
 module _ (p : PlainProgram) (functions : List PlainIrFunction) (e : Env) (slots : ℕ) (home : Temp → Location)
@@ -61,7 +64,7 @@ module _ (p : PlainProgram) (functions : List PlainIrFunction) (e : Env) (slots 
   at = facts_of labels all
 
   abbrev pub M : Need → Mach → View → Type 0
-  M need m v = Matches p e y.inputs slots base place y.aside y.was y.active y.called need m v
+  M need m v = Matches p e y.inputs slots base place y.aside y.stands y.active y.called need m v
 
   abbrev pub G : (n w pc : ℕ) → View → Outcome Value → Type 0
   G n w pc v o = Follows p place e n w pc v o
@@ -103,7 +106,7 @@ module _ (p : PlainProgram) (functions : List PlainIrFunction) (e : Env) (slots 
 
   -- the operations that are left have their code from this word on
   pub record Ready (pc : ℕ) (rest : List PlainIr) : Type 0 where
-    pub covered : AreReady p e results me y.called slots link rest
+    pub covered : AreReady p e y.cells results me y.called slots link rest
     pub live : IsLiveBy at rest
     pub inside : (b : ℕ) → Contains (called_in rest) b → Contains (called_in all) b
     pub here : IsRunning

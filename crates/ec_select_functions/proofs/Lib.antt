@@ -1,4 +1,5 @@
 -- For the crates of the family.
+pub mod Cells
 pub mod OnIntegers
 pub mod OnWholes
 pub mod Taken
@@ -24,6 +25,7 @@ mod PortReads
 mod PortPoints
 mod PortForms
 mod PortMatch
+mod CellMatch
 mod Fronts
 mod Numbers
 mod Numeric
@@ -33,6 +35,7 @@ mod Reached
 mod PointerNumbers
 mod MemorySteps
 mod PointerSteps
+mod PortSteps
 mod ByRoutine
 mod Steps
 mod Extended

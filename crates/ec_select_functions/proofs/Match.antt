@@ -16,7 +16,7 @@ use Rattle.ec_core.specs.declared.values.Value.{Value}
 use Rattle.ec_core.specs.declared.values.Value.TheVariants.{Number, Pointer}
 use Rattle.ec_core.specs.Accesses.{leaf_of}
 use Rattle.ec_core.specs.Plain.{PlainObject, PlainProgram}
-use Rattle.ec_core.specs.State.{Inputs, ObjectState, State}
+use Rattle.ec_core.specs.State.{Inputs, ObjectState, GroupStates, State}
 use Rattle.ec_ir.specs.declared.operations.Temp.{Temp}
 use Rattle.ec_ir.specs.Meaning.{is_kept, standing, given_up, kept_in, kept_for, Mach, machine}
 use Rattle.ec_ir.specs.Temporaries.{Content, bits, points, Held, Temps, with_content}
@@ -24,6 +24,7 @@ use Rattle.ec_select_operations.specs.Homes.{HasHome}
 use Rattle.ec_select_operations.specs.Needs.{Need, at_least, without, wanted}
 use Rattle.ec_select_operations.specs.Places.{ObjectLeaf, Apart}
 use Rattle.ec_select_operations.specs.Pointers.{address_number}
+use Rattle.ec_select_functions.proofs.Cells.{memory_of, same_objects, same_groups}
 use Rattle.ec_select_functions.proofs.Setting.{Setting}
 use Rattle.ec_select_functions.specs.Relation.{accesses, AreLeft, HoldsContent, HoldsLeaf, AreFrames, FramesStand, Matches}
 use Rattle.ec_select_functions.proofs.Moves.{Frame, Wide, widened, row_kept_wide}
@@ -142,11 +143,12 @@ kept_frames p active called fs s are = record {
 }
 
 abbrev pub kept_matches : (p : PlainProgram) (e : Env) (inputs : Inputs) (slots : ℕ) (base : Temp → ℕ) (place : ℕ → ℕ) (aside : ℕ → Bool)
-    (was : ℕ → ℕ) (active called active1 called1 : List ℕ) (need : Need) (fs : List ℕ) (temps : Temps) (s : State) (v : View)
+    (stands : GroupStates → ℕ → Option ℕ) (active called active1 called1 : List ℕ) (need : Need) (fs : List ℕ) (temps : Temps) (s : State)
+    (v : View)
     → AreFrames active1 called1 fs
-    → Matches p e inputs slots base place aside was active called need (machine temps s) v
-    → Matches p e inputs slots base place aside was active1 called1 need (machine temps (kept_for p fs s)) v
-kept_matches p e inputs slots base place aside was active called active1 called1 need fs temps s v are z = record {
+    → Matches p e inputs slots base place aside stands active called need (machine temps s) v
+    → Matches p e inputs slots base place aside stands active1 called1 need (machine temps (kept_for p fs s)) v
+kept_matches p e inputs slots base place aside stands active called active1 called1 need fs temps s v are z = record {
   temps_hold = z.temps_hold;
   leaves_hold = λ l x u q w. let r = had_value fs p.objects s.objects l.object l.number x u q w in
       z.leaves_hold l r.state u r.is_state r.leaf;
@@ -163,7 +165,7 @@ kept_matches p e inputs slots base place aside was active called active1 called1
 module _ (p : PlainProgram) (e : Env) (slots : ℕ) (home : Temp → Location) (base : Temp → ℕ) (place : ℕ → ℕ)
     (y : Setting p e slots home base place) where
   abbrev pub M : Need → Mach → View → Type 0
-  M need m v = Matches p e y.inputs slots base place y.aside y.was y.active y.called need m v
+  M need m v = Matches p e y.inputs slots base place y.aside y.stands y.active y.called need m v
 
   -- fewer bytes of a temporary that is read
   pub at_width : (need : Need) (m : Mach) (v : View) (t : Temp) (h : Held) (n : ℕ) → M need m v → HasHome slots t
@@ -255,15 +257,16 @@ module _ (p : PlainProgram) (e : Env) (slots : ℕ) (home : Temp → Location) (
   -- a temporary was written
   pub written_wide : (t : Temp) (c : Content) (need need0 : Need) (m : Mach) (s1 : State) (v v1 : View) → HasHome slots t
       → M need0 m v → ((u : ℕ) → u ≢ t.at → need u ≤ need0 u) → Wide v v1 (base t) t.bytes
-      → HoldsContent p place v1.at (base t) (wanted need t) t.bytes c → HoldsNumbers v1 → s1.objects ≡ m.state.objects
+      → HoldsContent p place v1.at (base t) (wanted need t) t.bytes c → HoldsNumbers v1 → memory_of s1 ≡ memory_of m.state
       → v1.seen ≡ accesses p place s1.events → AreLeft y.inputs s1 v1 → v1.safe ≡ true → M need (machine (with_content t c m.temps) s1) v1
-  written_wide t c need need0 m s1 v v1 it z more frame here numbers objects seen left safe = record {
+  written_wide t c need need0 m s1 v v1 it z more frame here numbers memory seen left safe = record {
     temps_hold = written_temp t c need need0 m v v1 it z more frame here;
     leaves_hold = λ l x u q w. same_leaf p place v.at v1.at (place l.object + l.at) l.bytes u (leaf_row t l v v1 it frame)
-        (z.leaves_hold l x u (ap (λ o. slice_get o l.object) (sym objects) ∙ q) w);
-    tables_hold = λ l x u q w. z.tables_hold l x u (ap (λ o. slice_get o l.object) (sym objects) ∙ q) w;
-    frames = subst (λ o. FramesStand p y.active y.called o) (sym objects) z.frames;
-    kept = λ k q. aside_kept t v v1 it frame k q ∙ z.kept k q;
+        (z.leaves_hold l x u (ap (λ o. slice_get o l.object) (sym (same_objects s1 m.state memory)) ∙ q) w);
+    tables_hold = λ l x u q w. z.tables_hold l x u (ap (λ o. slice_get o l.object) (sym (same_objects s1 m.state memory)) ∙ q) w;
+    frames = subst (λ o. FramesStand p y.active y.called o) (sym (same_objects s1 m.state memory)) z.frames;
+    kept = λ k byte q w. aside_kept t v v1 it frame k q
+        ∙ z.kept k byte q (ap (λ g. y.stands g k) (sym (same_groups s1 m.state memory)) ∙ w);
     bytes = numbers;
     left = left;
     seen = seen;
@@ -273,7 +276,7 @@ module _ (p : PlainProgram) (e : Env) (slots : ℕ) (home : Temp → Location) (
   -- the same where of the work registers R30 alone has changed
   pub written : (t : Temp) (c : Content) (need need0 : Need) (m : Mach) (s1 : State) (v v1 : View) → HasHome slots t
       → M need0 m v → ((u : ℕ) → u ≢ t.at → need u ≤ need0 u) → Frame v v1 (base t) t.bytes
-      → HoldsContent p place v1.at (base t) (wanted need t) t.bytes c → HoldsNumbers v1 → s1.objects ≡ m.state.objects
+      → HoldsContent p place v1.at (base t) (wanted need t) t.bytes c → HoldsNumbers v1 → memory_of s1 ≡ memory_of m.state
       → v1.seen ≡ accesses p place s1.events → AreLeft y.inputs s1 v1 → v1.safe ≡ true → M need (machine (with_content t c m.temps) s1) v1
-  written t c need need0 m s1 v v1 it z more frame here numbers objects seen left safe =
-      written_wide t c need need0 m s1 v v1 it z more (widened v v1 (base t) t.bytes frame) here numbers objects seen left safe
+  written t c need need0 m s1 v v1 it z more frame here numbers memory seen left safe =
+      written_wide t c need need0 m s1 v v1 it z more (widened v v1 (base t) t.bytes frame) here numbers memory seen left safe

@@ -169,7 +169,7 @@ module _ (p : PlainProgram) (functions : List PlainIrFunction) (e : Env) (slots 
   at = facts_of labels all
 
   abbrev M : Need → Mach → View → Type 0
-  M need m v = Matches p e y.inputs slots base place y.aside y.was y.active y.called need m v
+  M need m v = Matches p e y.inputs slots base place y.aside y.stands y.active y.called need m v
 
   abbrev G : (n w pc : ℕ) → View → Outcome Value → Type 0
   G n w pc v o = Follows p place e n w pc v o
@@ -914,7 +914,7 @@ module _ (p : PlainProgram) (functions : List PlainIrFunction) (e : Env) (slots 
       by_storage (param g) q k =
           subst (λ z. G (suc n) m.state.work pc v (stored_in (Some z))) (sym q)
           (store_named o offset t rest n pc (machine m.temps (kept_for p (g ∷ fs) m.state)) v it has stands
-          (kept_matches p e y.inputs slots base place y.aside y.was y.active y.called y.active y.called
+          (kept_matches p e y.inputs slots base place y.aside y.stands y.active y.called y.active y.called
           (needs at (store_object o offset t ∷ rest)) (g ∷ fs) m.temps m.state v (frames_with g k) h)
           (rw q (or_left (g == g) (is_among fs g) (eq-eqb g g refl)))
           f)

@@ -70,7 +70,7 @@ from_zero x = omega (arith, ints)
 module _ (p : PlainProgram) (e : Env) (slots : ℕ) (home : Temp → Location) (base : Temp → ℕ) (place : ℕ → ℕ)
     (y : Setting p e slots home base place) where
   abbrev M : Need → Mach → View → Type 0
-  M need m v = Matches p e y.inputs slots base place y.aside y.was y.active y.called need m v
+  M need m v = Matches p e y.inputs slots base place y.aside y.stands y.active y.called need m v
 
   aside_stands : (n : ℕ) → StandsFrom e aside_location n 8 Own
   aside_stands n = record { at = λ j l. refl; kind = λ j l. refl; clear = omega arith }

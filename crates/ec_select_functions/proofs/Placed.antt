@@ -174,7 +174,7 @@ shift_result false k s u bty mode x y z suited whole h =
 module _ (p : PlainProgram) (e : Env) (slots : ℕ) (home : Temp → Location) (base : Temp → ℕ) (place : ℕ → ℕ)
     (y : Setting p e slots home base place) where
   abbrev M : Need → Mach → View → Type 0
-  M need m v = Matches p e y.inputs slots base place y.aside y.was y.active y.called need m v
+  M need m v = Matches p e y.inputs slots base place y.aside y.stands y.active y.called need m v
 
   -- the count and the number are brought to their places, and the number is shifted there
   shifted_passes : (left : Bool) (f : Format) (mode : Mode) (top c n pc end : ℕ) (t a b : Temp) (need need0 : Need) (m : Mach)

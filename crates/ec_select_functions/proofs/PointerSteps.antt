@@ -170,7 +170,7 @@ module _ (p : PlainProgram) (place : ℕ → ℕ) (e : Env) where
 module _ (p : PlainProgram) (e : Env) (slots : ℕ) (home : Temp → Location) (base : Temp → ℕ) (place : ℕ → ℕ)
     (y : Setting p e slots home base place) where
   abbrev Shown : Need → Mach → View → Type 0
-  Shown need m v = Matches p e y.inputs slots base place y.aside y.was y.active y.called need m v
+  Shown need m v = Matches p e y.inputs slots base place y.aside y.stands y.active y.called need m v
 
   -- the objects have places
   pub have : HavePlaces p place
@@ -734,7 +734,7 @@ module _ (p : PlainProgram) (functions : List PlainIrFunction) (e : Env) (slots 
   at = facts_of labels all
 
   abbrev M : Need → Mach → View → Type 0
-  M need m v = Matches p e y.inputs slots base place y.aside y.was y.active y.called need m v
+  M need m v = Matches p e y.inputs slots base place y.aside y.stands y.active y.called need m v
 
   abbrev G : (n w pc : ℕ) → View → Outcome Value → Type 0
   G n w pc v o = Follows p place e n w pc v o

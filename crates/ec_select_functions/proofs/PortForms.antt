@@ -1,9 +1,10 @@
 -- The form of the code of port operations.
-use Rattle.std.proofs.Common.{◌≡◌, ℕ, zero, suc, ◌+◌, ◌-◌, ◌*◌, ◌≤◌, Bool, true, false, [], ◌∷◌, ◌++◌, Option, Some}
+use Rattle.std.proofs.Common.{◌≡◌, ℕ, zero, suc, ◌+◌, ◌-◌, ◌*◌, ◌≤◌, Bool, true, false, List, [], ◌∷◌, ◌++◌, Option, Some}
 use Rattle.std.proofs.Common.{None, refl, arith}
 use Rattle.std.specs.Prelude.{◌==◌, if◌then◌else◌}
 use Rattle.ec_isa.specs.declared.instructions.Instr.TheVariants.{In, Out, Lds, Sts, Ldi, Add}
-use Rattle.ec_asm.specs.declared.items.AsmItem.TheVariants.{Plain}
+use Rattle.ec_asm.specs.declared.items.AsmItem.{AsmItem}
+use Rattle.ec_asm.specs.declared.items.AsmItem.TheVariants.{Plain, LoadObj}
 use Rattle.ec_asm.specs.declared.pieces.Location.{Location}
 use Rattle.ec_asm.specs.declared.pieces.Location.TheVariants.{InRegisters, InMemory}
 use Rattle.ec_asm.specs.Change.{goes_on}
@@ -14,7 +15,8 @@ use Rattle.ec_select_bytes.specs.Values.{extend_code}
 use Rattle.ec_select_bytes.proofs.Straight.{values_are_straight, values_take}
 use Rattle.ec_select_operations.specs.Ports.{has_io_number, read_instruction}
 use Rattle.ec_select_operations.specs.Ports.{write_instruction, read_byte, write_byte, write_code, scale_code}
-use Rattle.ec_select_operations.specs.Ports.{point_code, in_code, out_code}
+use Rattle.ec_select_operations.specs.Ports.{point_code, in_code, out_code, first_cell, pointed, further_code}
+use Rattle.ec_select_operations.specs.Ports.{cell_point_code, cell_in_code, cell_out_code}
 use Rattle.ec_select_functions.proofs.Moves.{copy_straight, copy_steps}
 
 -- ---- bytes
@@ -132,36 +134,98 @@ point_steps (Some l) port width =
     let t = steps-append (scale_code width) (Plain (Ldi 31 port) ∷ Plain (Add 30 31) ∷ Plain (Ldi 31 0) ∷ []) in
     omega (arith, x, z, s, t)
 
+-- Z becomes the address of a cell's port
+cell_point_straight : (index : Option Location) (cell offset width : ℕ) → all_straight (cell_point_code index cell offset width) ≡ true
+cell_point_straight None cell offset width = refl
+cell_point_straight (Some l) cell offset width =
+    straight-append (copy_code l (InRegisters 30) 1)
+    (scale_code width ++ LoadObj 31 1280 (first_cell + cell) ∷ Plain (Add 30 31) ∷ further_code offset)
+    (copy_straight l (InRegisters 30) 1)
+    (straight-append (scale_code width) (LoadObj 31 1280 (first_cell + cell) ∷ Plain (Add 30 31) ∷ further_code offset)
+    (scale_straight width) refl)
+
+cell_point_steps : (index : Option Location) (cell offset width : ℕ) → code_steps (cell_point_code index cell offset width) ≤ 9
+cell_point_steps None cell offset width = omega arith
+cell_point_steps (Some l) cell offset width =
+    let x = (copy_steps l (InRegisters 30) 1).1 in
+    let z = scale_steps width in
+    let s =
+    steps-append (copy_code l (InRegisters 30) 1)
+    (scale_code width ++ LoadObj 31 1280 (first_cell + cell) ∷ Plain (Add 30 31) ∷ further_code offset) in
+    let t = steps-append (scale_code width) (LoadObj 31 1280 (first_cell + cell) ∷ Plain (Add 30 31) ∷ further_code offset) in
+    omega (arith, x, z, s, t)
+
 -- ---- operations
+
+module _ (pointing : List AsmItem) (most : ℕ) (is_straight : all_straight pointing ≡ true) (steps : code_steps pointing ≤ most)
+    (index : Option Location) (q : Location) (port width : ℕ) where
+  reads_to_straight : (n : ℕ) → all_straight (pointing ++ (chain (read_byte index port q) width ++ extend_code false q width n)) ≡ true
+  reads_to_straight n =
+      straight-append pointing (chain (read_byte index port q) width ++ extend_code false q width n) is_straight
+      (straight-append (chain (read_byte index port q) width) (extend_code false q width n) (reads_straight index port q width)
+      ((values_are_straight q 0 width n).2 false))
+
+  reads_to_steps : (n : ℕ)
+      → (width ≤ code_steps (pointing ++ (chain (read_byte index port q) width ++ extend_code false q width n)))
+      × (code_steps (pointing ++ (chain (read_byte index port q) width ++ extend_code false q width n)) ≤ most + 3 + 2 * width + n)
+  reads_to_steps n =
+      let r = reads_steps index port q width in
+      let z = (values_take q 0 width n).2 false in
+      let s = steps-append pointing (chain (read_byte index port q) width ++ extend_code false q width n) in
+      let t = steps-append (chain (read_byte index port q) width) (extend_code false q width n) in
+      (omega (arith, r.0, s, t), omega (arith, steps, r.1, z, s, t))
+
+  writes_to_straight : all_straight (pointing ++ write_code index port q 0 width) ≡ true
+  writes_to_straight =
+      straight-append pointing (write_code index port q 0 width) is_straight (writes_straight index port q 0 width)
+
+  writes_to_steps : (width ≤ code_steps (pointing ++ write_code index port q 0 width))
+      × (code_steps (pointing ++ write_code index port q 0 width) ≤ most + 2 * width)
+  writes_to_steps =
+      let r = writes_steps index port q 0 width in
+      let s = steps-append pointing (write_code index port q 0 width) in
+      (omega (arith, r.0, s), omega (arith, steps, r.1, s))
 
 pub in_straight : (index : Option Location) (q : Location) (port width n : ℕ)
     → all_straight (in_code index q port width n) ≡ true
 in_straight index q port width n =
-    straight-append (point_code index port width) (chain (read_byte index port q) width ++ extend_code false q width n)
-    (point_straight index port width)
-    (straight-append (chain (read_byte index port q) width) (extend_code false q width n) (reads_straight index port q width)
-    ((values_are_straight q 0 width n).2 false))
+    reads_to_straight (point_code index port width) 7 (point_straight index port width) (point_steps index port width) index q port width n
 
 pub in_steps : (index : Option Location) (q : Location) (port width n : ℕ)
     → (width ≤ code_steps (in_code index q port width n)) × (code_steps (in_code index q port width n) ≤ 10 + 2 * width + n)
 in_steps index q port width n =
-    let x = point_steps index port width in
-    let r = reads_steps index port q width in
-    let z = (values_take q 0 width n).2 false in
-    let s = steps-append (point_code index port width) (chain (read_byte index port q) width ++ extend_code false q width n) in
-    let t = steps-append (chain (read_byte index port q) width) (extend_code false q width n) in
-    (omega (arith, r.0, s, t), omega (arith, x, r.1, z, s, t))
+    reads_to_steps (point_code index port width) 7 (point_straight index port width) (point_steps index port width) index q port width n
 
 pub out_straight : (index : Option Location) (q : Location) (port width : ℕ)
     → all_straight (out_code index q port width) ≡ true
 out_straight index q port width =
-    straight-append (point_code index port width) (write_code index port q 0 width) (point_straight index port width)
-    (writes_straight index port q 0 width)
+    writes_to_straight (point_code index port width) 7 (point_straight index port width) (point_steps index port width) index q port width
 
 pub out_steps : (index : Option Location) (q : Location) (port width : ℕ)
     → (width ≤ code_steps (out_code index q port width)) × (code_steps (out_code index q port width) ≤ 7 + 2 * width)
 out_steps index q port width =
-    let x = point_steps index port width in
-    let r = writes_steps index port q 0 width in
-    let s = steps-append (point_code index port width) (write_code index port q 0 width) in
-    (omega (arith, r.0, s), omega (arith, x, r.1, s))
+    writes_to_steps (point_code index port width) 7 (point_straight index port width) (point_steps index port width) index q port width
+
+module _ (index : Option Location) (q : Location) (cell offset width : ℕ) where
+  abbrev pointing : List AsmItem
+  pointing = cell_point_code index cell offset width
+
+  is_straight : all_straight pointing ≡ true
+  is_straight = cell_point_straight index cell offset width
+
+  takes : code_steps pointing ≤ 9
+  takes = cell_point_steps index cell offset width
+
+  pub cell_in_straight : (n : ℕ) → all_straight (cell_in_code index q cell offset width n) ≡ true
+  cell_in_straight n = reads_to_straight pointing 9 is_straight takes pointed q 0 width n
+
+  pub cell_in_steps : (n : ℕ) → (width ≤ code_steps (cell_in_code index q cell offset width n))
+      × (code_steps (cell_in_code index q cell offset width n) ≤ 12 + 2 * width + n)
+  cell_in_steps n = reads_to_steps pointing 9 is_straight takes pointed q 0 width n
+
+  pub cell_out_straight : all_straight (cell_out_code index q cell offset width) ≡ true
+  cell_out_straight = writes_to_straight pointing 9 is_straight takes pointed q 0 width
+
+  pub cell_out_steps : (width ≤ code_steps (cell_out_code index q cell offset width))
+      × (code_steps (cell_out_code index q cell offset width) ≤ 9 + 2 * width)
+  cell_out_steps = writes_to_steps pointing 9 is_straight takes pointed q 0 width

@@ -1,9 +1,10 @@
 -- What the code of port operations leaves matches what they mean.
 use Rattle.std.proofs.Common.{◌≡◌, ◌≢◌, ◌⊎◌, ⊎_elim, ℕ, ◌+◌, ◌/◌, ◌%◌, ◌^◌, ◌<◌, ◌≤◌, min, true, false}
-use Rattle.std.proofs.Common.{◌++◌, Option, Some, None, refl, sym, ap, ◌∙◌, subst, arith, pos}
+use Rattle.std.proofs.Common.{◌++◌, List, Option, Some, None, refl, sym, ap, ◌∙◌, subst, arith, pos}
 use Rattle.std.specs.Prelude.{option_map, slice_get, ⊤}
 use Rattle.std.proofs.lemmas.Bool.{cases_lt, eq-eqb}
 use Rattle.std.proofs.lemmas.Nat.{mod_below}
+use Rattle.ec_asm.specs.declared.items.AsmItem.{AsmItem}
 use Rattle.ec_asm.specs.declared.pieces.Location.{Location}
 use Rattle.ec_asm.specs.declared.pieces.Location.TheVariants.{InRegisters, InMemory}
 use Rattle.ec_asm.specs.View.{View}
@@ -25,15 +26,16 @@ use Rattle.ec_select_functions.specs.Covered.{HasIndex}
 use Rattle.ec_select_operations.specs.Homes.{HasHome}
 use Rattle.ec_select_operations.specs.Needs.{Need, wanted, at_least, index_needed}
 use Rattle.ec_select_operations.specs.Places.{IsClear}
-use Rattle.ec_select_operations.specs.Ports.{read_byte, write_code, point_code, in_code, out_code}
+use Rattle.ec_select_operations.specs.Ports.{read_byte, write_code, point_code}
 use Rattle.ec_select_functions.specs.Relation.{AreLeft, FramesStand, Matches, accesses}
+use Rattle.ec_select_functions.proofs.Cells.{memory_of, same_objects, same_groups}
 use Rattle.ec_select_functions.proofs.Extended.{Converted, converted}
 use Rattle.ec_select_functions.proofs.Match.{kept_left, wanted_most, wanted_more, least_here, least_other, at_width}
 use Rattle.ec_select_functions.proofs.Match.{held_row, same_content, same_leaf, written_wide}
 use Rattle.ec_select_functions.proofs.Moves.{Wide, narrower, work_outside, row_kept_wide, stands_less}
 use Rattle.ec_select_functions.proofs.PortPoints.{IsElement, Changes, Pointed, pointed, element_below}
 use Rattle.ec_select_functions.proofs.PortReads.{ReadsTo, reads_to, WritesFrom, writes_from}
-use Rattle.ec_select_functions.proofs.PortStates.{read_objects, written_objects, written_left}
+use Rattle.ec_select_functions.proofs.PortStates.{read_memory, written_memory, written_left}
 use Rattle.ec_select_functions.proofs.Setting.{Setting}
 use Rattle.ec_select_functions.proofs.Wrapped.{low_below, low_part, value_of_bytes}
 
@@ -49,7 +51,7 @@ high_outside a n x l =
 module _ (p : PlainProgram) (e : Env) (slots : ℕ) (home : Temp → Location) (base : Temp → ℕ) (place : ℕ → ℕ)
     (y : Setting p e slots home base place) where
   abbrev P : Need → Mach → View → Type 0
-  P need m v = Matches p e y.inputs slots base place y.aside y.was y.active y.called need m v
+  P need m v = Matches p e y.inputs slots base place y.aside y.stands y.active y.called need m v
 
   -- ---- the index
 
@@ -96,17 +98,15 @@ module _ (p : PlainProgram) (e : Env) (slots : ℕ) (home : Temp → Location) (
 
   -- ---- reads
 
-  module _ (index : Option Temp) (t : Temp) (port width at c : ℕ) (need need0 : Need) (m : Mach) (v : View) (it : HasHome slots t)
-      (within : width ≤ t.bytes) (some : 1 ≤ width) (below : at + width ≤ 256) (kinds : (j : ℕ) → j < width → e.kind (at + j) ≡ Port)
+  -- where some code has set Z, if there is an index, or what is given for one
+  module _ (there : Option Location) (pointing : List AsmItem) (t : Temp) (port width at c : ℕ) (need need0 : Need) (m : Mach) (v : View)
+      (it : HasHome slots t) (within : width ≤ t.bytes) (some : 1 ≤ width) (below : at + width ≤ 256) (kinds : (j : ℕ) → j < width → e.kind (at + j) ≡ Port)
       (more : (u : ℕ) → u ≢ t.at → need u ≤ need0 u) (h : P need0 m v) where
     abbrev s : State
     s = worked c m.state
 
     abbrev number : ℕ
     number = number_read y.inputs width at s
-
-    abbrev there : Option Location
-    there = option_map home index
 
     read_matches : (v1 : View) → Pointed e there port at v v1
         → P need (machine (with_content t (bits (low_bytes t.bytes (pos number))) m.temps) (bytes_read y.inputs width at s))
@@ -142,7 +142,7 @@ module _ (p : PlainProgram) (e : Env) (slots : ℕ) (home : Temp → Location) (
         let result : value v3.at b n ≡ low_bytes t.bytes (pos number) % 256 ^ n = x.result ∙ sym (low_part (pos number) n t.bytes most) in
         written_wide p e slots home base place y t (bits (low_bytes t.bytes (pos number))) need need0 m
         (bytes_read y.inputs width at s) v v3 it h more frame (result, low_below t.bytes (pos number)) x.numbers
-        (read_objects y.inputs width at s) (x.quiet.seen ∙ r.seen)
+        (read_memory y.inputs width at s) (x.quiet.seen ∙ r.seen)
         (kept_left y.inputs (bytes_read y.inputs width at s) v2 v3 x.quiet.inputs r.left) (x.quiet.safe ∙ r.safe ∙ q.quiet.safe ∙ h.safe)
       where
         in_work : (k : ℕ) → Outside 26 6 k → k ≢ 30
@@ -151,18 +151,16 @@ module _ (p : PlainProgram) (e : Env) (slots : ℕ) (home : Temp → Location) (
         above_work : (k : ℕ) → Outside 26 6 k → k ≢ 31
         above_work k z q = let l = z (omega arith) in omega arith
 
-    pub in_matches : Pointed e there port at v (block e (point_code there port width) v)
+    pub in_matches : Pointed e there port at v (block e pointing v)
         → P need (machine (with_content t (bits (low_bytes t.bytes (pos number))) m.temps) (bytes_read y.inputs width at s))
-        (block e (in_code there (home t) port width (wanted need t)) v)
+        (block e (pointing ++ (chain (read_byte there port (home t)) width ++ extend_code false (home t) width (wanted need t))) v)
     in_matches point =
         rw (
-          block-append e (point_code there port width)
-              (chain (read_byte there port (home t)) width ++ extend_code false (home t) width (wanted need t)) v,
+          block-append e pointing (chain (read_byte there port (home t)) width ++ extend_code false (home t) width (wanted need t)) v,
           block-append e
-              (chain (read_byte there port (home t)) width) (extend_code false (home t) width (wanted need t))
-              (block e (point_code there port width) v),
+              (chain (read_byte there port (home t)) width) (extend_code false (home t) width (wanted need t)) (block e pointing v),
         )
-        (read_matches (block e (point_code there port width) v) point)
+        (read_matches (block e pointing v) point)
 
   -- ---- writes
 
@@ -175,18 +173,19 @@ module _ (p : PlainProgram) (e : Env) (slots : ℕ) (home : Temp → Location) (
         (λ k a b c d o. same k a b (let z = d in λ q. let y = z (omega arith) in omega arith)
         (let z = d in λ q. let y = z (omega arith) in omega arith)) j l
 
-    pub kept_matches : s1.objects ≡ m.state.objects → HoldsNumbers w → w.seen ≡ accesses p place s1.events
+    pub kept_matches : memory_of s1 ≡ memory_of m.state → HoldsNumbers w → w.seen ≡ accesses p place s1.events
         → AreLeft y.inputs s1 w → w.safe ≡ true → P need (machine m.temps s1) w
-    kept_matches objects numbers seen left safe = record {
+    kept_matches memory numbers seen left safe = record {
       temps_hold = λ t c it q r. (let most = wanted_most need t in same_content p place v.at w.at (base t) (wanted need t) t.bytes
           c.content (λ j l. row_same (base t) t.bytes (y.layout.temps_at t it).clear (y.layout.temps_work t it) j (omega arith))
           (at_width p e slots home base place y need0 m v t c (wanted need t) h it q r (wanted_more need need0 t (less t.at))));
       leaves_hold = λ l x u q r. same_leaf p place v.at w.at (place l.object + l.at) l.bytes u
           (λ j z. row_same (place l.object + l.at) l.bytes (y.layout.leaves_at l).clear (y.layout.leaves_work l) j z)
-          (h.leaves_hold l x u (ap (λ o. slice_get o l.object) (sym objects) ∙ q) r);
-      tables_hold = λ l x u q r. h.tables_hold l x u (ap (λ o. slice_get o l.object) (sym objects) ∙ q) r;
-      frames = subst (λ o. FramesStand p y.active y.called o) (sym objects) h.frames;
-      kept = λ k q. (let z = y.high k q in same k (omega arith) (omega arith) (omega arith) (omega arith)) ∙ h.kept k q;
+          (h.leaves_hold l x u (ap (λ o. slice_get o l.object) (sym (same_objects s1 m.state memory)) ∙ q) r);
+      tables_hold = λ l x u q r. h.tables_hold l x u (ap (λ o. slice_get o l.object) (sym (same_objects s1 m.state memory)) ∙ q) r;
+      frames = subst (λ o. FramesStand p y.active y.called o) (sym (same_objects s1 m.state memory)) h.frames;
+      kept = λ k byte q r. (let z = y.high k q in same k (omega arith) (omega arith) (omega arith) (omega arith))
+          ∙ h.kept k byte q (ap (λ g. y.stands g k) (sym (same_groups s1 m.state memory)) ∙ r);
       bytes = numbers;
       left = left;
       seen = seen;
@@ -202,27 +201,23 @@ module _ (p : PlainProgram) (e : Env) (slots : ℕ) (home : Temp → Location) (
       at_start : (i : ℕ) → byte_of low (0 + i) ≡ byte_of low i
       at_start i = let q : 0 + i ≡ i = omega arith in ap (byte_of low) q
 
-  module _ (index : Option Temp) (t : Temp) (port width at c low : ℕ) (need need0 : Need) (m : Mach) (v : View) (it : HasHome slots t)
-      (within : width ≤ t.bytes) (below : at + width ≤ 256) (kinds : (j : ℕ) → j < width → e.kind (at + j) ≡ Port)
+  module _ (there : Option Location) (pointing : List AsmItem) (t : Temp) (port width at c low : ℕ) (need need0 : Need) (m : Mach) (v : View)
+      (it : HasHome slots t) (within : width ≤ t.bytes) (below : at + width ≤ 256) (kinds : (j : ℕ) → j < width → e.kind (at + j) ≡ Port)
       (wide : width ≤ need0 t.at)
       (less : (u : ℕ) → need u ≤ need0 u) (holds : m.temps t.at ≡ Some (record { bytes = t.bytes; content = bits low }))
       (h : P need0 m v) where
     abbrev s0 : State
     s0 = worked c m.state
 
-    abbrev element : Option Location
-    element = option_map home index
-
-    pub out_matches : Pointed e element port at v (block e (point_code element port width) v)
-        → P need (machine m.temps (bytes_written width at low s0)) (block e (out_code element (home t) port width) v)
-    out_matches point =
-        rw (block-append e (point_code element port width) (write_code element port (home t) 0 width) v) matches
+    pub out_matches : Pointed e there port at v (block e pointing v)
+        → P need (machine m.temps (bytes_written width at low s0)) (block e (pointing ++ write_code there port (home t) 0 width) v)
+    out_matches point = rw (block-append e pointing (write_code there port (home t) 0 width) v) matches
       where
         v1 : View
-        v1 = block e (point_code element port width) v
+        v1 = block e pointing v
 
         w : View
-        w = block e (write_code element port (home t) 0 width) v1
+        w = block e (write_code there port (home t) 0 width) v1
 
         q : Changes e v v1
         q = point.changes
@@ -242,7 +237,7 @@ module _ (p : PlainProgram) (e : Env) (slots : ℕ) (home : Temp → Location) (
 
         x : WritesFrom p place e y.inputs y.feeds y.taken v1 s0 (at + 0) (low / 256 ^ 0) width w
         x =
-            writes_from p place e y.inputs y.feeds y.taken element port at (home t) (base t) width low v1 s0
+            writes_from p place e y.inputs y.feeds y.taken there port at (home t) (base t) width low v1 s0
             (stands_less e (home t) t.bytes width (base t) Own within stands) point.points below kinds digits
             (q.quiet.seen ∙ h.seen) 0 width (omega arith)
 
@@ -258,6 +253,6 @@ module _ (p : PlainProgram) (e : Env) (slots : ℕ) (home : Temp → Location) (
         matches : P need (machine m.temps (bytes_written width at low s0)) w
         matches =
             kept_matches need0 need m (bytes_written width at low s0) v w less h (λ k a b d f. x.same k a ∙ q.same k a b d f)
-            (written_objects width at low s0) numbers (x.seen ∙ ap (λ (u : State). accesses p place u.events) all)
+            (written_memory width at low s0) numbers (x.seen ∙ ap (λ (u : State). accesses p place u.events) all)
             (λ other. kept_left y.inputs m.state v w (x.inputs_same ∙ q.quiet.inputs) h.left other
             ∙ sym (written_left y.inputs width at low other s0)) (x.safe ∙ q.quiet.safe ∙ h.safe)

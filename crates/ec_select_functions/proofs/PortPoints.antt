@@ -13,11 +13,11 @@ use Rattle.ec_asm.specs.Pieces.{StandsFrom, copy_code}
 use Rattle.ec_asm.specs.PieceLaws.{HoldsNumbers}
 use Rattle.ec_asm.proofs.Bytes.{put_other}
 use Rattle.ec_asm.proofs.Hoare.{block-append}
-use Rattle.ec_core.specs.State.{State, Outcome, next, got}
+use Rattle.ec_core.specs.State.{State, chosen, Outcome, next, got}
 use Rattle.ec_core.specs.declared.values.Value.{Value}
 use Rattle.ec_core.specs.Plain.{PlainProgram}
 use Rattle.ec_ir.specs.declared.operations.Temp.{Temp}
-use Rattle.ec_ir.specs.Meaning.{machine, number_in, held_number, element_of_port}
+use Rattle.ec_ir.specs.Meaning.{machine, number_in, held_number, element_of_port, based, element_of_cell}
 use Rattle.ec_ir.specs.Temporaries.{Content, bits, points, Held, Temps, held}
 use Rattle.ec_select_operations.specs.Ports.{scale_code, point_code}
 use Rattle.ec_select_functions.proofs.Follow.{Follows, from_held, next_next}
@@ -58,6 +58,19 @@ module _ (p : PlainProgram) (place : ℕ → ℕ) (e : Env) where
       subst (λ o. Follows p place e n w pc v o) (sym (next_next (held_number t temps s) (λ i s1. got (port + i * width) s1) go))
       (from_bytes t temps s (λ i s1. go (port + i * width) s1) n w pc v (λ low q. f (port + low * width) (low, q, refl)))
 
+  -- so far behind what a cell holds
+  pub from_base : (index : Option Temp) (cell offset width : ℕ) (temps : Temps) (s : State) (go : ℕ → State → Outcome Value)
+      (n w pc : ℕ) (v : View) → ((b at : ℕ) → chosen cell s ≡ Some b → IsElement index (b + offset) width at temps
+      → Follows p place e n w pc v (go at s))
+      → Follows p place e n w pc v (next (element_of_cell cell offset width index (machine temps s)) go)
+  from_base index cell offset width temps s go n w pc v f = by_bound (chosen cell s) refl
+    where
+      by_bound : (o : Option ℕ) → chosen cell s ≡ o
+          → Follows p place e n w pc v
+          (next (next (based o s) (λ b s1. element_of_port (b + offset) width index (machine temps s1))) go)
+      by_bound None q = tt
+      by_bound (Some b) q = from_element index (b + offset) width temps s go n w pc v (λ at is. f b at q is)
+
 -- ---- what the code does
 
 module _ (e : Env) where
@@ -66,6 +79,13 @@ module _ (e : Env) where
     pub same : (k : ℕ) → k ≢ 0 → k ≢ 1 → k ≢ 30 → k ≢ 31 → w.at k ≡ v.at k
     pub numbers : HoldsNumbers w
     pub quiet : Quiet v w
+
+  pub changes_then : (v v1 w : View) → Changes v v1 → Changes v1 w → Changes v w
+  changes_then v v1 w p q = record {
+    same = λ k a b c d. q.same k a b c d ∙ p.same k a b c d;
+    numbers = q.numbers;
+    quiet = quiet_then v v1 w p.quiet q.quiet;
+  }
 
   pub record Pointed (index : Option Location) (port at : ℕ) (v w : View) : Type 0 where
     pub points : PointsTo index port at w
@@ -98,7 +118,7 @@ module _ (e : Env) where
       cases
 
   -- the port is added, where an element begins below 0x100
-  added : (port n : ℕ) (v : View) → v.at 30 ≡ n → port + n < 256 → HoldsNumbers v
+  pub added : (port n : ℕ) (v : View) → v.at 30 ≡ n → port + n < 256 → HoldsNumbers v
       → let w = block e (Plain (Ldi 31 port) ∷ Plain (Add 30 31) ∷ Plain (Ldi 31 0) ∷ []) v in
       (pair w.at 30 ≡ port + n) × Changes v w
   added port n v here below numbers =
@@ -125,33 +145,20 @@ module _ (e : Env) where
   pub element_below : (port low width at : ℕ) → port + low * width ≡ at → at + width ≤ 256 → 1 ≤ width → low < 256
   element_below port low width at q l some = grind arith
 
-  pub pointed : (l : Location) (c low port width at : ℕ) (v : View) → StandsFrom e l 1 c Own
-      → (width ≡ 1) ⊎ ((width ≡ 2) ⊎ (width ≡ 4)) → v.at c ≡ low → port + low * width ≡ at → at < 256 → HoldsNumbers v
-      → Pointed (Some l) port at v (block e (point_code (Some l) port width) v)
-  pointed l c low port width at v stands cases here is below numbers =
-      rw (
-        block-append e (copy_code l (InRegisters 30) 1)
-            (scale_code width ++ Plain (Ldi 31 port) ∷ Plain (Add 30 31) ∷ Plain (Ldi 31 0) ∷ []) v,
-        block-append e (scale_code width)
-            (Plain (Ldi 31 port) ∷ Plain (Add 30 31) ∷ Plain (Ldi 31 0) ∷ []) (block e (copy_code l (InRegisters 30) 1) v),
-      )
-      (record {
-        points = z.0 ∙ is;
-        changes = record {
-          same = λ k a o b d. z.1.same k a o b d ∙ x.same k b ∙ moved k a o b;
-          numbers = z.1.numbers;
-          quiet = quiet_then v v2 w (quiet_then v v1 v2 m.quiet x.quiet) z.1.quiet;
-        };
-      })
+  -- R30 becomes the index, whose low byte stands at an address, times the bytes of an element
+  pub indexed : (l : Location) (c low width : ℕ) (v : View) → StandsFrom e l 1 c Own
+      → (width ≡ 1) ⊎ ((width ≡ 2) ⊎ (width ≡ 4)) → v.at c ≡ low → low * width < 256 → HoldsNumbers v
+      → let w = block e (scale_code width) (block e (copy_code l (InRegisters 30) 1) v) in (w.at 30 ≡ low * width) × Changes v w
+  indexed l c low width v stands cases here below numbers = (
+    x.low ∙ ap (λ a. a * width % 256) byte ∙ kept_below (low * width) 256 below,
+    record { same = λ k a o b d. x.same k b ∙ moved k a o b; numbers = numbers2; quiet = quiet_then v v1 v2 m.quiet x.quiet },
+  )
     where
       v1 : View
       v1 = block e (copy_code l (InRegisters 30) 1) v
 
       v2 : View
       v2 = block e (scale_code width) v1
-
-      w : View
-      w = block e (Plain (Ldi 31 port) ∷ Plain (Add 30 31) ∷ Plain (Ldi 31 0) ∷ []) v2
 
       at_thirty : StandsFrom e (InRegisters 30) 1 30 Own
       at_thirty = record { at = λ i j. refl; kind = λ i j. refl; clear = omega arith }
@@ -175,11 +182,29 @@ module _ (e : Env) where
           (λ (r : k ≢ 30). rw (x.same k r, moved k (omega arith) (omega arith) r) (numbers k q))
           (cases_eq k 30)
 
-      product_below : (n : ℕ) → port + n ≡ at → n < 256
-      product_below n q = omega arith
+  pub product_below : (port n at : ℕ) → port + n ≡ at → at < 256 → n < 256
+  product_below port n at q l = omega arith
+
+  pub pointed : (l : Location) (c low port width at : ℕ) (v : View) → StandsFrom e l 1 c Own
+      → (width ≡ 1) ⊎ ((width ≡ 2) ⊎ (width ≡ 4)) → v.at c ≡ low → port + low * width ≡ at → at < 256 → HoldsNumbers v
+      → Pointed (Some l) port at v (block e (point_code (Some l) port width) v)
+  pointed l c low port width at v stands cases here is below numbers =
+      rw (
+        block-append e (copy_code l (InRegisters 30) 1)
+            (scale_code width ++ Plain (Ldi 31 port) ∷ Plain (Add 30 31) ∷ Plain (Ldi 31 0) ∷ []) v,
+        block-append e (scale_code width)
+            (Plain (Ldi 31 port) ∷ Plain (Add 30 31) ∷ Plain (Ldi 31 0) ∷ []) (block e (copy_code l (InRegisters 30) 1) v),
+      )
+      (record { points = z.0 ∙ is; changes = changes_then v v2 w x.1 z.1 })
+    where
+      v2 : View
+      v2 = block e (scale_code width) (block e (copy_code l (InRegisters 30) 1) v)
+
+      w : View
+      w = block e (Plain (Ldi 31 port) ∷ Plain (Add 30 31) ∷ Plain (Ldi 31 0) ∷ []) v2
+
+      x : (v2.at 30 ≡ low * width) × Changes v v2
+      x = indexed l c low width v stands cases here (product_below port (low * width) at is below) numbers
 
       z : (pair w.at 30 ≡ port + low * width) × Changes v2 w
-      z =
-          added port (low * width) v2
-          (x.low ∙ ap (λ a. a * width % 256) byte ∙ kept_below (low * width) 256 (product_below (low * width) is))
-          (subst (λ a. a < 256) (sym is) below) numbers2
+      z = added port (low * width) v2 x.0 (subst (λ a. a < 256) (sym is) below) x.1.numbers

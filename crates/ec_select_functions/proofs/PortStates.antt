@@ -11,6 +11,7 @@ use Rattle.ec_core.specs.PortAccesses.{next_byte, byte_read, bytes_read, number_
 use Rattle.ec_core.specs.State.{Inputs, Event, In, Out, State}
 use Rattle.ec_select_functions.specs.Kept.{is_port_kind, is_on_port, are_on_ports}
 use Rattle.ec_select_functions.proofs.Accesses.{left_after}
+use Rattle.ec_select_functions.proofs.Cells.{memory_of}
 
 -- ---- reads by the last byte
 
@@ -43,9 +44,9 @@ module _ (inputs : Inputs) where
       assembled : (a b c x : ℕ) → a + 256 * (b + c * x) ≡ a + 256 * b + c * (x * 256)
       assembled a b c x = grind arith
 
-  pub read_objects : (n port : ℕ) (s : State) → (bytes_read inputs n port s).objects ≡ s.objects
-  read_objects zero port s = refl
-  read_objects (suc n) port s = read_objects n (port + 1) (byte_read inputs port s)
+  pub read_memory : (n port : ℕ) (s : State) → memory_of (bytes_read inputs n port s) ≡ memory_of s
+  read_memory zero port s = refl
+  read_memory (suc n) port s = read_memory n (port + 1) (byte_read inputs port s)
 
   pub read_work : (n port : ℕ) (s : State) → (bytes_read inputs n port s).work ≡ s.work
   read_work zero port s = refl
@@ -53,9 +54,9 @@ module _ (inputs : Inputs) where
 
 -- ---- writes
 
-pub written_objects : (n port low : ℕ) (s : State) → (bytes_written n port low s).objects ≡ s.objects
-written_objects zero port low s = refl
-written_objects (suc n) port low s = written_objects n (port + 1) (low / 256) s
+pub written_memory : (n port low : ℕ) (s : State) → memory_of (bytes_written n port low s) ≡ memory_of s
+written_memory zero port low s = refl
+written_memory (suc n) port low s = written_memory n (port + 1) (low / 256) s
 
 pub written_work : (n port low : ℕ) (s : State) → (bytes_written n port low s).work ≡ s.work
 written_work zero port low s = refl

@@ -47,11 +47,12 @@ use Rattle.ec_select_operations.specs.Needs.{facts_of, needs}
 use Rattle.ec_select_operations.specs.Places.{ObjectLeaf}
 use Rattle.ec_select_functions.specs.Relation.{accesses, HoldsContent, Matches}
 use Rattle.ec_select_functions.proofs.Setting.{FixedLaws, RoutineLaws, PointerLaws, NumberLaws}
-use Rattle.ec_select_functions.proofs.Active.{World, Active, in_row, row_parts, row_from, homes_of, scratch_of}
-use Rattle.ec_select_functions.proofs.Active.{stack_work}
+use Rattle.ec_select_functions.proofs.Active.{World, Active, homes_of, scratch_of, stack_work, stack_cell, scratch_cell}
 use Rattle.ec_select_functions.proofs.Active.{base_of, leaf_at, leaf_is, setting_of, selected_of, stack_scratch}
-use Rattle.ec_select_functions.proofs.Active.{stack_leaf}
+use Rattle.ec_select_functions.proofs.Active.{stack_leaf, leaf_outside_cell, first_cell_at, standing_by}
 use Rattle.ec_select_functions.proofs.Called.{Statement, call_follows}
+use Rattle.ec_select_functions.proofs.Cells.{in_row, row_parts, row_from, by_row, cell_stands, other_stands, other_is}
+use Rattle.ec_select_functions.proofs.Cells.{none_bound, functions_use}
 use Rattle.ec_select_functions.proofs.Checked.{operand_places}
 use Rattle.ec_select_functions.proofs.Follow.{Follows, stay}
 use Rattle.ec_select_functions.proofs.Match.{HadValue, had_value, kept_frames}
@@ -93,8 +94,8 @@ module _ (p : PlainIrProgram) (e : Env) (place entry_of : ℕ → ℕ) (w : Worl
       let stands = x.stands in
       let ready : Ready D p.functions e g.slots hs bs place setting labels g.code x.end w.selected.results f link stack stands.0 g.code =
       record {
-        covered = are_ready D e w.selected.results f (called_in g.code) g.slots link g.code x.covered
-            (λ i there l q. (x.routines i l there q, x.callers i l there q));
+        covered = are_ready D e w.cells w.selected.results f (called_in g.code) g.slots link g.code x.covered
+            (functions_use w.cells p w.valid f g a.is) (λ i there l q. (x.routines i l there q, x.callers i l there q));
         live = x.live;
         inside = λ b q. q;
         here = record { active = a.runs; stacked = stacked; core = refl };
@@ -119,24 +120,29 @@ module _ (p : PlainIrProgram) (e : Env) (place entry_of : ℕ → ℕ) (w : Worl
 
 -- ---- main, at the bottom of the stack
 
--- the stack pointer and the return address
-abbrev first_aside : ℕ → ℕ → Bool
-first_aside s k = (k == 93 || k == 94) || in_row (s + 1) 2 k
+-- the stack pointer, the return address, and the cells
+abbrev first_aside : (cell cells s : ℕ) → ℕ → Bool
+first_aside cell cells s k = (k == 93 || k == 94) || (in_row (s + 1) 2 k || in_row cell cells k)
 
-module _ (s k : ℕ) (P : Type 0) where
-  first_cases : first_aside s k ≡ true → (k ≡ 93 → P) → (k ≡ 94 → P) → (s + 1 ≤ k → k < s + 1 + 2 → P) → P
-  first_cases h f g i =
+module _ (cell cells s k : ℕ) (P : Type 0) where
+  first_cases : first_aside cell cells s k ≡ true → (k ≡ 93 → P) → (k ≡ 94 → P) → (s + 1 ≤ k → k < s + 1 + 2 → P)
+      → (cell ≤ k → k < cell + cells → P) → P
+  first_cases h f g i j =
       ⊎_elim
       (λ q. ⊎_elim (λ r. f (eqb-true k 93 r)) (λ r. g (eqb-true k 94 r)) (or_cases (k == 93) (k == 94) q))
-      (λ q. let z = row_parts (s + 1) 2 k q in i z.0 z.1)
-      (or_cases (k == 93 || k == 94) (in_row (s + 1) 2 k) h)
+      (λ q. ⊎_elim
+      (λ r. let z = row_parts (s + 1) 2 k r in i z.0 z.1)
+      (λ r. let z = row_parts cell cells k r in j z.0 z.1)
+      (or_cases (in_row (s + 1) 2 k) (in_row cell cells k) q))
+      (or_cases (k == 93 || k == 94) (in_row (s + 1) 2 k || in_row cell cells k) h)
 
-module _ (laws : CodeLaws) (p : PlainIrProgram) (place entry_of : ℕ → ℕ) (e : Env) (size low : ℕ) (s : MachineState) (v : View)
-    (inputs : Inputs) (valid : ValidIr p) (fit : Fits e size) (shows : Shows e size s.core s.mem v)
-    (feeds : (port : ℕ) → v.inputs port ≡ inputs port) (begin : HoldsStart (data_of p) place v) (selected : AreSelected p e place entry_of)
-    (enters : IsEntered p e low (entry_of p.main) s.pc v) where
+module _ (laws : CodeLaws) (cells : ℕ) (p : PlainIrProgram) (place entry_of : ℕ → ℕ) (e : Env) (size low : ℕ) (s : MachineState) (v : View)
+    (inputs : Inputs) (valid : ValidIr cells p) (fit : Fits e size) (shows : Shows e size s.core s.mem v)
+    (feeds : (port : ℕ) → v.inputs port ≡ inputs port) (begin : HoldsStart (data_of p) place v)
+    (selected : AreSelected cells p e place entry_of) (enters : IsEntered p e low (entry_of p.main) s.pc v) where
   abbrev w : World p e place entry_of
   w = record {
+    cells = cells;
     selected = selected;
     valid = valid;
     fill = laws.fill;
@@ -157,33 +163,43 @@ module _ (laws : CodeLaws) (p : PlainIrProgram) (place entry_of : ℕ → ℕ) (
   abbrev program_data : PlainProgram
   program_data = data_of p
 
+  -- what is set aside for what called main, and for the cells
+  abbrev set_aside : ℕ → Bool
+  set_aside k = first_aside (first_cell_at p e place entry_of w) cells (sp v) k
+
   low_room : low ≤ sp v + 1
   low_room = let r : low + 2 * 0 + 16 ≤ sp v + 1 = enters.room [] tt in omega arith
 
+  abbrev cell : ℕ
+  cell = first_cell_at p e place entry_of w
+
   active : (g : PlainIrFunction) → slice_get p.functions p.main ≡ Some g
-      → Active p e place entry_of w p.main g (sp v) (first_aside (sp v)) v.at
+      → Active p e place entry_of w p.main g (sp v) set_aside v.at
   active g is =
       let high = enters.high in
       let room = low_room in
       let top = enters.top in
+      let above = selected.work_stands.high in
       record {
         is = is;
         functions = p.main ∷ [];
         runs = or_left (p.main == p.main) false (eq-eqb p.main p.main refl);
         leading = λ c q. inl (only_main c q);
         chained = λ c d q r. inl (only_main c q ∙ sym (only_main d r));
-        high = λ k q. first_cases (sp v) k (32 ≤ k) q (λ r. omega arith) (λ r. omega arith) (λ l m. omega arith);
-        leaves = λ l k q. first_cases (sp v) k (Outside (leaf_at p e place entry_of w l) l.bytes k) q
+        high = λ k q. first_cases cell cells (sp v) k (32 ≤ k) q (λ r. omega arith) (λ r. omega arith) (λ l m. omega arith)
+            (λ l m. omega arith);
+        leaves = λ l k q. first_cases cell cells (sp v) k (Outside (leaf_at p e place entry_of w l) l.bytes k) q
             (λ r. low_leaf l k (omega arith) (omega arith)) (λ r. low_leaf l k (omega arith) (omega arith))
-            (λ i m. stack_leaf p e place entry_of w p.main g is l k (omega arith) (enters.stacked k (omega arith) (omega arith)));
+            (λ i m. stack_leaf p e place entry_of w p.main g is l k (omega arith) (enters.stacked k (omega arith) (omega arith)))
+            (λ i m. leaf_outside_cell p e place entry_of w p.main g is l k i m);
         own = λ k q. other p.main g is k q;
         others = λ b h to is1 k q. other b h is1 k q;
-        free = λ k q l. first_cases (sp v) k (sp v < k) q (λ r. absurd (omega arith)) (λ r. absurd (omega arith)) (λ i m. omega arith);
-        work =
-            λ k q.
-            (let above = selected.work_stands.high in first_cases (sp v) k (Outside selected.work 64 k) q (λ r z. absurd (omega arith))
-            (λ r z. absurd (omega arith))
-            (λ l m. stack_work p e place entry_of w k (enters.stacked k (omega arith) (omega arith))));
+        free = λ k q l. first_cases cell cells (sp v) k (sp v < k) q (λ r. absurd (omega arith)) (λ r. absurd (omega arith))
+            (λ i m. omega arith) (λ i m. cell_free k l i m);
+        work = λ k q. first_cases cell cells (sp v) k (Outside selected.work 64 k) q (λ r z. absurd (omega arith))
+            (λ r z. absurd (omega arith)) (λ l m. stack_work p e place entry_of w k (enters.stacked k (omega arith) (omega arith)))
+            (λ l m z. omega arith);
+        cells = λ c l. cell_aside c l;
         pointer_low = refl;
         pointer_high = refl;
         pointer = refl;
@@ -191,6 +207,18 @@ module _ (laws : CodeLaws) (p : PlainIrProgram) (place entry_of : ℕ → ℕ) (
         below = omega arith;
       }
     where
+      cell_aside : (c : ℕ) → c < cells → set_aside (cell + c) ≡ true
+      cell_aside c l =
+          or_right (cell + c == 93 || cell + c == 94) (in_row (sp v + 1) 2 (cell + c) || in_row cell cells (cell + c))
+          (or_right (in_row (sp v + 1) 2 (cell + c)) (in_row cell cells (cell + c)) (row_from cell cells (cell + c) (omega arith) (omega arith)))
+
+      cell_free : (k : ℕ) → low ≤ k → cell ≤ k → k < cell + cells → sp v < k
+      cell_free k l i m =
+          ⊎_elim
+          (λ (z : k < sp v + 2 + 1). let o = stack_cell p e place entry_of w k (enters.stacked k l (omega arith)) i in absurd (omega arith))
+          (λ (z : sp v + 2 + 1 ≤ k). omega arith)
+          (cases_lt k (sp v + 2 + 1))
+
       only_main : (c : ℕ) → is_among (p.main ∷ []) c ≡ true → c ≡ p.main
       only_main c q =
           ⊎_elim (λ (i : (p.main == c) ≡ true). sym (eqb-true p.main c i)) (λ (i : false ≡ true). absurd cc)
@@ -203,24 +231,40 @@ module _ (laws : CodeLaws) (p : PlainIrProgram) (place entry_of : ℕ → ℕ) (
           (λ (z : 256 ≤ leaf_at p e place entry_of w l). absurd (omega arith))
           (leaf_is p e place entry_of w p.main g is l)
 
-      other : (b : ℕ) (h : PlainIrFunction) → slice_get p.functions b ≡ Some h → (k : ℕ) → first_aside (sp v) k ≡ true
+      cell_apart : (b : ℕ) (h : PlainIrFunction) → slice_get p.functions b ≡ Some h → (k : ℕ) → cell ≤ k → k < cell + cells
+          → Outside (scratch_of p e place entry_of w b) (16 * h.slots) k
+      cell_apart b h is1 k l m z =
+          ⊎_elim
+          (λ (i : k < scratch_of p e place entry_of w b + 16 * h.slots).
+          let o = scratch_cell p e place entry_of w b h is1 k z i l in absurd (omega arith))
+          (λ (i : scratch_of p e place entry_of w b + 16 * h.slots ≤ k). i)
+          (cases_lt k (scratch_of p e place entry_of w b + 16 * h.slots))
+
+      other : (b : ℕ) (h : PlainIrFunction) → slice_get p.functions b ≡ Some h → (k : ℕ) → set_aside k ≡ true
           → Outside (scratch_of p e place entry_of w b) (16 * h.slots) k
       other b h is1 k q =
           let above = (selected_of p e place entry_of w b h is1).scratch_stands.high in
           let high = enters.high in
           let room = low_room in
-          first_cases (sp v) k (Outside (scratch_of p e place entry_of w b) (16 * h.slots) k) q (λ r z. absurd (omega arith))
+          first_cases cell cells (sp v) k (Outside (scratch_of p e place entry_of w b) (16 * h.slots) k) q (λ r z. absurd (omega arith))
           (λ r z. absurd (omega arith)) (λ l m. stack_scratch p e place entry_of w b h is1 k (enters.stacked k (omega arith) (omega arith)))
+          (λ l m z. cell_apart b h is1 k l m z)
 
   -- it returns to the BREAK
   module _ (g : PlainIrFunction) (is : slice_get p.functions p.main ≡ Some g) (j : ℕ) (st : State) (u : View) (spent : ℕ)
-      (credit : spent + 64 ≤ st.work) (left : Left p e place entry_of w g p.main (p.main ∷ []) (first_aside (sp v)) v.at st u) where
+      (credit : spent + 64 ≤ st.work) (left : Left p e place entry_of w g p.main (p.main ∷ []) set_aside v.at st u) where
     pointer_u : sp u ≡ sp v
     unfolding active
-    pointer_u = pointer_is p e place entry_of w p.main g (sp v) (first_aside (sp v)) v.at (active g is) [] _ _ u left
+    pointer_u = pointer_is p e place entry_of w p.main g (sp v) set_aside v.at (active g is) [] _ _ u left
 
     stack_kept : (k : ℕ) → sp v + 1 ≤ k → k < sp v + 1 + 2 → u.at k ≡ v.at k
-    stack_kept k l m = left.kept k (or_right (k == 93 || k == 94) (in_row (sp v + 1) 2 k) (row_from (sp v + 1) 2 k l m))
+    stack_kept k l m =
+        let room = low_room in
+        left.kept k (v.at k)
+        (or_right (k == 93 || k == 94) (in_row (sp v + 1) 2 k || in_row cell cells k)
+        (or_left (in_row (sp v + 1) 2 k) (in_row cell cells k) (row_from (sp v + 1) 2 k l m)))
+        (other_stands cell cells v.at k st.groups
+        (stack_cell p e place entry_of w k (enters.stacked k (omega arith) (omega arith))))
 
     same_back : back_at u ≡ back_at v
     same_back =
@@ -283,23 +327,35 @@ module _ (laws : CodeLaws) (p : PlainIrProgram) (place entry_of : ℕ → ℕ) (
             }
 
   returns : (g : PlainIrFunction) (is : slice_get p.functions p.main ≡ Some g) (j : ℕ)
-      → Returns p e place entry_of w p.main g (p.main ∷ []) (first_aside (sp v)) v.at [] j
+      → Returns p e place entry_of w p.main g (p.main ∷ []) set_aside v.at [] j
   returns g is j result st u spent credit hands left = bottom g is j st u spent credit left result hands
 
-  begun : (g : PlainIrFunction) → Matches program_data e inputs g.slots (base_of p e place entry_of w p.main) place (first_aside (sp v))
-      v.at (p.main ∷ []) (called_in g.code) (needs (facts_of (selected.made p.main).labels g.code) g.code) (start program_data) v
+  begun : (g : PlainIrFunction) → Matches program_data e inputs g.slots (base_of p e place entry_of w p.main) place set_aside
+      (standing_by p e place entry_of w v.at) (p.main ∷ []) (called_in g.code) (needs (facts_of (selected.made p.main).labels g.code) g.code) (start program_data) v
   begun g = record {
     temps_hold = λ t h it q z. absurd cc;
     leaves_hold = λ l x u q z. let r = had l.object l.number x u q z in begin.leaves l r.state u r.is_state r.leaf;
     tables_hold = λ l x u q z. let r = had l.object l.number x u q z in selected.tables.values l r.state u r.is_state r.leaf;
     frames = kept_frames program_data (p.main ∷ []) (called_in g.code) (p.main ∷ []) (start_state program_data) (inl refl);
-    kept = λ k q. refl;
+    kept = λ k byte q z. stands_there k byte z;
     bytes = begin.bytes;
     left = feeds;
     seen = begin.seen;
     safe = begin.safe;
   }
     where
+      -- no cell has anything
+      stands_there : (k byte : ℕ) → standing_by p e place entry_of w v.at (start program_data).state.groups k ≡ Some byte → v.at k ≡ byte
+      stands_there k byte z =
+          ⊎_elim
+          (λ (c : (i : ℕ) × (i < cells) × (k ≡ cell + i)).
+          let none : None ≡ Some byte =
+          sym (none_bound 256 c.0) ∙ sym (cell_stands cell cells v.at c.0 (start program_data).state c.1)
+          ∙ ap (standing_by p e place entry_of w v.at (start program_data).state.groups) (sym c.2) ∙ z in
+          absurd cc)
+          (λ o. other_is cell cells v.at k byte (start program_data).state.groups o z)
+          (by_row cell cells k)
+
       had : (o k : ℕ) (x : ObjectState) (u : Value) → slice_get (start program_data).state.objects o ≡ Some x → leaf_of x k ≡ Some u
           → HadValue (p.main ∷ []) p.objects (start_state program_data).objects o k u
       had o k x u q z = had_value (p.main ∷ []) p.objects (start_state program_data).objects o k x u q z
@@ -324,17 +380,17 @@ module _ (laws : CodeLaws) (p : PlainIrProgram) (place entry_of : ℕ → ℕ) (
           let here : x.pc ≡ s.pc = sym (stands.1.0 enters.word) ∙ sym enters.at in
           let mid : stands.0 ≡ s.pc = stands.1.1 ∙ here in
           let ready : Ready program_data p.functions e g.slots hs (base_of p e place entry_of w p.main) place
-          (setting_of p e place entry_of w p.main g (sp v) (first_aside (sp v)) v.at a) labels g.code x.end selected.results p.main
+          (setting_of p e place entry_of w p.main g (sp v) set_aside v.at a) labels g.code x.end selected.results p.main
           link [] s.pc g.code = record {
-            covered = are_ready program_data e selected.results p.main (called_in g.code) g.slots link g.code x.covered
-                (λ i there l q. (x.routines i l there q, x.callers i l there q));
+            covered = are_ready program_data e cells selected.results p.main (called_in g.code) g.slots link g.code x.covered
+                (functions_use cells p valid p.main g is) (λ i there l q. (x.routines i l there q, x.callers i l there q));
             live = x.live;
             inside = λ b q. q;
             here = record { active = a.runs; stacked = refl; core = refl };
             stands = subst
                 (λ i. HasAt e (ops_code program_data hs link (facts_of labels g.code) None g.code) i x.end) mid stands.2;
           } in
-          all_functions p e place entry_of w n p.main g (sp v) (first_aside (sp v)) v.at a [] refl (λ j l. returns g is j) s.pc g.code
+          all_functions p e place entry_of w n p.main g (sp v) set_aside v.at a [] refl (λ j l. returns g is j) s.pc g.code
           (start program_data) v ready (begun g)
 
   -- ---- the machine
@@ -433,5 +489,5 @@ module _ (laws : CodeLaws) (p : PlainIrProgram) (place entry_of : ℕ → ℕ) (
   }
 
 pub code_follows_operations : CodeLaws → CodeFollowsOperations
-code_follows_operations laws p place entry_of e size low s v inputs valid fit shows feeds begin selected enters =
-    whole laws p place entry_of e size low s v inputs valid fit shows feeds begin selected enters
+code_follows_operations laws cells p place entry_of e size low s v inputs valid fit shows feeds begin selected enters =
+    whole laws cells p place entry_of e size low s v inputs valid fit shows feeds begin selected enters

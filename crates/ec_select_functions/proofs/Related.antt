@@ -31,7 +31,7 @@ truth_below true = omega arith
 truth_below false = omega arith
 
 -- one byte, or none of it
-one_byte : (f : ℕ → ℕ) (a x j : ℕ) → j ≤ 1 → f a ≡ x → x < 256 → value f a j ≡ x % 256 ^ j
+pub one_byte : (f : ℕ → ℕ) (a x j : ℕ) → j ≤ 1 → f a ≡ x → x < 256 → value f a j ≡ x % 256 ^ j
 one_byte f a x zero l q k = let e : x % 1 ≡ 0 = omega arith in sym e
 one_byte f a x (suc zero) l q k =
     let e : a + 0 ≡ a = omega arith in
@@ -49,8 +49,8 @@ module _ (p : PlainProgram) (e : Env) (slots : ℕ) (home : Temp → Location) (
   -- what is needed of a truth value is put to its temporary
   pub told_matches : (truth : Bool) (most pc end : ℕ) (t : Temp) (need need0 : Need) (m : Mach) (v : View) (c : ℕ)
       → HasHome slots t → (k : Tells e most pc v end truth) → ((u : ℕ) → u ≢ t.at → need u ≤ need0 u)
-      → Matches p e y.inputs slots base place y.aside y.was y.active y.called need0 m v
-      → Matches p e y.inputs slots base place y.aside y.was y.active y.called need (machine (with_content t (bits
+      → Matches p e y.inputs slots base place y.aside y.stands y.active y.called need0 m v
+      → Matches p e y.inputs slots base place y.aside y.stands y.active y.called need (machine (with_content t (bits
       (low_bytes t.bytes (pos (from_bool truth)))) m.temps) (worked c m.state))
       (block e (conversion_code false (InRegisters 30) (home t) 1 (wanted need t)) k.last)
   told_matches truth most pc end t need need0 m v c it k more h =

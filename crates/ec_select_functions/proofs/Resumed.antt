@@ -28,7 +28,9 @@ use Rattle.ec_select_operations.specs.Places.{ObjectLeaf}
 use Rattle.ec_select_functions.specs.Relation.{HoldsContent, Matches}
 use Rattle.ec_select_functions.proofs.Active.{World, Active, homes_of, scratch_of, base_of, leaf_at, leaf_is}
 use Rattle.ec_select_functions.proofs.Active.{layout_of, setting_of, selected_of, aside_by, aside_before}
-use Rattle.ec_select_functions.proofs.Active.{aside_scratch, own_is_not_stacked, scratch_kind}
+use Rattle.ec_select_functions.proofs.Active.{aside_scratch, own_is_not_stacked, scratch_kind, first_cell_at, standing_by}
+use Rattle.ec_select_functions.proofs.Active.{low_stands, scratch_cell}
+use Rattle.ec_select_functions.proofs.Cells.{by_row, other_stands, cell_stands_alike, other_is}
 use Rattle.ec_select_functions.proofs.Match.{kept_left, same_content, same_leaf, wanted_most}
 use Rattle.ec_select_functions.proofs.Moves.{Quiet, outside_row}
 use Rattle.ec_select_functions.proofs.Saved.{Saves, Restores, restores, kept, register, are_kept, register_ends}
@@ -198,7 +200,8 @@ module _ (p : PlainIrProgram) (e : Env) (place entry_of : ℕ → ℕ) (w : Worl
   -- ---- what the called function left
 
   module _ (back : ℕ) (v1 u : View) (pointer : sp v1 ≡ s) (first : w.low + 1 ≤ s)
-      (left : (k : ℕ) → aside_by aside scratch (16 * slots) s k ≡ true → u.at k ≡ (pushed back v1).at k) where
+      (left : (k : ℕ) → aside_by aside scratch (16 * slots) s k ≡ true → Outside (first_cell_at p e place entry_of w) w.cells k
+      → u.at k ≡ (pushed back v1).at k) where
     -- none of the two bytes that the call pushed
     not_pushed : (k : ℕ) → k ≢ s → k ≢ s - 1 → k ≢ 93 → k ≢ 94 → (pushed back v1).at k ≡ v1.at k
     not_pushed k one two low high =
@@ -213,20 +216,22 @@ module _ (p : PlainIrProgram) (e : Env) (place entry_of : ℕ → ℕ) (w : Worl
         let high = x.scratch_stands.high in
         let last = a.below in
         let own = scratch_kind p e place entry_of w f g a.is k l m in
-        popped_same u k (omega arith) (omega arith) ∙ left k (aside_scratch aside scratch (16 * slots) s k l m)
+        popped_same u k (omega arith) (omega arith)
+        ∙ left k (aside_scratch aside scratch (16 * slots) s k l m) (scratch_cell p e place entry_of w f g a.is k l m)
         ∙ not_pushed k (λ q. own_is_not_stacked (e.kind k) own (w.stacked k (omega arith) (omega arith)))
         (λ q. own_is_not_stacked (e.kind k) own (w.stacked k (omega arith) (omega arith))) (omega arith) (omega arith)
 
-    aside_left : (k : ℕ) → aside k ≡ true → k ≢ 93 → k ≢ 94 → (popped u).at k ≡ v1.at k
-    aside_left k q low high =
-        popped_same u k low high ∙ left k (aside_before aside scratch (16 * slots) s k q)
+    aside_left : (k : ℕ) → aside k ≡ true → Outside (first_cell_at p e place entry_of w) w.cells k → k ≢ 93 → k ≢ 94
+        → (popped u).at k ≡ v1.at k
+    aside_left k q o low high =
+        popped_same u k low high ∙ left k (aside_before aside scratch (16 * slots) s k q) o
         ∙ not_pushed k (λ z. let y = a.free k q (omega arith) in omega arith)
         (λ z. let y = a.free k q (omega arith) in omega arith) low high
 
   -- ---- the whole
 
   abbrev MM : Need → Mach → View → Type 0
-  MM need m v = Matches D e w.inputs slots bs place aside was a.functions (called_in g.code) need m v
+  MM need m v = Matches D e w.inputs slots bs place aside (standing_by p e place entry_of w was) a.functions (called_in g.code) need m v
 
   module _ (active called : List ℕ) (need : Need) (to : Option Temp) (it : HasPlace to) (m : Mach) (temps : Temps) (s1 : State)
       (back : ℕ) (v v1 u v4 : View)
@@ -236,7 +241,7 @@ module _ (p : PlainIrProgram) (e : Env) (place entry_of : ℕ → ℕ) (w : Worl
       (pointer : sp v1 ≡ s) (first : w.low + 1 ≤ s)
       (b : ℕ) (gb : PlainIrFunction)
       (left : Matches D e w.inputs gb.slots (base_of p e place entry_of w b) place (aside_by aside scratch (16 * slots) s)
-      (pushed back v1).at active called nothing (machine no_temps s1) u)
+      (standing_by p e place entry_of w (pushed back v1).at) active called nothing (machine no_temps s1) u)
       (pointer1 : sp u ≡ s - 2)
       (took : Took to (popped u) v4)
       (held : (t : Temp) (c : Held) → HasHome slots t → temps t.at ≡ Some c → c.bytes ≡ t.bytes
@@ -247,6 +252,13 @@ module _ (p : PlainIrProgram) (e : Env) (place entry_of : ℕ → ℕ) (w : Worl
 
     abbrev v5 : View
     v5 = block e (chain (λ j. restore_place h j (need0 j)) (register_places slots)) v4
+
+    -- none but cells have changed of what is set aside
+    left_there : (k : ℕ) → aside_by aside scratch (16 * slots) s k ≡ true → Outside (first_cell_at p e place entry_of w) w.cells k
+        → u.at k ≡ (pushed back v1).at k
+    left_there k q o =
+        left.kept k ((pushed back v1).at k) q
+        (other_stands (first_cell_at p e place entry_of w) w.cells (pushed back v1).at k s1.groups o)
 
     few : register_places slots ≤ 6
     few = omega arith
@@ -279,7 +291,7 @@ module _ (p : PlainIrProgram) (e : Env) (place entry_of : ℕ → ℕ) (w : Worl
         rw (r.address)
         (loaded.there t.at i n (omega arith)
         ∙ took.same k (omega arith) (omega arith) (omega arith) (outside_spare to t.at i it i4)
-        ∙ scratch_left back v1 u pointer first left.kept k (omega arith) (omega arith)
+        ∙ scratch_left back v1 u pointer first left_there k (omega arith) (omega arith)
         ∙ saved.there t.at i n (omega arith))
 
     -- a byte in scratch memory
@@ -293,7 +305,7 @@ module _ (p : PlainIrProgram) (e : Env) (place entry_of : ℕ → ℕ) (w : Worl
         let outside = outside_other to t i it home_it q l in
         loaded.same (bs t + i) (omega arith) (λ j z. outside_above need0 j (bs t + i) (omega arith))
         ∙ took.same (bs t + i) (omega arith) (omega arith) (omega arith) outside
-        ∙ scratch_left back v1 u pointer first left.kept (bs t + i) (omega arith) (omega arith)
+        ∙ scratch_left back v1 u pointer first left_there (bs t + i) (omega arith) (omega arith)
         ∙ saved.same (bs t + i) (omega arith) (λ j z y. let few4 = below_work need0 j in omega (arith, few4, address, most, l, y))
 
     temp_back : (t : Temp) (i : ℕ) → HasHome slots t → IsElsewhere to t → i < wanted need0 t
@@ -337,7 +349,7 @@ module _ (p : PlainIrProgram) (e : Env) (place entry_of : ℕ → ℕ) (w : Worl
         let begin = w.high in
         let z : s - 2 + 2 ≡ s = omega arith in
         (popped_pointer u (s - 2) pointer1 (omega arith)).0 ∙ ap (λ n. n % 256) z ∙ sym (pointer_low v s pointer0 before.bytes)
-        ∙ before.kept 93 a.pointer_low
+        ∙ before.kept 93 (was 93) a.pointer_low (low_stands p e place entry_of w was m.state.groups 93 (omega arith))
 
     high_back : (popped u).at 94 ≡ was 94
     high_back =
@@ -346,37 +358,59 @@ module _ (p : PlainIrProgram) (e : Env) (place entry_of : ℕ → ℕ) (w : Worl
         let begin = w.high in
         let z : s - 2 + 2 ≡ s = omega arith in
         (popped_pointer u (s - 2) pointer1 (omega arith)).1 ∙ ap (λ n. n / 256) z ∙ sym (pointer_high v s pointer0 before.bytes)
-        ∙ before.kept 94 a.pointer_high
+        ∙ before.kept 94 (was 94) a.pointer_high (low_stands p e place entry_of w was m.state.groups 94 (omega arith))
 
-    other_back : (k : ℕ) → aside k ≡ true → k ≢ 93 → k ≢ 94 → (popped u).at k ≡ was k
-    other_back k q low high =
+    other_back : (k : ℕ) → aside k ≡ true → Outside (first_cell_at p e place entry_of w) w.cells k → k ≢ 93 → k ≢ 94
+        → (popped u).at k ≡ was k
+    other_back k q o low high =
         let own = a.own k q in
         let above = a.high k q in
-        aside_left back v1 u pointer first left.kept k q low high
+        aside_left back v1 u pointer first left_there k q o low high
         ∙ saved.same k (omega arith) (λ j z y. let few4 = below_work need0 j in let o = own (omega arith) in omega (arith, few4, o))
-        ∙ before.kept k q
+        ∙ before.kept k (was k) q (other_stands (first_cell_at p e place entry_of w) w.cells was k m.state.groups o)
 
-    aside_back : (k : ℕ) → aside k ≡ true → (popped u).at k ≡ was k
-    aside_back k q =
+    known_back : (k : ℕ) → aside k ≡ true → Outside (first_cell_at p e place entry_of w) w.cells k → (popped u).at k ≡ was k
+    known_back k q o =
         ⊎_elim
         (λ (l : k ≡ 93). subst (λ j. (popped u).at j ≡ was j) (sym l) low_back)
         (λ (l : k ≢ 93).
         ⊎_elim
         (λ (r : k ≡ 94). subst (λ j. (popped u).at j ≡ was j) (sym r) high_back)
-        (λ (r : k ≢ 94). other_back k q l r)
+        (λ (r : k ≢ 94). other_back k q o l r)
         (cases_eq k 94))
         (cases_eq k 93)
 
-    pub resumes : Matches D e w.inputs slots bs place aside was active called need (machine temps s1) v5
+    -- a cell holds what the called function has left there
+    cell_back : (c byte : ℕ) → c < w.cells
+        → standing_by p e place entry_of w was s1.groups (first_cell_at p e place entry_of w + c) ≡ Some byte
+        → (popped u).at (first_cell_at p e place entry_of w + c) ≡ byte
+    cell_back c byte l q =
+        let above = w.selected.work_stands.high in
+        let k = first_cell_at p e place entry_of w + c in
+        popped_same u k (omega arith) (omega arith)
+        ∙ left.kept k byte (aside_before aside scratch (16 * slots) s k (a.cells c l))
+        (cell_stands_alike (first_cell_at p e place entry_of w) w.cells (pushed back v1).at was c s1.groups l ∙ q)
+
+    aside_back : (k byte : ℕ) → aside k ≡ true → standing_by p e place entry_of w was s1.groups k ≡ Some byte
+        → (popped u).at k ≡ byte
+    aside_back k byte q r =
+        ⊎_elim
+        (λ (c : (i : ℕ) × (i < w.cells) × (k ≡ first_cell_at p e place entry_of w + i)).
+        ap (popped u).at c.2 ∙ cell_back c.0 byte c.1 (ap (standing_by p e place entry_of w was s1.groups) (sym c.2) ∙ r))
+        (λ o. known_back k q o ∙ other_is (first_cell_at p e place entry_of w) w.cells was k byte s1.groups o r)
+        (by_row (first_cell_at p e place entry_of w) w.cells k)
+
+    pub resumes : Matches D e w.inputs slots bs place aside (standing_by p e place entry_of w was) active called need
+        (machine temps s1) v5
     resumes = record {
       temps_hold = temp_holds;
       leaves_hold = λ l z y q k. same_leaf D place u.at v5.at (place l.object + l.at) l.bytes y (λ i r. leaf_back l i r)
           (left.leaves_hold l z y q k);
       tables_hold = left.tables_hold;
       frames = left.frames;
-      kept = λ k q.
+      kept = λ k byte q r.
           (let above = a.high k q in loaded.same k (omega arith) (λ j y. outside_above need0 j k above)
-          ∙ took.same k (omega arith) (omega arith) (omega arith) (outside_aside to k it q)) ∙ aside_back k q;
+          ∙ took.same k (omega arith) (omega arith) (omega arith) (outside_aside to k it q)) ∙ aside_back k byte q r;
       bytes = loaded.numbers;
       left = kept_left w.inputs s1 u v5 (loaded.quiet.inputs ∙ took.quiet.inputs) left.left;
       seen = loaded.quiet.seen ∙ took.quiet.seen ∙ left.seen;

@@ -38,7 +38,8 @@ use Rattle.ec_select_operations.specs.Needs.{Need, Facts, facts_of, nothing, ret
 use Rattle.ec_select_operations.specs.Places.{ObjectLeaf}
 use Rattle.ec_select_functions.specs.Relation.{accesses, HoldsContent, FramesStand, Matches}
 use Rattle.ec_select_functions.proofs.Active.{World, Active, homes_of, scratch_of, base_of, leaf_at, leaf_is}
-use Rattle.ec_select_functions.proofs.Active.{layout_of, setting_of, selected_of}
+use Rattle.ec_select_functions.proofs.Active.{layout_of, setting_of, selected_of, standing_by, low_stands}
+use Rattle.ec_select_functions.proofs.Cells.{memory_of, same_objects, same_groups}
 use Rattle.ec_select_functions.proofs.Computed.{moved_numbers}
 use Rattle.ec_select_functions.proofs.Checked.{checked_on}
 use Rattle.ec_select_functions.proofs.Follow.{Follows, after, from_held, next_next}
@@ -71,8 +72,8 @@ module _ (p : PlainIrProgram) (e : Env) (place entry_of : ℕ → ℕ) (w : Worl
   -- what a return finds, and the state in which it leaves the objects
   abbrev pub Left : (g : PlainIrFunction) (f : ℕ) (functions : List ℕ) (aside : ℕ → Bool) (was : ℕ → ℕ) → State → View → Type 0
   Left g f functions aside was s v =
-      Matches D e w.inputs g.slots (base_of p e place entry_of w f) place aside was functions (called_in g.code) nothing
-      (machine no_temps s) v
+      Matches D e w.inputs g.slots (base_of p e place entry_of w f) place aside (standing_by p e place entry_of w was) functions
+      (called_in g.code) nothing (machine no_temps s) v
 
   -- what waits goes on, of which n operations that count are made. 64 steps are left for it
   abbrev pub Returns : (f : ℕ) (g : PlainIrFunction) (functions : List ℕ) (aside : ℕ → Bool) (was : ℕ → ℕ) (stack : List Call) (n : ℕ)
@@ -103,17 +104,18 @@ module _ (p : PlainIrProgram) (e : Env) (place entry_of : ℕ → ℕ) (w : Worl
 
     -- the result registers have changed alone
     left_by : (need : Need) (m : Mach) (st : State) (v v1 : View) (r n : ℕ) → 18 ≤ r → r + n ≤ 26
-        → Matches D e w.inputs slots bs place aside was a.functions (called_in g.code) need m v
-        → st.objects ≡ m.state.objects → st.events ≡ m.state.events
+        → Matches D e w.inputs slots bs place aside (standing_by p e place entry_of w was) a.functions (called_in g.code) need m v
+        → memory_of st ≡ memory_of m.state → st.events ≡ m.state.events
         → ((k : ℕ) → k ≢ 0 → k ≢ 1 → k ≢ 30 → Outside r n k → v1.at k ≡ v.at k) → HoldsNumbers v1 → Quiet v v1
         → Left g f a.functions aside was st v1
-    left_by need m st v v1 r n low high h objects events frame numbers quiet = record {
+    left_by need m st v v1 r n low high h memory events frame numbers quiet = record {
       temps_hold = λ t c it q u. absurd cc;
       leaves_hold = λ l z u q k. same_leaf D place v.at v1.at (place l.object + l.at) l.bytes u (λ j i. leaf_kept l j i)
-          (h.leaves_hold l z u (ap (λ o. slice_get o l.object) (sym objects) ∙ q) k);
-      tables_hold = λ l z u q k. h.tables_hold l z u (ap (λ o. slice_get o l.object) (sym objects) ∙ q) k;
-      frames = subst (λ o. FramesStand D a.functions (called_in g.code) o) (sym objects) h.frames;
-      kept = λ k q. (let z = a.high k q in frame k (omega arith) (omega arith) (kept_high k q z) (λ l. omega arith)) ∙ h.kept k q;
+          (h.leaves_hold l z u (ap (λ o. slice_get o l.object) (sym (same_objects st m.state memory)) ∙ q) k);
+      tables_hold = λ l z u q k. h.tables_hold l z u (ap (λ o. slice_get o l.object) (sym (same_objects st m.state memory)) ∙ q) k;
+      frames = subst (λ o. FramesStand D a.functions (called_in g.code) o) (sym (same_objects st m.state memory)) h.frames;
+      kept = λ k byte q u. (let z = a.high k q in frame k (omega arith) (omega arith) (kept_high k q z) (λ l. omega arith))
+          ∙ h.kept k byte q (ap (λ o. standing_by p e place entry_of w was o k) (sym (same_groups st m.state memory)) ∙ u);
       bytes = numbers;
       left = λ port. kept_left w.inputs m.state v v1 quiet.inputs h.left port
           ∙ ap (λ es. drop (reads_of port es) (w.inputs port)) (sym events);
@@ -136,10 +138,11 @@ module _ (p : PlainIrProgram) (e : Env) (place entry_of : ℕ → ℕ) (w : Worl
 
     -- the stack pointer is where it was
     pub pointer_is : (need : Need) (m : Mach) (v : View)
-        → Matches D e w.inputs slots bs place aside was a.functions (called_in g.code) need m v → sp v ≡ s
+        → Matches D e w.inputs slots bs place aside (standing_by p e place entry_of w was) a.functions (called_in g.code) need m v
+        → sp v ≡ s
     pointer_is need m v h =
-        let low = h.kept 93 a.pointer_low in
-        let high = h.kept 94 a.pointer_high in
+        let low = h.kept 93 (was 93) a.pointer_low (low_stands p e place entry_of w was m.state.groups 93 (omega arith)) in
+        let high = h.kept 94 (was 94) a.pointer_high (low_stands p e place entry_of w was m.state.groups 94 (omega arith)) in
         rw (low, high) a.pointer
 
     -- RET

@@ -1,6 +1,6 @@
 -- A layout, the bytes that are set aside for functions that wait, and the inputs, which are bytes.
 use Rattle.std.proofs.Common.{◌≡◌, ◌≢◌, ℕ, ◌+◌, ◌-◌, ◌<◌, ◌≤◌, Bool, true, List, ◌∷◌, Some, slice_index, sym, subst}
-use Rattle.std.proofs.Common.{◌⊎◌, ⊎_elim, Contains}
+use Rattle.std.proofs.Common.{◌⊎◌, ⊎_elim, Contains, Option}
 use Rattle.std.specs.Prelude.{◌==◌, slice_get}
 use Rattle.std.proofs.lemmas.Bool.{or_right}
 use Rattle.std.specs.List.{AllByRecursion}
@@ -14,7 +14,7 @@ use Rattle.ec_core.specs.Laws.{BytesAreTakenInOrder}
 use Rattle.ec_core.specs.Layout.{AreStructs, size_of_type}
 use Rattle.ec_core.specs.Plain.{PlainStorage, static, local, param, register, PlainObject, PlainProgram}
 use Rattle.ec_core.specs.Valid.{IsObject}
-use Rattle.ec_core.specs.State.{Inputs}
+use Rattle.ec_core.specs.State.{Inputs, GroupStates, State, chosen}
 use Rattle.ec_ir.specs.declared.operations.Temp.{Temp}
 use Rattle.ec_ir.specs.Meaning.{is_among, is_kept}
 use Rattle.ec_ir.specs.Operations.{PlainIrProgram}
@@ -109,7 +109,9 @@ pub record Setting (p : PlainProgram) (e : Env) (slots : ℕ) (home : Temp → L
   pub chained : (fs : List ℕ) → AreFrames active called fs → (f g : ℕ) → is_among fs f ≡ true → is_among fs g ≡ true → Chained program f g
   pub layout : Layout p (CanBeLiveTogether program) e slots home base place
   pub aside : ℕ → Bool
+  -- what stood at the bytes that are set aside, and what has to stand there
   pub was : ℕ → ℕ
+  pub stands : GroupStates → ℕ → Option ℕ
   pub high : (k : ℕ) → aside k ≡ true → 32 ≤ k
   pub temps_aside : (t : Temp) (k : ℕ) → HasHome slots t → aside k ≡ true → Outside (base t) t.bytes k
   pub inputs : Inputs
@@ -117,10 +119,16 @@ pub record Setting (p : PlainProgram) (e : Env) (slots : ℕ) (home : Temp → L
   pub taken : BytesAreTakenInOrder
   -- the work bytes of operations with a fixed-point type, and what the code of these does
   pub work : ℕ
-  pub work_stands : WorkStands p e place work
+  pub cells : ℕ
+  pub work_stands : WorkStands cells p e place work
   pub temps_work : (t : Temp) → HasHome slots t → Apart (base t) t.bytes work 64
   pub leaves_work : (l : ObjectLeaf p DataBank) (j : ℕ) → j < l.bytes → Outside work 64 (place l.object + l.at + j)
   pub work_aside : (k : ℕ) → aside k ≡ true → Outside work 64 k
+  -- behind them are the bytes of cells, which are set aside. What has to stand there is what the state has for the cells, and
+  -- anywhere else what stood there
+  pub cells_aside : (c : ℕ) → c < cells → aside (work + 64 + c) ≡ true
+  pub cells_stand : (c : ℕ) (s : State) → c < cells → stands s.groups (work + 64 + c) ≡ chosen c s
+  pub others_stand : (k : ℕ) (groups : GroupStates) → Outside (work + 64) cells k → stands groups k ≡ Some (was k)
   pub fixed : FixedLaws
   pub routines : RoutineLaws
   pub pointers : PointerLaws

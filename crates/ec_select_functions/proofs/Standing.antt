@@ -259,8 +259,8 @@ item_of P [] (suc k) x all q = absurd (cc)
 item_of P (z ∷ xs) zero x all q = (let g : Some z ≡ Some x = q in let i : z ≡ x = cc in subst P i all.0)
 item_of P (z ∷ xs) (suc k) x all q = item_of P xs k x all.1 q
 
-module _ (fill : LeavesFillTheirTypes) (p : PlainIrProgram) (valid : ValidIr p) (e : Env) (slots : ℕ) (h : Homes) (scratch : ℕ)
-    (place : ℕ → ℕ) (s : ScratchStands e slots h scratch) (o : ObjectsStand p e slots scratch place) where
+module _ (fill : LeavesFillTheirTypes) (cells : ℕ) (p : PlainIrProgram) (valid : ValidIr cells p) (e : Env) (slots : ℕ) (h : Homes)
+    (scratch : ℕ) (place : ℕ → ℕ) (s : ScratchStands e slots h scratch) (o : ObjectsStand p e slots scratch place) where
   -- a leaf lies in its object
   pub record Lies (l : ObjectLeaf (data_of p) DataBank) : Type 0 where
     pub some : 1 ≤ l.bytes

@@ -2,7 +2,7 @@
 use Rattle.std.proofs.Common.{◌≡◌, ◌≢◌, ℕ, zero, suc, ◌+◌, ◌-◌, ◌*◌, ◌%◌, ◌^◌, ◌<◌, ◌≤◌, min, Bool, true, false, not, ℤ}
 use Rattle.std.proofs.Common.{pos, ◌*ℤ◌, unsigned_abs, Ok, Err, List, [], ◌∷◌, ◌++◌, ◌&&◌, ◌||◌, ⊎_elim, refl, sym}
 use Rattle.std.proofs.Common.{ap, ◌∙◌, subst, arith, ◌/◌, Some, None, Option, append_assoc}
-use Rattle.std.specs.Prelude.{max, Result, ◌==◌, nat_le, if◌then◌else◌, option_map, slice_get, slice_index, Contains, IsSomeAnd, ◌⊎◌}
+use Rattle.std.specs.Prelude.{max, Result, ◌==◌, nat_le, if◌then◌else◌, slice_get, slice_index, Contains, IsSomeAnd, ◌⊎◌}
 use Rattle.std.proofs.lemmas.List.Elements.{Contains-append_right}
 use Rattle.ec_ir.specs.Valid.{called_in}
 use Rattle.std.specs.Int.{from_bool}
@@ -40,7 +40,7 @@ use Rattle.ec_core.specs.declared.values.Value.{Value}
 use Rattle.ec_core.specs.declared.values.Value.TheVariants.{Number}
 use Rattle.ec_core.specs.Accesses.{operand_of}
 use Rattle.ec_core.specs.Layout.{scalar_size}
-use Rattle.ec_core.specs.declared.values.Undefined.TheVariants.{ShiftCount, ZeroDivisor, BufferIndex}
+use Rattle.ec_core.specs.declared.values.Undefined.TheVariants.{ShiftCount, ZeroDivisor}
 use Rattle.ec_core.specs.Integers.{wrapped, is_count}
 use Rattle.ec_core.specs.declared.values.Undefined.{Undefined}
 use Rattle.ec_core.specs.ArithmeticValues.{arithmetic_value, unary_value, conversion_value}
@@ -48,16 +48,14 @@ use Rattle.ec_core.specs.Operators.{Operand, same_type, unary_result, binary_res
 use Rattle.ec_core.specs.Operators.{number_type}
 use Rattle.ec_core.specs.Words.{widest, operation_words}
 use Rattle.ec_core.specs.Plain.{PlainType, integer, fixed, pointer, array, struct, void, PlainProgram}
-use Rattle.ec_core.specs.Meaning.{state_of}
-use Rattle.ec_core.specs.PortAccesses.{number_read, bytes_read, bytes_written}
-use Rattle.ec_core.specs.State.{State, worked, Outcome, got, undefined, next, given}
+use Rattle.ec_core.specs.State.{State, worked, Outcome, got, next, given}
 use Rattle.ec_ir.specs.declared.operations.Temp.{Temp}
 use Rattle.ec_ir.specs.Costs.{op_steps, binary_words, conversion_words, is_bitwise, is_integer}
 use Rattle.ec_ir.specs.Meaning.{Mach, machine, held_as, find}
-use Rattle.ec_ir.specs.Meaning.{jump_to, held_number, port_read, port_written, Frame as Call}
+use Rattle.ec_ir.specs.Meaning.{jump_to, Frame as Call}
 use Rattle.ec_ir.specs.Operations.{PlainIr, constant, copy, load_object, store_object, binary_op, conversion, label}
 use Rattle.ec_ir.specs.Operations.{jump, branch_zero, return_from, address, field, load_at, store_at, unary_op}
-use Rattle.ec_ir.specs.Operations.{call_function, port_in, port_out, PlainIrFunction}
+use Rattle.ec_ir.specs.Operations.{call_function, port_in, port_out, load_cell, store_cell, cell_port, PlainIrFunction}
 use Rattle.ec_ir.specs.Temporaries.{Content, bits, points, number_of_bytes, low_bytes, Temps, content_of, value_in}
 use Rattle.ec_ir.specs.Temporaries.{Held, with_content, with_temp, is_zero}
 use Rattle.ec_select_operations.specs.Homes.{HasHome}
@@ -91,7 +89,7 @@ use Rattle.ec_select_operations.specs.Code.{op_code, own_code, called_code, link
 use Rattle.ec_select_operations.specs.Code.{combined_code, binary_code, turn_code, unary_code, move_code}
 use Rattle.ec_select_operations.specs.Code.{compared_code, counted_code, taking_code, changed_by_code, integer_binary as integer_code}
 use Rattle.ec_select_operations.specs.Code.{conversion_code, turned_code, shift_of, shifted_bytes, long_code}
-use Rattle.ec_select_functions.specs.Covered.{IsCovered, IsBinary, IsUnary, AreConverted, IsPort}
+use Rattle.ec_select_functions.specs.Covered.{IsCovered, IsBinary, IsUnary, AreConverted}
 use Rattle.ec_select_functions.specs.Covered.{AreIntegers, AreCompared}
 use Rattle.ec_select_functions.specs.Covered.{IsFixedBinary, IsFixedUnary, IsFixedConversion}
 use Rattle.ec_select_functions.specs.Covered.{IsPointerBinary, IsPointerConversion}
@@ -117,10 +115,9 @@ use Rattle.ec_select_operations.specs.Needs.{takes_number, number_taken, compare
 use Rattle.ec_select_operations.specs.Pointers.{is_pointer, address_number, IsPointerIn}
 use Rattle.ec_select_operations.specs.Code.{pointer_binary, pointer_conversion}
 use Rattle.ec_select_operations.specs.Places.{IsNumeric}
-use Rattle.ec_select_functions.specs.Kept.{are_on_ports}
 use Rattle.ec_select_operations.specs.Needs.{Need, Facts, facts_of, before, needs}
 use Rattle.ec_select_operations.specs.Needs.{IsLiveBy, wanted, at_least, without, either, returned_need}
-use Rattle.ec_select_operations.specs.Needs.{index_needed, all_or_none, operand_wanted, right_wanted}
+use Rattle.ec_select_operations.specs.Needs.{all_or_none, operand_wanted, right_wanted}
 use Rattle.ec_select_operations.specs.Places.{IsClear}
 use Rattle.ec_select_functions.proofs.Setting.{Setting}
 use Rattle.ec_select_functions.specs.Relation.{Matches, HoldsContent}
@@ -148,16 +145,12 @@ use Rattle.ec_select_functions.proofs.Carried.{brought_passes}
 use Rattle.ec_select_functions.proofs.Checked.{is_known, checked_on, performed, checked}
 use Rattle.ec_select_functions.proofs.Negated.{negated_passes}
 use Rattle.ec_select_functions.proofs.Placed.{binary_roomy, KnownCount, placed_passes}
-use Rattle.ec_select_functions.proofs.Follow.{with_ports, Follows, after, from_held, from_number}
+use Rattle.ec_select_functions.proofs.Follow.{Follows, after, from_held, from_number}
 use Rattle.ec_select_functions.proofs.Match.{kept_left, wanted_most, read_first, whole, at_width, weaker, written}
 use Rattle.ec_select_functions.proofs.Match.{written_wide}
 use Rattle.ec_select_functions.proofs.Match.{same_content, same_leaf, least_here, least_other, without_other}
-use Rattle.ec_select_functions.proofs.Fronts.{run_adds}
-use Rattle.ec_select_functions.proofs.PortForms.{in_straight, in_steps, out_straight, out_steps}
-use Rattle.ec_select_functions.proofs.PortMatch.{needs_index, needs_index_too, index_other, in_matches, out_matches}
-use Rattle.ec_select_functions.proofs.PortMatch.{points as points_at}
-use Rattle.ec_select_functions.proofs.PortPoints.{IsElement, from_bytes, from_element}
-use Rattle.ec_select_functions.proofs.PortStates.{ports_before, kinds_read, kinds_written, read_work, written_work}
+use Rattle.ec_select_functions.proofs.PortSteps.{in_follows, out_follows, load_cell_follows, store_cell_follows}
+use Rattle.ec_select_functions.proofs.PortSteps.{cell_in_follows, cell_out_follows}
 use Rattle.ec_select_functions.proofs.Moves.{Frame, Wide, widened, wider_frame, work_outside, row_kept, narrower}
 use Rattle.ec_select_functions.proofs.Moves.{stands_less, move_straight, move_steps}
 use Rattle.ec_select_functions.proofs.Moves.{move_holds, row_value}
@@ -184,7 +177,7 @@ module _ (p : PlainProgram) (functions : List PlainIrFunction) (e : Env) (slots 
   at = facts_of labels all
 
   abbrev pub M : Need → Mach → View → Type 0
-  M need m v = Matches p e y.inputs slots base place y.aside y.was y.active y.called need m v
+  M need m v = Matches p e y.inputs slots base place y.aside y.stands y.active y.called need m v
 
   abbrev pub G : (n w pc : ℕ) → View → Outcome Value → Type 0
   G n w pc v o = Follows p place e n w pc v o
@@ -2973,134 +2966,6 @@ module _ (p : PlainProgram) (functions : List PlainIrFunction) (e : Env) (slots 
       i)
       covered
 
-  -- ---- ports
-
-  -- the bytes of a port have been accessed where the run goes on, so they are ports of the machine
-  on_machine : (n : ℕ) (rest : List PlainIr) (temps : Temps) (s : State) → are_on_ports e (state_of (R n rest (machine temps s))).events
-      ≡ true
-      → are_on_ports e s.events ≡ true
-  on_machine n rest temps s q =
-      ports_before e s (state_of (R n rest (machine temps s))) (run_adds functions p y.inputs n all stack rest (machine temps s)).events q
-
-  some_width : (width : ℕ) → (width ≡ 1) ⊎ ((width ≡ 2) ⊎ (width ≡ 4)) → 1 ≤ width
-  some_width width cases =
-      ⊎_elim (λ (q : width ≡ 1). omega arith)
-      (λ (r : (width ≡ 2) ⊎ (width ≡ 4)). ⊎_elim (λ (q : width ≡ 2). omega arith) (λ (q : width ≡ 4). omega arith) r) cases
-
-  -- how a read and a write go on
-  abbrev in_on : ℕ → List PlainIr → Temp → Mach → Value → State → Outcome Value
-  in_on n rest t m x s1 = R n rest (machine (with_temp t x m.temps) s1)
-
-  pub in_follows : (t : Temp) (port : ℕ) (index : Option Temp) (width : ℕ) (rest : List PlainIr) (n pc : ℕ) (m : Mach)
-      (v : View) → IsPort slots t port index width → HasAt e (own_items (port_in t port index width) rest) pc end
-      → M (index_needed index (without t.at (needs at rest))) m v → Rest n rest
-      → G (suc n) m.state.work pc v (P n (port_in t port index width) rest m)
-  in_follows t port index width rest n pc m v is stands h f =
-      from_element p place e index port width m.temps s (λ a s1. next (port_read y.inputs a width s1) (in_on n rest t m))
-      (suc n) m.state.work pc v
-      (λ a element. by_place a element (nat_le (a + width) 256) refl)
-    where
-      s : State
-      s = begun (port_in t port index width) m
-
-      some : 1 ≤ width
-      some = some_width width is.one_two_four
-
-      m1 : ℕ → Mach
-      m1 a =
-          machine (with_content t (bits (low_bytes t.bytes (pos (number_read y.inputs width a s)))) m.temps) (bytes_read y.inputs width a s)
-
-      found : (a : ℕ) → IsElement index port width a m.temps → a + width ≤ 256
-          → G (suc n) m.state.work pc v (R n rest (m1 a))
-      found a element below =
-          with_ports p place e (suc n) m.state.work pc v (R n rest (m1 a))
-          (λ ports.
-          let need0 = index_needed index (without t.at (needs at rest)) in
-          let point =
-          points_at p e slots home base place y index port width a need0 m v is.index_has
-          (needs_index p e slots home base place y index (without t.at (needs at rest))) is.one_two_four below some element h in
-          let kinds = kinds_read e y.inputs width a s (on_machine n rest (m1 a).temps (m1 a).state ports) in
-          let more : (u : ℕ) → u ≢ t.at → needs at rest u ≤ need0 u =
-          λ u d.
-          (let x = without_other t.at u (needs at rest) d in let z = index_other p e slots home base place y index
-          (without t.at (needs at rest)) u in omega (arith, x, z)) in
-          let matches =
-          in_matches p e slots home base place y index t port width a (op_steps (port_in t port index width))
-          (needs at rest) need0 m v is.number is.within some below kinds more h point in
-          let take = in_steps (option_map home index) (home t) port width (wanted (needs at rest) t) in
-          let most = wanted_most (needs at rest) t in
-          let work = read_work y.inputs width a s in
-          passes (port_in t port index width) rest n (suc n) m.state.work (m1 a).state.work pc v (R n rest (m1 a)) stands
-          (in_straight (option_map home index) (home t) port width (wanted (needs at rest) t)) (omega (arith, take.0, some))
-          (omega (arith, take.1, most, some, work))
-          (λ mid u. f mid (m1 a) _ u matches))
-
-      by_place : (a : ℕ) → IsElement index port width a m.temps → (b : Bool) → nat_le (a + width) 256 ≡ b
-          → G (suc n) m.state.work pc v
-          (next
-          (if b then got (Number (pos (number_read y.inputs width a s))) (bytes_read y.inputs width a s) else undefined BufferIndex s)
-          (in_on n rest t m))
-      by_place a element true q = found a element (leb-true (a + width) 256 q)
-      by_place a element false q = tt
-
-  abbrev out_on : ℕ → List PlainIr → Mach → Value → State → Outcome Value
-  out_on n rest m x s1 = R n rest (machine m.temps s1)
-
-  pub out_follows : (t : Temp) (port : ℕ) (index : Option Temp) (width : ℕ) (rest : List PlainIr) (n pc : ℕ) (m : Mach)
-      (v : View) → IsPort slots t port index width → HasAt e (own_items (port_out t port index width) rest) pc end
-      → M (at_least t.at width (index_needed index (needs at rest))) m v → Rest n rest
-      → G (suc n) m.state.work pc v (P n (port_out t port index width) rest m)
-  out_follows t port index width rest n pc m v is stands h f =
-      from_element p place e index port width m.temps s
-      (λ a s1. next (held_number t m.temps s1) (λ low s2. next (port_written a width low s2) (out_on n rest m))) (suc n) m.state.work pc v
-      (λ a element. from_bytes p place e t m.temps s (λ low s2. next (port_written a width low s2) (out_on n rest m))
-      (suc n) m.state.work pc v
-      (λ low holds. by_place a element low holds (nat_le (a + width) 256) refl))
-    where
-      s : State
-      s = begun (port_out t port index width) m
-
-      some : 1 ≤ width
-      some = some_width width is.one_two_four
-
-      m1 : (a low : ℕ) → Mach
-      m1 a low = machine m.temps (bytes_written width a low s)
-
-      found : (a : ℕ) → IsElement index port width a m.temps → (low : ℕ)
-          → m.temps t.at ≡ Some (record { bytes = t.bytes; content = bits low }) → a + width ≤ 256
-          → G (suc n) m.state.work pc v (R n rest (m1 a low))
-      found a element low holds below =
-          with_ports p place e (suc n) m.state.work pc v (R n rest (m1 a low))
-          (λ ports.
-          let need0 = at_least t.at width (index_needed index (needs at rest)) in
-          let needed =
-          needs_index_too p e slots home base place y index t.at width (index_needed index (needs at rest))
-          (needs_index p e slots home base place y index (needs at rest)) in
-          let point =
-          points_at p e slots home base place y index port width a need0 m v is.index_has needed is.one_two_four below some element h in
-          let kinds = kinds_written e width a low s (on_machine n rest m.temps (m1 a low).state ports) in
-          let less : (u : ℕ) → needs at rest u ≤ need0 u =
-          λ u.
-          (let x = least_other t.at width u
-          (index_needed index (needs at rest)) in let z = index_other p e slots home base place y index (needs at rest) u in omega
-          (arith, x, z)) in
-          let matches =
-          out_matches p e slots home base place y index t port width a (op_steps (port_out t port index width)) low
-          (needs at rest) need0 m v is.number is.within below kinds
-          (least_here t.at width (index_needed index (needs at rest))) less holds h point in
-          let take = out_steps (option_map home index) (home t) port width in
-          let work = written_work width a low s in
-          passes (port_out t port index width) rest n (suc n) m.state.work (m1 a low).state.work pc v (R n rest (m1 a low)) stands
-          (out_straight (option_map home index) (home t) port width) (omega (arith, take.0, some)) (omega (arith, take.1, some, work))
-          (λ mid u. f mid (m1 a low) _ u matches))
-
-      by_place : (a : ℕ) → IsElement index port width a m.temps → (low : ℕ)
-          → m.temps t.at ≡ Some (record { bytes = t.bytes; content = bits low }) → (b : Bool) → nat_le (a + width) 256 ≡ b
-          → G (suc n) m.state.work pc v
-          (next (if b then got (Number (pos low)) (bytes_written width a low s) else undefined BufferIndex s) (out_on n rest m))
-      by_place a element low holds true q = found a element low holds (leb-true (a + width) 256 q)
-      by_place a element low holds false q = tt
-
   -- ---- jumps
 
   -- an operation that can have no routine has its code at its use, also behind other code
@@ -3129,7 +2994,7 @@ module _ (p : PlainProgram) (functions : List PlainIrFunction) (e : Env) (slots 
 
   -- operations of which the first one may have been told something
   record Walked (told : Option Told) (pc : ℕ) (rest : List PlainIr) : Type 0 where
-    covered : AreReady p e results me y.called slots link rest
+    covered : AreReady p e y.cells results me y.called slots link rest
     live : IsLiveBy at rest
     inside : (b : ℕ) → Contains (called_in rest) b → Contains (called_in all) b
     here : IsRunning p functions e slots home base place y labels all end results me link stack
@@ -3233,6 +3098,15 @@ module _ (p : PlainProgram) (functions : List PlainIrFunction) (e : Env) (slots 
       let s =
       onward told (port_out t port index width) ops pc r.stands in found None ops s.0 l rest
       (record { covered = r.covered.1; live = r.live; inside = r.inside; here = r.here; stands = s.1 }) f
+  found told (load_cell t cell ∷ ops) pc l rest r f =
+      let s = onward told (load_cell t cell) ops pc r.stands in
+      found None ops s.0 l rest (record { covered = r.covered.1; live = r.live; inside = r.inside; here = r.here; stands = s.1 }) f
+  found told (store_cell cell t ∷ ops) pc l rest r f =
+      let s = onward told (store_cell cell t) ops pc r.stands in
+      found None ops s.0 l rest (record { covered = r.covered.1; live = r.live; inside = r.inside; here = r.here; stands = s.1 }) f
+  found told (cell_port read t cell offset index width ∷ ops) pc l rest r f =
+      let s = onward told (cell_port read t cell offset index width) ops pc r.stands in
+      found None ops s.0 l rest (record { covered = r.covered.1; live = r.live; inside = r.inside; here = r.here; stands = s.1 }) f
 
   -- what is shown from any operation on
   abbrev pub Onward : ℕ → Type 0
@@ -3311,7 +3185,7 @@ module _ (p : PlainProgram) (functions : List PlainIrFunction) (e : Env) (slots 
             l.bytes u (λ j r. k.same (place l.object + l.at + j) (omega arith) (omega arith)) (h.leaves_hold l x u q z));
         tables_hold = h.tables_hold;
         frames = h.frames;
-        kept = λ i q. (let u = y.high i q in k.same i (omega arith) (omega arith)) ∙ h.kept i q;
+        kept = λ i byte q r. (let u = y.high i q in k.same i (omega arith) (omega arith)) ∙ h.kept i byte q r;
         bytes = λ i u. rw (k.same i (omega arith) (omega arith)) (h.bytes i u);
         left = kept_left y.inputs m.state v w k.inputs h.left;
         seen = k.seen ∙ h.seen;
@@ -3356,7 +3230,7 @@ module _ (p : PlainProgram) (functions : List PlainIrFunction) (e : Env) (slots 
       ne_eqb x 0 (λ z. absurd (omega (arith, whole, low, z)))
 
   pub branch_follows : (start l : ℕ) (t : Temp) (rest : List PlainIr) (n pc : ℕ) (m : Mach) (v : View)
-      → Ready start all → AreReady p e results me y.called slots link rest → IsLiveBy at rest
+      → Ready start all → AreReady p e y.cells results me y.called slots link rest → IsLiveBy at rest
       → ((b : ℕ) → Contains (called_in rest) b → Contains (called_in all) b) → HasHome slots t
       → HasAt e (own_items (branch_zero t l) rest) pc end
       → M (at_least t.at t.bytes (either (needs at rest) (labels l))) m v → Onward n
@@ -3466,7 +3340,7 @@ module _ (p : PlainProgram) (functions : List PlainIrFunction) (e : Env) (slots 
 
   -- the comparison of two temporaries, and the branch behind it
   told_passes : (start l : ℕ) (r : Relation) (s : Bool) (t x1 x2 : Temp) (bytes x z c : ℕ) (rest : List PlainIr) (n pc : ℕ)
-      (need0 : Need) (m : Mach) (v : View) → Ready start all → AreReady p e results me y.called slots link rest → IsLiveBy at rest
+      (need0 : Need) (m : Mach) (v : View) → Ready start all → AreReady p e y.cells results me y.called slots link rest → IsLiveBy at rest
       → ((b : ℕ) → Contains (called_in rest) b → Contains (called_in all) b) → HasHome slots t → HasHome slots x1
       → HasHome slots x2 → x1.bytes ≡ suc bytes → x2.bytes ≡ suc bytes → suc bytes ≤ 16
       → value v.at (base x1) (suc bytes) ≡ x → value v.at (base x2) (suc bytes) ≡ z → 102 ≤ c
@@ -3512,7 +3386,7 @@ module _ (p : PlainProgram) (functions : List PlainIrFunction) (e : Env) (slots 
 
   -- the same with a number
   told_number_passes : (start l : ℕ) (r : Relation) (s : Bool) (t x1 : Temp) (bytes x z number c : ℕ) (rest : List PlainIr)
-      (n pc : ℕ) (need0 : Need) (m : Mach) (v : View) → Ready start all → AreReady p e results me y.called slots link rest
+      (n pc : ℕ) (need0 : Need) (m : Mach) (v : View) → Ready start all → AreReady p e y.cells results me y.called slots link rest
       → IsLiveBy at rest → ((b : ℕ) → Contains (called_in rest) b → Contains (called_in all) b) → HasHome slots t
       → HasHome slots x1 → suc bytes ≤ x1.bytes → value v.at (base x1) (suc bytes) ≡ x → number % 256 ^ suc bytes ≡ z → 102 ≤ c
       → wanted (either (needs at rest) (labels l)) t ≡ 0
@@ -3559,7 +3433,7 @@ module _ (p : PlainProgram) (functions : List PlainIrFunction) (e : Env) (slots 
 
   pub told_follows : (start l : ℕ) (op : BinOp) (r : Relation) (exchanged : Bool) → family_of op ≡ Compared r exchanged
       → (s : Bool) (ty : PlainType) (mode : Mode) (t a b : Temp) (rest : List PlainIr) (n pc : ℕ) (m : Mach) (v : View)
-      → Ready start all → AreReady p e results me y.called slots link rest → IsLiveBy at rest
+      → Ready start all → AreReady p e y.cells results me y.called slots link rest → IsLiveBy at rest
       → ((c : ℕ) → Contains (called_in rest) c → Contains (called_in all) c) → HasHome slots t → HasHome slots a
       → HasHome slots b → b.bytes ≡ a.bytes → wanted (either (needs at rest) (labels l)) t ≡ 0
       → HasAt e (flag_code (Compared r exchanged) (home a) (home b) a.bytes ++ (unless_code r s (link.label_of l) ++ items rest)) pc end
@@ -3637,7 +3511,7 @@ module _ (p : PlainProgram) (functions : List PlainIrFunction) (e : Env) (slots 
   -- the same with a known number
   told_number_follows : (start l : ℕ) (op : BinOp) (r : Relation) → family_of op ≡ Compared r false
       → (s sign : Bool) (size : ℕ) (ty : PlainType) (mode : Mode) (t a b : Temp) (k : ℤ) (rest : List PlainIr) (n pc : ℕ) (m : Mach)
-      (v : View) → Ready start all → AreReady p e results me y.called slots link rest → IsLiveBy at rest
+      (v : View) → Ready start all → AreReady p e y.cells results me y.called slots link rest → IsLiveBy at rest
       → ((c : ℕ) → Contains (called_in rest) c → Contains (called_in all) c) → HasHome slots t → HasHome slots a
       → HasHome slots b → b.bytes ≡ a.bytes → AreComparedBy a b k s size sign m → wanted (either (needs at rest) (labels l)) t ≡ 0
       → HasAt e (compared_with_code (home a) (low_bytes 16 k) size ++ (unless_code r sign (link.label_of l) ++ items rest)) pc end
@@ -3737,7 +3611,7 @@ module _ (p : PlainProgram) (functions : List PlainIrFunction) (e : Env) (slots 
 
   -- operations that are left behind one that computes
   record Behind (rest : List PlainIr) : Type 0 where
-    covered : AreReady p e results me y.called slots link rest
+    covered : AreReady p e y.cells results me y.called slots link rest
     live : IsLiveBy at rest
     inside : (b : ℕ) → Contains (called_in rest) b → Contains (called_in all) b
 
@@ -3789,7 +3663,7 @@ module _ (p : PlainProgram) (functions : List PlainIrFunction) (e : Env) (slots 
           (second_wanted x op b.bytes (wanted (needs at ops) t)) (needs at ops)) m v) wx h
 
       by_family : (x : Family) → family_of op ≡ x → (told : Told) → told_of x (is_signed aty) ≡ Some told → (l : ℕ) (ops : List PlainIr)
-          → IsBinary x slots t a b ty aty bty → AreReady p e results me y.called slots link ops → IsLiveBy at ops
+          → IsBinary x slots t a b ty aty bty → AreReady p e y.cells results me y.called slots link ops → IsLiveBy at ops
           → ((c : ℕ) → Contains (called_in ops) c → Contains (called_in all) c) → wanted (either (needs at ops) (labels l)) t ≡ 0
           → HasAt e (flag_code x (home a) (home b) a.bytes ++ (unless_code told.relation told.signed (link.label_of l) ++ items ops)) pc end
           → M (plain_needs (binary_op op ty mode t a aty b bty) (branch_zero t l ∷ ops)) m v
@@ -4682,10 +4556,30 @@ module _ (p : PlainProgram) (functions : List PlainIrFunction) (e : Env) (slots 
       (record { covered = r.covered.1; live = r.live; inside = r.inside; here = r.here; stands = s }) z)
   performs start ready n go calls returns pc (call_function g t) rest m v r h held more = calls g t pc rest m v r h
   performs start ready n go calls returns pc (port_in t port index width) rest m v r h held more =
-      in_follows t port index width rest n pc m v r.covered.0.0 (at_use (port_in t port index width) rest pc r (λ l none. none)) h
+      in_follows p functions e slots home base place y labels all end results me link stack t port index width rest n pc m v
+      r.covered.0.0 (at_use (port_in t port index width) rest pc r (λ l none. none)) h
       (λ pc1 m1 v1 s z. go pc1 rest m1 v1 (record { covered = r.covered.1; live = r.live; inside = r.inside; here = r.here; stands = s }) z)
   performs start ready n go calls returns pc (port_out t port index width) rest m v r h held more =
-      out_follows t port index width rest n pc m v r.covered.0.0 (at_use (port_out t port index width) rest pc r (λ l none. none)) h
+      out_follows p functions e slots home base place y labels all end results me link stack t port index width rest n pc m v
+      r.covered.0.0 (at_use (port_out t port index width) rest pc r (λ l none. none)) h
+      (λ pc1 m1 v1 s z. go pc1 rest m1 v1 (record { covered = r.covered.1; live = r.live; inside = r.inside; here = r.here; stands = s }) z)
+  performs start ready n go calls returns pc (load_cell t cell) rest m v r h held more =
+      let i = r.covered.0.0 in
+      load_cell_follows p functions e slots home base place y labels all end results me link stack t cell rest n pc m v i.0 i.1
+      r.covered.0.2 (at_use (load_cell t cell) rest pc r (λ l none. none)) h
+      (λ pc1 m1 v1 s z. go pc1 rest m1 v1 (record { covered = r.covered.1; live = r.live; inside = r.inside; here = r.here; stands = s }) z)
+  performs start ready n go calls returns pc (store_cell cell t) rest m v r h held more =
+      let i = r.covered.0.0 in
+      store_cell_follows p functions e slots home base place y labels all end results me link stack t cell rest n pc m v i.0 i.1
+      r.covered.0.2 (at_use (store_cell cell t) rest pc r (λ l none. none)) h
+      (λ pc1 m1 v1 s z. go pc1 rest m1 v1 (record { covered = r.covered.1; live = r.live; inside = r.inside; here = r.here; stands = s }) z)
+  performs start ready n go calls returns pc (cell_port true t cell offset index width) rest m v r h held more =
+      cell_in_follows p functions e slots home base place y labels all end results me link stack t cell offset index width rest n pc m v
+      r.covered.0.0 r.covered.0.2 (at_use (cell_port true t cell offset index width) rest pc r (λ l none. none)) h
+      (λ pc1 m1 v1 s z. go pc1 rest m1 v1 (record { covered = r.covered.1; live = r.live; inside = r.inside; here = r.here; stands = s }) z)
+  performs start ready n go calls returns pc (cell_port false t cell offset index width) rest m v r h held more =
+      cell_out_follows p functions e slots home base place y labels all end results me link stack t cell offset index width rest n pc m v
+      r.covered.0.0 r.covered.0.2 (at_use (cell_port false t cell offset index width) rest pc r (λ l none. none)) h
       (λ pc1 m1 v1 s z. go pc1 rest m1 v1 (record { covered = r.covered.1; live = r.live; inside = r.inside; here = r.here; stands = s }) z)
 
   pub follows : (start : ℕ) → Ready start all → (n : ℕ) → Onward n → CallCase n → ReturnCase n → Onward (suc n)

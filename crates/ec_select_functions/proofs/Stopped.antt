@@ -104,7 +104,7 @@ stopped_result op mode ty aty bty h n x y z same held =
 module _ (p : PlainProgram) (e : Env) (slots : ℕ) (home : Temp → Location) (base : Temp → ℕ) (place : ℕ → ℕ)
     (y : Setting p e slots home base place) where
   abbrev M : Need → Mach → View → Type 0
-  M need m v = Matches p e y.inputs slots base place y.aside y.was y.active y.called need m v
+  M need m v = Matches p e y.inputs slots base place y.aside y.stands y.active y.called need m v
 
   -- bytes in a temporary's place
   stands : (t : Temp) (n : ℕ) → HasHome slots t → t.bytes ≡ n → StandsFrom e (home t) n (base t) Own

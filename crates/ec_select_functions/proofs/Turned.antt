@@ -117,7 +117,7 @@ left_by Invert e p n a v s h = complements_are_right e p n a v s h
 module _ (p : PlainProgram) (e : Env) (slots : ℕ) (home : Temp → Location) (base : Temp → ℕ) (place : ℕ → ℕ)
     (y : Setting p e slots home base place) where
   abbrev U : Need → Mach → View → Type 0
-  U need m v = Matches p e y.inputs slots base place y.aside y.was y.active y.called need m v
+  U need m v = Matches p e y.inputs slots base place y.aside y.stands y.active y.called need m v
 
   pub unary_matches : (op : UnOp) (t a : Temp) (need : Need) (m : Mach) (v : View) (c x : ℕ) → HasHome slots t
       → HasHome slots a → a.bytes ≡ t.bytes → m.temps a.at ≡ Some (record { bytes = a.bytes; content = bits x })

@@ -15,7 +15,7 @@ use Rattle.ec_core.specs.declared.expressions.UnOp.{UnOp}
 use Rattle.ec_ir.specs.declared.operations.Temp.{Temp}
 use Rattle.ec_ir.specs.Operations.{PlainIr, constant, copy, address, field, load_at, store_at, load_object}
 use Rattle.ec_ir.specs.Operations.{store_object, binary_op, unary_op, conversion, label, jump, branch_zero}
-use Rattle.ec_ir.specs.Operations.{call_function, return_from, port_in, port_out}
+use Rattle.ec_ir.specs.Operations.{call_function, return_from, port_in, port_out, load_cell, store_cell, cell_port}
 use Rattle.ec_ir.specs.Valid.{IsParameterOf, HasPointersOf}
 use Rattle.ec_select_operations.specs.declared.families.Family.{Family}
 use Rattle.ec_select_operations.specs.declared.families.Family.TheVariants.{Combined, Compared, Multiplied, Shifted}
@@ -236,6 +236,9 @@ IsCovered p results f called slots (store_at ptr space from) = HasHome slots fro
 IsCovered p results f called slots (call_function g to) = IsResult results g slots to
 IsCovered p results f called slots (port_in to port index width) = IsPort slots to port index width
 IsCovered p results f called slots (port_out from port index width) = IsPort slots from port index width
+IsCovered p results f called slots (load_cell to cell) = HasHome slots to × (to.bytes ≡ 1)
+IsCovered p results f called slots (store_cell cell from) = HasHome slots from × (from.bytes ≡ 1)
+IsCovered p results f called slots (cell_port read t cell offset index width) = IsPort slots t offset index width
 
 abbrev pub AreCovered : PlainProgram → (results : ℕ → ℕ) (f : ℕ) (called : List ℕ) (slots : ℕ) → List PlainIr → Type 0
 AreCovered p results f called slots [] = ⊤

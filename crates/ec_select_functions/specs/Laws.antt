@@ -74,10 +74,10 @@ pub record IsSelected (p : PlainIrProgram) (e : Env) (place : ℕ → ℕ) (entr
   pub callers : (i : PlainIr) (l : ℕ) → Contains g.code i → made.routine_of i ≡ Some l → CanCall i
 
 -- All functions are selected, each with its scratch memory at an address. That of a function stands apart from that of
--- any other which it calls, itself or through others. `results` are the bytes of the results, and `entry_of` are the
--- labels at which functions begin. The objects of the flash bank stand there with their initial values, and RAMPZ where the
--- core has it
-pub record AreSelected (p : PlainIrProgram) (e : Env) (place : ℕ → ℕ) (entry_of : ℕ → ℕ) : Type 0 where
+-- any other which it calls, itself or through others, and from the work bytes and so many cells. `results` are the bytes of
+-- the results, and `entry_of` are the labels at which functions begin. The objects of the flash bank stand there with their
+-- initial values, and RAMPZ where the core has it
+pub record AreSelected (cells : ℕ) (p : PlainIrProgram) (e : Env) (place : ℕ → ℕ) (entry_of : ℕ → ℕ) : Type 0 where
   pub results : ℕ → ℕ
   pub made : ℕ → Made
   pub scratch : ℕ → ℕ
@@ -89,9 +89,9 @@ pub record AreSelected (p : PlainIrProgram) (e : Env) (place : ℕ → ℕ) (ent
   pub tables : TablesStand (data_of p) e place
   pub page : PageStands e
   pub work : ℕ
-  pub work_stands : WorkStands (data_of p) e place work
+  pub work_stands : WorkStands cells (data_of p) e place work
   pub work_apart : (f : ℕ) (g : PlainIrFunction) → slice_get p.functions f ≡ Some g
-      → Apart (scratch f) (16 * g.slots) work 64
+      → Apart (scratch f) (16 * g.slots) work (64 + cells)
 
 -- ---- the stack
 
@@ -149,10 +149,10 @@ pub record ShowsOperations (p : PlainIrProgram) (place : ℕ → ℕ) (e : Env) 
 
 abbrev pub CodeFollowsOperations : Type 0
 CodeFollowsOperations =
-    (p : PlainIrProgram) (place entry_of : ℕ → ℕ) (e : Env) (size low : ℕ) (s : State) (v : View) (inputs : Inputs)
-    → ValidIr p → Fits e size → Shows e size s.core s.mem v → ((port : ℕ) → v.inputs port ≡ inputs port)
-    → HoldsStart (data_of p) place v → AreSelected p e place entry_of → IsEntered p e low (entry_of p.main) s.pc v
-    → ShowsOperations p place e v s inputs
+    (cells : ℕ) (p : PlainIrProgram) (place entry_of : ℕ → ℕ) (e : Env) (size low : ℕ) (s : State) (v : View) (inputs : Inputs)
+    → ValidIr cells p → Fits e size → Shows e size s.core s.mem v → ((port : ℕ) → v.inputs port ≡ inputs port)
+    → HoldsStart (data_of p) place v → AreSelected cells p e place entry_of
+    → IsEntered p e low (entry_of p.main) s.pc v → ShowsOperations p place e v s inputs
 
 -- ---- homes
 
@@ -160,6 +160,6 @@ CodeFollowsOperations =
 -- from one another where they can be live together
 abbrev pub HomesAreLaidOut : Type 0
 HomesAreLaidOut =
-    (p : PlainIrProgram) (e : Env) (slots : ℕ) (h : Homes) (scratch : ℕ) (place : ℕ → ℕ) → ValidIr p
+    (cells : ℕ) (p : PlainIrProgram) (e : Env) (slots : ℕ) (h : Homes) (scratch : ℕ) (place : ℕ → ℕ) → ValidIr cells p
     → ScratchStands e slots h scratch → ObjectsStand p e slots scratch place
     → Layout (data_of p) (CanBeLiveTogether p) e slots (home h) (home_address h scratch) place

@@ -1,5 +1,6 @@
 -- When the machine shows the state of an intermediate program.
-use Rattle.std.specs.Prelude.{◌≡◌, ℕ, zero, suc, ◌+◌, ◌/◌, ◌%◌, ◌^◌, ◌<◌, Bool, true, ℤ, pos, List, [], ◌∷◌, ◌++◌, Some}
+use Rattle.std.specs.Prelude.{◌≡◌, ℕ, zero, suc, ◌+◌, ◌-◌, ◌/◌, ◌%◌, ◌^◌, ◌<◌, nat_le, nat_lt, Bool, true, ◌&&◌, ℤ, pos}
+use Rattle.std.specs.Prelude.{if◌then◌else◌, List, [], ◌∷◌, ◌++◌, Option, Some}
 use Rattle.std.specs.Prelude.{◌⊎◌, Contains, None, option_map, option_and_then, unwrap_or, slice_get, slice_index}
 use Rattle.ec_space.specs.declared.space.Bank.TheVariants.{Flash as FlashBank, Data as DataBank}
 use Rattle.ec_avr.specs.declared.machine.Access.{Access}
@@ -17,7 +18,7 @@ use Rattle.ec_core.specs.Accesses.{leaf_of}
 use Rattle.ec_core.specs.Laws.{left_of}
 use Rattle.ec_core.specs.Layout.{PlainLeaf, scalar_size, leaves_of_type}
 use Rattle.ec_core.specs.Plain.{PlainObject, PlainProgram}
-use Rattle.ec_core.specs.State.{Inputs, State, Event, In, Out, Read, Write, ObjectState}
+use Rattle.ec_core.specs.State.{Inputs, State, Event, In, Out, Read, Write, ObjectState, GroupStates}
 use Rattle.ec_ir.specs.declared.operations.Temp.{Temp}
 use Rattle.ec_ir.specs.Meaning.{is_among, is_kept, Mach}
 use Rattle.ec_ir.specs.Temporaries.{Content, bits, points, Held, low_bytes}
@@ -94,10 +95,18 @@ pub record FramesStand (p : PlainProgram) (active called : List ℕ) (objects : 
   pub valued : (o k : ℕ) (d : PlainObject) (x : ObjectState) (u : Value) → slice_get p.objects o ≡ Some d
       → slice_get objects o ≡ Some x → leaf_of x k ≡ Some u → is_kept functions d.storage ≡ true
 
+-- What has to stand at an address: at that of a cell the base of what its dynamic group is bound to, if it is bound, and at
+-- any other what stood there. The cells are so many bytes from an address on
+abbrev pub standing_byte : (first cells : ℕ) → (was : ℕ → ℕ) → GroupStates → ℕ → Option ℕ
+standing_byte first cells was groups k =
+    if nat_le first k && nat_lt k (first + cells) then unwrap_or (slice_get groups.choices (k - first)) None
+    else Some (was k)
+
 -- what is needed of each temporary stands at its address, and each leaf of an object at its own, in the object's bank.
--- The bytes that are set aside, for functions that wait, are as they were
+-- At the bytes that are set aside, for cells and for functions that wait, there is what has to stand there
 pub record Matches (p : PlainProgram) (e : Env) (inputs : Inputs) (slots : ℕ) (base : Temp → ℕ) (place : ℕ → ℕ)
-    (aside : ℕ → Bool) (was : ℕ → ℕ) (active called : List ℕ) (need : Need) (m : Mach) (v : View) : Type 0 where
+    (aside : ℕ → Bool) (stands : GroupStates → ℕ → Option ℕ) (active called : List ℕ) (need : Need) (m : Mach)
+    (v : View) : Type 0 where
   pub temps_hold : (t : Temp) (h : Held) → HasHome slots t → m.temps t.at ≡ Some h → h.bytes ≡ t.bytes
       → HoldsContent p place v.at (base t) (wanted need t) t.bytes h.content
   pub leaves_hold : (l : ObjectLeaf p DataBank) (x : ObjectState) (u : Value)
@@ -107,7 +116,7 @@ pub record Matches (p : PlainProgram) (e : Env) (inputs : Inputs) (slots : ℕ) 
       → slice_get m.state.objects l.object ≡ Some x → leaf_of x l.number ≡ Some u
       → HoldsLeaf p place (slice_index e.flash) (place l.object + l.at) l.bytes u
   pub frames : FramesStand p active called m.state.objects
-  pub kept : (k : ℕ) → aside k ≡ true → v.at k ≡ was k
+  pub kept : (k byte : ℕ) → aside k ≡ true → stands m.state.groups k ≡ Some byte → v.at k ≡ byte
   pub bytes : HoldsNumbers v
   pub left : AreLeft inputs m.state v
   pub seen : v.seen ≡ accesses p place m.state.events

@@ -33,14 +33,14 @@ pub record ScratchStands (e : Env) (slots : ℕ) (h : Homes) (scratch : ℕ) : T
   pub at : (i : ℕ) → i < 16 * slots → e.address_of h.scratch i ≡ scratch + i
   pub kind : (i : ℕ) → i < 16 * slots → e.kind (scratch + i) ≡ Own
 
--- the work bytes stand at an address, outside registers and ports, are code's own, and stand apart from the objects of
--- the data bank
-pub record WorkStands (p : PlainProgram) (e : Env) (place : ℕ → ℕ) (work : ℕ) : Type 0 where
+-- the 64 work bytes stand at an address, and the bytes of so many cells behind them, outside registers and ports. They are
+-- code's own, and stand apart from the objects of the data bank
+pub record WorkStands (cells : ℕ) (p : PlainProgram) (e : Env) (place : ℕ → ℕ) (work : ℕ) : Type 0 where
   pub high : 256 ≤ work
-  pub at : (i : ℕ) → i < 64 → e.address_of 1280 i ≡ work + i
-  pub kind : (i : ℕ) → i < 64 → e.kind (work + i) ≡ Own
+  pub at : (i : ℕ) → i < 64 + cells → e.address_of 1280 i ≡ work + i
+  pub kind : (i : ℕ) → i < 64 + cells → e.kind (work + i) ≡ Own
   pub objects_apart : (o : ℕ) (d : PlainObject) → slice_get p.objects o ≡ Some d → bank_of d.home ≡ DataBank
-      → Apart (place o) (size_of_type p.structs d.ty) work 64
+      → Apart (place o) (size_of_type p.structs d.ty) work (64 + cells)
 
 -- n bytes of an object stand in memory, where its accesses are noted, and its end has an address too
 pub record StandsInMemory (e : Env) (o n place : ℕ) : Type 0 where

@@ -9,7 +9,7 @@ use Rattle.ec_core.specs.declared.expressions.BinOp.TheVariants.{Shl, Shr}
 use Rattle.ec_ir.specs.declared.operations.Temp.{Temp}
 use Rattle.ec_ir.specs.Operations.{PlainIr, constant, copy, address, field, load_at, store_at, load_object}
 use Rattle.ec_ir.specs.Operations.{store_object, binary_op, unary_op, conversion, label, jump, branch_zero}
-use Rattle.ec_ir.specs.Operations.{call_function, return_from, port_in, port_out}
+use Rattle.ec_ir.specs.Operations.{call_function, return_from, port_in, port_out, load_cell, store_cell, cell_port}
 use Rattle.ec_ir.specs.Valid.{count}
 use Rattle.ec_ir_known.specs.declared.known.RightNumber.{RightNumber}
 use Rattle.ec_select_operations.specs.Needs.{Need, at_least, without, either, wanted, is_of_low_bytes}
@@ -126,6 +126,13 @@ before_more n s at other known (port_in to port index width) a b l k q h =
     more_index s index (without to.at a) (without to.at b) (more_without s to.at a b h)
 before_more n s at other known (port_out from port index width) a b l k q h =
     more_least s from.at width width (index_needed index a) (index_needed index b) (omega arith) (more_index s index a b h)
+before_more n s at other known (load_cell to cell) a b l k q h = more_without s to.at a b h
+before_more n s at other known (store_cell cell from) a b l k q h =
+    more_least s from.at from.bytes from.bytes a b (omega arith) h
+before_more n s at other known (cell_port true to cell offset index width) a b l k q h =
+    more_index s index (without to.at a) (without to.at b) (more_without s to.at a b h)
+before_more n s at other known (cell_port false from cell offset index width) a b l k q h =
+    more_least s from.at width width (index_needed index a) (index_needed index b) (omega arith) (more_index s index a b h)
 
 -- ---- tables that tell all
 
@@ -148,6 +155,9 @@ live_rest at (call_function f to) code h = h
 live_rest at (return_from from) code h = h
 live_rest at (port_in to port index width) code h = h
 live_rest at (port_out from port index width) code h = h
+live_rest at (load_cell to cell) code h = h
+live_rest at (store_cell cell from) code h = h
+live_rest at (cell_port read t cell offset index width) code h = h
 
 pub live_drop : (at : Facts) (n : ℕ) (code : List PlainIr) → IsLiveBy at code → IsLiveBy at (drop n code)
 live_drop at zero code h = h
@@ -179,6 +189,9 @@ live_joined s at (call_function f to) code need h k = tt
 live_joined s at (return_from from) code need h k = tt
 live_joined s at (port_in to port index width) code need h k = tt
 live_joined s at (port_out from port index width) code need h k = tt
+live_joined s at (load_cell to cell) code need h k = tt
+live_joined s at (store_cell cell from) code need h k = tt
+live_joined s at (cell_port read t cell offset index width) code need h k = tt
 
 -- ---- one operation
 

@@ -4,7 +4,7 @@ use Rattle.std.proofs.Common.{drop, set}
 use Rattle.std.proofs.lemmas.List.{drop-set}
 use Rattle.ec_ir.specs.Operations.{PlainIr, constant, copy, address, field, load_at, store_at, load_object}
 use Rattle.ec_ir.specs.Operations.{store_object, binary_op, unary_op, conversion, label, jump, branch_zero}
-use Rattle.ec_ir.specs.Operations.{call_function, return_from, port_in, port_out}
+use Rattle.ec_ir.specs.Operations.{call_function, return_from, port_in, port_out, load_cell, store_cell, cell_port}
 use Rattle.ec_select_operations.specs.Code.{register_places}
 use Rattle.ec_select_operations.specs.Needs.{Need, Facts, needs, without_result}
 use Rattle.ec_select_operations.specs.Written.{row_from, kept_row, kept_rows}
@@ -39,6 +39,9 @@ kept_same s (branch_zero t l) a b h = refl
 kept_same s (return_from from) a b h = refl
 kept_same s (port_in to port index width) a b h = refl
 kept_same s (port_out from port index width) a b h = refl
+kept_same s (load_cell to cell) a b h = refl
+kept_same s (store_cell cell from) a b h = refl
+kept_same s (cell_port read t cell offset index width) a b h = refl
 
 -- one operation more
 pub rows_more : (s : ℕ) (at : Facts) (code rest : List PlainIr) (i : PlainIr) (need : List ℕ) (rows : List (List ℕ))

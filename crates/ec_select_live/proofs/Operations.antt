@@ -8,7 +8,7 @@ use Rattle.ec_core.specs.declared.expressions.BinOp.TheVariants.{Shl, Shr}
 use Rattle.ec_ir.specs.declared.operations.Temp.{Temp}
 use Rattle.ec_ir.specs.Operations.{PlainIr, constant, copy, address, field, load_at, store_at, load_object}
 use Rattle.ec_ir.specs.Operations.{store_object, binary_op, unary_op, conversion, label, jump, branch_zero}
-use Rattle.ec_ir.specs.Operations.{call_function, return_from, port_in, port_out}
+use Rattle.ec_ir.specs.Operations.{call_function, return_from, port_in, port_out, load_cell, store_cell, cell_port}
 use Rattle.ec_select_operations.specs.Code.{result_wanted, wanted_behind}
 use Rattle.ec_ir_known.specs.declared.known.RightNumber.{RightNumber}
 use Rattle.ec_select_operations.specs.Needs.{Need, nothing, at_least, without, either, wanted, is_of_low_bytes}
@@ -95,6 +95,12 @@ before_same s at k (port_in to port index width) a b l h = same_index s index (w
     (same_without s to.at a b h)
 before_same s at k (port_out from port index width) a b l h =
     same_least s from.at width width (index_needed index a) (index_needed index b) refl (same_index s index a b h)
+before_same s at k (load_cell to cell) a b l h = same_without s to.at a b h
+before_same s at k (store_cell cell from) a b l h = same_least s from.at from.bytes from.bytes a b refl h
+before_same s at k (cell_port true to cell offset index width) a b l h =
+    same_index s index (without to.at a) (without to.at b) (same_without s to.at a b h)
+before_same s at k (cell_port false from cell offset index width) a b l h =
+    same_least s from.at width width (index_needed index a) (index_needed index b) refl (same_index s index a b h)
 
 pub result_same : (s : ℕ) (i : PlainIr) (a b : Need) → HasPlaces s i → AreSame s a b
     → result_wanted a i ≡ result_wanted b i
@@ -117,6 +123,10 @@ result_same s (call_function f None) a b l h = refl
 result_same s (call_function f (Some t)) a b l h = same_wanted s t a b l h
 result_same s (port_in to port index width) a b l h = same_wanted s to a b l.0 h
 result_same s (port_out from port index width) a b l h = refl
+result_same s (load_cell to cell) a b l h = refl
+result_same s (store_cell cell from) a b l h = refl
+result_same s (cell_port true to cell offset index width) a b l h = same_wanted s to a b l.0 h
+result_same s (cell_port false from cell offset index width) a b l h = refl
 
 pub behind_same : (s : ℕ) (at : ℕ → Need) (i : PlainIr) (a b : Need) → HasPlaces s i → AreSame s a b
     → wanted_behind at a i ≡ wanted_behind at b i
@@ -233,6 +243,12 @@ before_bounded s at n (call_function f None) a l k h = h
 before_bounded s at n (call_function f (Some t)) a l k h = bounded_without t.at a h
 before_bounded s at n (port_in to port index width) a l k h = bounded_index index (without to.at a) (bounded_without to.at a h)
 before_bounded s at n (port_out from port index width) a l k h =
+    bounded_least from.at width (index_needed index a) l.2 (bounded_index index a h)
+before_bounded s at n (load_cell to cell) a l k h = bounded_without to.at a h
+before_bounded s at n (store_cell cell from) a l k h = bounded_least from.at from.bytes a l.1 h
+before_bounded s at n (cell_port true to cell offset index width) a l k h =
+    bounded_index index (without to.at a) (bounded_without to.at a h)
+before_bounded s at n (cell_port false from cell offset index width) a l k h =
     bounded_least from.at width (index_needed index a) l.2 (bounded_index index a h)
 
 pub needs_bounded : (s : ℕ) (at : ℕ → Need) (all code : List PlainIr) → HavePlaces s code → AreBounded at

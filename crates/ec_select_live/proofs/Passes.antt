@@ -5,7 +5,7 @@ use Rattle.std.specs.Prelude.{if◌then◌else◌, Option, None, ℤ}
 use Rattle.std.proofs.lemmas.List.{drop_more, get_or-map, get_or_past, length-map, drop-set}
 use Rattle.ec_ir.specs.Operations.{PlainIr, constant, copy, address, field, load_at, store_at, load_object}
 use Rattle.ec_ir.specs.Operations.{store_object, binary_op, unary_op, conversion, label, jump, branch_zero}
-use Rattle.ec_ir.specs.Operations.{call_function, return_from, port_in, port_out}
+use Rattle.ec_ir.specs.Operations.{call_function, return_from, port_in, port_out, load_cell, store_cell, cell_port}
 use Rattle.ec_ir_known.specs.declared.known.RightNumber.{RightNumber}
 use Rattle.ec_ir_known.specs.Known.{numbers_left, right_numbers}
 use Rattle.ec_select_operations.specs.Code.{wanted_behind, wanted_bytes}
@@ -65,6 +65,9 @@ live_more s at all (call_function f to) rest need t h j same live = live
 live_more s at all (return_from from) rest need t h j same live = live
 live_more s at all (port_in to port index width) rest need t h j same live = live
 live_more s at all (port_out from port index width) rest need t h j same live = live
+live_more s at all (load_cell to cell) rest need t h j same live = live
+live_more s at all (store_cell cell from) rest need t h j same live = live
+live_more s at all (cell_port read u cell offset index width) rest need t h j same live = live
 
 -- ---- one operation
 

@@ -7,5 +7,5 @@ use Rattle.ec_select_live.specs.Places.{HavePlaces}
 -- the temporaries of a valid function's operations stand at its places
 abbrev pub ValidOperationsHavePlaces : Type 0
 ValidOperationsHavePlaces =
-    (p : PlainIrProgram) (results : Results) (f : ℕ) (g : PlainIrFunction) → ValidIrFunction p results f g
+    (cells : ℕ) (p : PlainIrProgram) (results : Results) (f : ℕ) (g : PlainIrFunction) → ValidIrFunction cells p results f g
     → HavePlaces g.slots g.code

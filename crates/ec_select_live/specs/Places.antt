@@ -4,7 +4,7 @@ use Rattle.std.specs.List.{AllByRecursion}
 use Rattle.ec_ir.specs.declared.operations.Temp.{Temp}
 use Rattle.ec_ir.specs.Operations.{PlainIr, constant, copy, address, field, load_at, store_at, load_object}
 use Rattle.ec_ir.specs.Operations.{store_object, binary_op, unary_op, conversion, label, jump, branch_zero}
-use Rattle.ec_ir.specs.Operations.{call_function, return_from, port_in, port_out}
+use Rattle.ec_ir.specs.Operations.{call_function, return_from, port_in, port_out, load_cell, store_cell, cell_port}
 
 -- one of so many places, and no more bytes than a place has
 abbrev pub HasPlace : ℕ → Temp → Type 0
@@ -34,6 +34,10 @@ HasPlaces slots (jump l) = ⊤
 HasPlaces slots (call_function f to) = MayHavePlace slots to
 HasPlaces slots (port_in to port index width) = HasPlace slots to × MayHavePlace slots index
 HasPlaces slots (port_out from port index width) = HasPlace slots from × MayHavePlace slots index × (width ≤ 16)
+HasPlaces slots (load_cell to cell) = HasPlace slots to
+HasPlaces slots (store_cell cell from) = HasPlace slots from
+HasPlaces slots (cell_port read t cell offset index width) =
+    HasPlace slots t × MayHavePlace slots index × (width ≤ 16)
 
 abbrev pub HavePlaces : ℕ → List PlainIr → Type 0
 HavePlaces slots code = AllByRecursion (HasPlaces slots) code

@@ -143,6 +143,11 @@ fn wanted_behind(table: &LabelNeeds, need: &[u8], i: &Ir) -> u8
         | Ir::Un { to, .. }
         | Ir::Conv { to, .. }
         | Ir::PortIn { to, .. }
+        | Ir::CellPort {
+            read: true,
+            temp: to,
+            ..
+        }
         | Ir::Call(_, Some(to)) => wanted_of(need, *to),
         Ir::BranchZero(t, l) => {
             let place = usize::from(t.at);

@@ -207,5 +207,20 @@ pub fn before(table: &LabelNeeds, known: Option<RightNumber>, i: &Ir, need: &mut
             width,
             ..
         } => at_write(need, *from, *index, *width),
+        Ir::LoadCell(to, _) => forget(need, *to),
+        Ir::StoreCell(_, from) => keep(need, *from, from.bytes),
+        Ir::CellPort {
+            read: true,
+            temp,
+            index,
+            ..
+        } => at_read(need, *temp, *index),
+        Ir::CellPort {
+            read: false,
+            temp,
+            index,
+            width,
+            ..
+        } => at_write(need, *temp, *index, *width),
     }
 }

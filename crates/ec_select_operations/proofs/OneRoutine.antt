@@ -7,7 +7,7 @@ use Rattle.ec_core.specs.Layout.{scalar_size}
 use Rattle.ec_core.specs.Plain.{PlainType}
 use Rattle.ec_ir.specs.Operations.{PlainIr, constant, copy, address, field, load_at, store_at, load_object}
 use Rattle.ec_ir.specs.Operations.{store_object, binary_op, unary_op, conversion, label, jump, branch_zero}
-use Rattle.ec_ir.specs.Operations.{call_function, return_from, port_in, port_out}
+use Rattle.ec_ir.specs.Operations.{call_function, return_from, port_in, port_out, load_cell, store_cell, cell_port}
 use Rattle.ec_shapes.specs.Shapes.{IsTest}
 use Rattle.ec_core_shapes.specs.Shapes.{Form, Shape, unary_form, binary_form, conversion_form, unary_shape, binary_shape}
 use Rattle.ec_core_shapes.specs.Shapes.{conversion_shape, same_shape}
@@ -59,6 +59,9 @@ by_shape (call_function f to) s q = absurd (no_shape s q)
 by_shape (return_from from) s q = absurd (no_shape s q)
 by_shape (port_in to port index width) s q = absurd (no_shape s q)
 by_shape (port_out from port index width) s q = absurd (no_shape s q)
+by_shape (load_cell to cell) s q = absurd (no_shape s q)
+by_shape (store_cell cell from) s q = absurd (no_shape s q)
+by_shape (cell_port read t cell offset index width) s q = absurd (no_shape s q)
 
 pub one_shape_has_one_routine : IsTest same_shape → OneShapeHasOneRoutine
 one_shape_has_one_routine test i j s t p r same =

@@ -1,6 +1,6 @@
 -- Code that is written operation by operation.
 use Rattle.std.proofs.Common.{◌≡◌, ℕ, zero, suc, ◌+◌, ◌-◌, ◌<◌, List, [], ◌∷◌, ◌++◌, Some, length, refl, sym, ap, ◌∙◌}
-use Rattle.std.proofs.Common.{subst, arith, append_assoc, append-nil, map}
+use Rattle.std.proofs.Common.{subst, arith, append_assoc, append-nil, map, true, false}
 use Rattle.std.specs.Prelude.{slice_get, slice_index, get_or, Option, None}
 use Rattle.ec_asm.specs.declared.items.AsmItem.{AsmItem}
 use Rattle.ec_asm.specs.declared.pieces.Location.{Location}
@@ -9,7 +9,7 @@ use Rattle.ec_core.specs.Plain.{PlainProgram}
 use Rattle.ec_ir.specs.declared.operations.Temp.{Temp}
 use Rattle.ec_ir.specs.Operations.{PlainIr, constant, copy, address, field, load_at, store_at, load_object}
 use Rattle.ec_ir.specs.Operations.{store_object, binary_op, unary_op, conversion, label, jump, branch_zero}
-use Rattle.ec_ir.specs.Operations.{call_function, return_from, port_in, port_out}
+use Rattle.ec_ir.specs.Operations.{call_function, return_from, port_in, port_out, load_cell, store_cell, cell_port}
 use Rattle.ec_select_operations.specs.Code.{Linkage, register_places, save_place, restore_place, save_code}
 use Rattle.ec_select_operations.specs.declared.families.Told.{Told}
 use Rattle.ec_select_operations.specs.Code.{restore_code, operation_code, tells, wanted_behind, wanted_bytes, op_code}
@@ -96,6 +96,10 @@ module _ (p : PlainProgram) (home : Temp → Location) (k : Linkage) (routine_of
   same_code at told telling known need (return_from from) = refl
   same_code at told telling known need (port_in to port index width) = refl
   same_code at told telling known need (port_out from port index width) = refl
+  same_code at told telling known need (load_cell to cell) = refl
+  same_code at told telling known need (store_cell cell from) = refl
+  same_code at told telling known need (cell_port true to cell offset index width) = refl
+  same_code at told telling known need (cell_port false from cell offset index width) = refl
 
   -- of what a call of a routine leaves so much is needed
   same_called : (at : ℕ → Need) (need : Need) (i : PlainIr) (l : ℕ)
@@ -118,6 +122,9 @@ module _ (p : PlainProgram) (home : Temp → Location) (k : Linkage) (routine_of
   same_called at need (return_from from) l = refl
   same_called at need (port_in to port index width) l = refl
   same_called at need (port_out from port index width) l = refl
+  same_called at need (load_cell to cell) l = refl
+  same_called at need (store_cell cell from) l = refl
+  same_called at need (cell_port read t cell offset index width) l = refl
 
   same_linked : (at : ℕ → Need) (told telling : Option Told) (known : Option RightNumber) (need : Need) (i : PlainIr)
       → linked_code (routine_of i) (λ l. called_code home l (wanted_behind at need i) i)

@@ -33,7 +33,7 @@ use Rattle.ec_core.specs.Plain.{PlainType, integer, fixed, PlainObject, PlainPro
 use Rattle.ec_ir.specs.declared.operations.Temp.{Temp}
 use Rattle.ec_ir.specs.Operations.{PlainIr, constant, copy, address, field, load_at, store_at, load_object}
 use Rattle.ec_ir.specs.Operations.{store_object, binary_op, unary_op, conversion, label, jump, branch_zero}
-use Rattle.ec_ir.specs.Operations.{call_function, return_from, port_in, port_out}
+use Rattle.ec_ir.specs.Operations.{call_function, return_from, port_in, port_out, load_cell, store_cell, cell_port}
 use Rattle.ec_ir.specs.Temporaries.{low_bytes}
 use Rattle.ec_select_bytes.specs.Values.{constant_code, test_code, extend_code}
 use Rattle.ec_select_bytes.specs.Complements.{complement_code, negation_code}
@@ -76,7 +76,7 @@ use Rattle.ec_select_operations.specs.Needs.{Need, nothing, wanted, wanted_resul
 use Rattle.ec_select_operations.specs.Needs.{Facts, facts_of, needs}
 use Rattle.ec_select_operations.specs.Places.{object_location}
 use Rattle.ec_select_operations.specs.Pointers.{is_pointer, is_into_data, home_of, kept_in, tag_in}
-use Rattle.ec_select_operations.specs.Ports.{in_code, out_code}
+use Rattle.ec_select_operations.specs.Ports.{in_code, out_code, cell_place, cell_in_code, cell_out_code}
 
 abbrev pub same_location : Location → Location → Bool
 same_location (InRegisters a) (InRegisters b) = a == b
@@ -622,6 +622,14 @@ operation_code p home k told telling known bytes kept (port_in to port index wid
     in_code (option_map home index) (home to) port width bytes
 operation_code p home k told telling known bytes kept (port_out from port index width) =
     out_code (option_map home index) (home from) port width
+operation_code p home k told telling known bytes kept (load_cell to cell) =
+    copy_code (cell_place cell) (home to) to.bytes
+operation_code p home k told telling known bytes kept (store_cell cell from) =
+    copy_code (home from) (cell_place cell) from.bytes
+operation_code p home k told telling known bytes kept (cell_port true to cell offset index width) =
+    cell_in_code (option_map home index) (home to) cell offset width bytes
+operation_code p home k told telling known bytes kept (cell_port false from cell offset index width) =
+    cell_out_code (option_map home index) (home from) cell offset width
 
 -- the bytes that are needed of an operation's result
 abbrev pub result_wanted : Need → PlainIr → ℕ
@@ -633,6 +641,7 @@ result_wanted need (unary_op op ty mode to a) = wanted need to
 result_wanted need (conversion to ty mode a aty) = wanted need to
 result_wanted need (call_function f to) = wanted_result need to
 result_wanted need (port_in to port index width) = wanted need to
+result_wanted need (cell_port true to cell offset index width) = wanted need to
 result_wanted need i = 0
 
 -- the bytes that are needed behind an operation: of its result, or of what a branch has tested

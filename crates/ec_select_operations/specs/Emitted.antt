@@ -13,7 +13,7 @@ use Rattle.ec_ir.specs.declared.operations.IrProgram.{IrProgram}
 use Rattle.ec_ir.specs.Operations.{plain_ir_program, data_of}
 use Rattle.ec_ir.specs.Operations.{PlainIr, constant, copy, address, field, load_at, store_at, load_object}
 use Rattle.ec_ir.specs.Operations.{store_object, binary_op, unary_op, conversion, label, jump, branch_zero}
-use Rattle.ec_ir.specs.Operations.{call_function, return_from, port_in, port_out}
+use Rattle.ec_ir.specs.Operations.{call_function, return_from, port_in, port_out, load_cell, store_cell, cell_port}
 use Rattle.ec_ir.specs.declared.operations.Temp.{Temp}
 use Rattle.ec_select_operations.specs.declared.families.Family.{Family}
 use Rattle.ec_select_operations.specs.declared.families.Family.TheVariants.{Combined, Compared, Multiplied, Shifted}
@@ -147,6 +147,11 @@ CanBeEmitted p k wanted (call_function f to) = CanBeTaken wanted to × IsLabel (
 CanBeEmitted p k wanted (port_in to port index width) =
     (wanted ≤ to.bytes) × (1 ≤ width) × (width ≤ to.bytes) × IndexHasByte index
 CanBeEmitted p k wanted (port_out from port index width) = (width ≤ from.bytes) × IndexHasByte index
+CanBeEmitted p k wanted (load_cell to cell) = ⊤
+CanBeEmitted p k wanted (store_cell cell from) = ⊤
+CanBeEmitted p k wanted (cell_port true to cell offset index width) =
+    (wanted ≤ to.bytes) × (1 ≤ width) × (width ≤ to.bytes) × IndexHasByte index
+CanBeEmitted p k wanted (cell_port false from cell offset index width) = (width ≤ from.bytes) × IndexHasByte index
 
 -- so many bytes of the result of a call of a routine, and operands that the routine has room for
 abbrev pub CanBeCalled : ℕ → PlainIr → Type 0

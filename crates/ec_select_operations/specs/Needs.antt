@@ -8,7 +8,7 @@ use Rattle.ec_core.specs.Plain.{PlainType, fixed, pointer}
 use Rattle.ec_ir.specs.declared.operations.Temp.{Temp}
 use Rattle.ec_ir.specs.Operations.{PlainIr, constant, copy, address, field, load_at, store_at, load_object}
 use Rattle.ec_ir.specs.Operations.{store_object, binary_op, unary_op, conversion, label, jump, branch_zero}
-use Rattle.ec_ir.specs.Operations.{call_function, return_from, port_in, port_out}
+use Rattle.ec_ir.specs.Operations.{call_function, return_from, port_in, port_out, load_cell, store_cell, cell_port}
 use Rattle.ec_ir_known.specs.declared.known.RightNumber.{RightNumber}
 use Rattle.ec_ir_known.specs.Known.{known_at, right_number}
 
@@ -169,6 +169,10 @@ before at n (call_function f to) need = without_result to need
 before at n (return_from from) need = returned_need from
 before at n (port_in to port index width) need = index_needed index (without to.at need)
 before at n (port_out from port index width) need = at_least from.at width (index_needed index need)
+before at n (load_cell to cell) need = without to.at need
+before at n (store_cell cell from) need = at_least from.at from.bytes need
+before at n (cell_port true to cell offset index width) need = index_needed index (without to.at need)
+before at n (cell_port false from cell offset index width) need = at_least from.at width (index_needed index need)
 
 -- ---- the code of a function
 

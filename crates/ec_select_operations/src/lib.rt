@@ -23,7 +23,10 @@ mod transfers;
 mod types;
 
 pub use calls::{Linking, call, finish};
-pub use ec_select_bytes::{PortAccess, read_port, write_port};
+pub use ec_select_bytes::{
+    CellAccess, PortAccess, load_cell, read_cell_port, read_port, store_cell, write_cell_port,
+    write_port,
+};
 pub use families::{
     BinaryOperation, Family, Operands, Told, binary, branch, branch_on, combine, convert,
     divide_numbers, move_number, multiply_bytes, operator, shift_by_count, tell, unary,

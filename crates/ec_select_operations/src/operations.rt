@@ -24,7 +24,10 @@ use crate::types::{is_fixed, is_pointer, is_signed, is_whole};
 use ec_asm::{AsmItem, Location, copy};
 use ec_ir::{Ir, IrProgram, Temp};
 use ec_ir_known::RightNumber;
-use ec_select_bytes::{PortAccess, constant, jump, read_port, write_port};
+use ec_select_bytes::{
+    CellAccess, PortAccess, constant, jump, load_cell, read_cell_port, read_port, store_cell,
+    write_cell_port, write_port,
+};
 use ec_select_pointers::store_data;
 use ec_space::{NoMemory, Seq};
 
@@ -257,6 +260,40 @@ pub fn operation(
                 index: index_place(homes, *index),
             };
             write_port(out, of, home(homes, *from))
+        }
+        Ir::LoadCell(to, cell) => load_cell(out, *cell, home(homes, *to), to.bytes),
+        Ir::StoreCell(cell, from) => store_cell(out, *cell, home(homes, *from), from.bytes),
+        Ir::CellPort {
+            read: true,
+            temp,
+            cell,
+            offset,
+            index,
+            width,
+        } => {
+            let of = CellAccess {
+                cell: *cell,
+                offset: *offset,
+                width: *width,
+                index: index_place(homes, *index),
+            };
+            read_cell_port(out, of, home(homes, *temp), wanted)
+        }
+        Ir::CellPort {
+            read: false,
+            temp,
+            cell,
+            offset,
+            index,
+            width,
+        } => {
+            let of = CellAccess {
+                cell: *cell,
+                offset: *offset,
+                width: *width,
+                index: index_place(homes, *index),
+            };
+            write_cell_port(out, of, home(homes, *temp))
         }
     }
 }

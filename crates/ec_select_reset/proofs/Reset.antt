@@ -1,7 +1,7 @@
 -- The startup code, and then the code of all functions.
 use Rattle.std.proofs.Common.{◌≡◌, ◌≢◌, ℕ, ◌+◌, ◌-◌, ◌*◌, ◌%◌, ◌<◌, ◌≤◌, Bool, true, false, List, []}
 use Rattle.std.proofs.Common.{Option, Some, None, All, length, sym, refl, ap, ◌∙◌, subst, arith, ltb-true}
-use Rattle.std.specs.Prelude.{◌==◌, ◌&&◌, ◌||◌, not, nat_lt, if◌then◌else◌, slice_index, slice_index_or}
+use Rattle.std.specs.Prelude.{◌&&◌, ◌||◌, not, nat_lt, if◌then◌else◌, slice_index, slice_index_or}
 use Rattle.ec_isa.specs.declared.instructions.Instr.{Instr}
 use Rattle.ec_isa.specs.declared.instructions.Instr.TheVariants.{Break}
 use Rattle.ec_isa.specs.Reading.{instruction_at as decoded}
@@ -72,9 +72,9 @@ shown_numbers e size s v h k u =
     by_test true = omega arith
     by_test false = h.bytes k
 
-module _ (laws : StartLaws) (p : PlainIrProgram) (place entry_of : ℕ → ℕ) (e : Env) (spans : List Span) (size low : ℕ) (s : State)
-    (v : View) (inputs : Inputs) (valid : ValidIr p) (fit : Fits e size) (shows : Shows e size s.core s.mem v)
-    (feeds : (port : ℕ) → v.inputs port ≡ inputs port) (selected : AreSelected p e place entry_of)
+module _ (laws : StartLaws) (cells : ℕ) (p : PlainIrProgram) (place entry_of : ℕ → ℕ) (e : Env) (spans : List Span) (size low : ℕ)
+    (s : State) (v : View) (inputs : Inputs) (valid : ValidIr cells p) (fit : Fits e size) (shows : Shows e size s.core s.mem v)
+    (feeds : (port : ℕ) → v.inputs port ≡ inputs port) (selected : AreSelected cells p e place entry_of)
     (c : CanStart p e place entry_of spans low s.pc) where
   -- nothing was noted before
   abbrev v0 : View
@@ -207,7 +207,7 @@ module _ (laws : StartLaws) (p : PlainIrProgram) (place entry_of : ℕ → ℕ) 
 
   shown : ShowsOperations p place e w0 goes_on.state inputs
   shown =
-      laws.follows p place entry_of e size low goes_on.state w0 inputs valid fit shows_w
+      laws.follows cells p place entry_of e size low goes_on.state w0 inputs valid fit shows_w
       (λ port. ap (λ f. f port) same_inputs ∙ feeds port) begin selected entered
 
   pub whole : ShowsProgram p place e spans v s inputs
@@ -235,5 +235,5 @@ module _ (laws : StartLaws) (p : PlainIrProgram) (place entry_of : ℕ → ℕ) 
       }
 
 pub programs_show_their_operations : StartLaws → ProgramsShowTheirOperations
-programs_show_their_operations laws p place entry_of e spans size low s v inputs valid fit shows feeds selected c =
-    whole laws p place entry_of e spans size low s v inputs valid fit shows feeds selected c
+programs_show_their_operations laws cells p place entry_of e spans size low s v inputs valid fit shows feeds selected c =
+    whole laws cells p place entry_of e spans size low s v inputs valid fit shows feeds selected c

@@ -88,7 +88,7 @@ pub record ShowsProgram (p : PlainIrProgram) (place : ℕ → ℕ) (e : Env) (sp
 
 abbrev pub ProgramsShowTheirOperations : Type 0
 ProgramsShowTheirOperations =
-    (p : PlainIrProgram) (place entry_of : ℕ → ℕ) (e : Env) (spans : List Span) (size low : ℕ) (s : State) (v : View)
-    (inputs : Inputs) → ValidIr p → Fits e size → Shows e size s.core s.mem v → ((port : ℕ) → v.inputs port ≡ inputs port)
-    → AreSelected p e place entry_of → CanStart p e place entry_of spans low s.pc
+    (cells : ℕ) (p : PlainIrProgram) (place entry_of : ℕ → ℕ) (e : Env) (spans : List Span) (size low : ℕ) (s : State)
+    (v : View) (inputs : Inputs) → ValidIr cells p → Fits e size → Shows e size s.core s.mem v → ((port : ℕ) → v.inputs port ≡ inputs port)
+    → AreSelected cells p e place entry_of → CanStart p e place entry_of spans low s.pc
     → ShowsProgram p place e spans v s inputs

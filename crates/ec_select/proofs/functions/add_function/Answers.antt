@@ -24,14 +24,14 @@ pub wanted-requires-clause-places : goal.wanted-requires-clause-places
 wanted-requires-clause-places c =
     let p = plain_ir_program c.args.ir.now in
     let g = plain_ir_function c.args.g.now in
-    c.valid_operations_have_places.ensures p c.requires.valid.results c.args.f g
+    c.valid_operations_have_places.ensures c.requires.valid.0 p c.requires.valid.1.results c.args.f g
     (function_valid p c.requires.valid c.args.f g c.requires.is)
 
 pub kept-requires-clause-places : goal.kept-requires-clause-places
 kept-requires-clause-places c =
     let p = plain_ir_program c.args.ir.now in
     let g = plain_ir_function c.args.g.now in
-    c.valid_operations_have_places.ensures p c.requires.valid.results c.args.f g
+    c.valid_operations_have_places.ensures c.requires.valid.0 p c.requires.valid.1.results c.args.f g
     (function_valid p c.requires.valid c.args.f g c.requires.is)
 
 -- the numbers that second operands are known to hold
@@ -40,7 +40,7 @@ right_numbers-requires c =
     let p = plain_ir_program c.args.ir.now in
     let g = plain_ir_function c.args.g.now in
     results_placed c.args.g.now.slots g.code
-    (c.valid_operations_have_places.ensures p c.requires.valid.results c.args.f g
+    (c.valid_operations_have_places.ensures c.requires.valid.0 p c.requires.valid.1.results c.args.f g
     (function_valid p c.requires.valid c.args.f g c.requires.is))
 
 pub wanted-requires-clause-numbers : goal.wanted-requires-clause-numbers

@@ -8,7 +8,7 @@ use Rattle.ec_select.proofs.functions.routines_begin.Goals as goal
 
 pub overflow_add-begin : goal.overflow_add-begin
 overflow_add-begin c =
-    let few : length (map plain_ir_function c.args.ir.now.funcs.items) ≤ 256 = c.requires.function_count in
+    let few : length (map plain_ir_function c.args.ir.now.funcs.items) ≤ 256 = c.requires.1.function_count in
     let same = length-map c.args.ir.now.funcs.items plain_ir_function in
     let len : c.len.result ≡ length c.args.ir.now.funcs.items = c.len.ensures in
     omega (arith, few, same, len)

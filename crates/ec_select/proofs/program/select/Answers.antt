@@ -19,7 +19,8 @@ returns-clause-code c =
 
 pub returns-clause-valid : goal.returns-clause-valid
 returns-clause-valid c =
-    c.selections_are_valid.ensures c.args.core (plain_ir_program c.args.ir.now) _ c.requires.valid c.requires.code (returns-clause-code c)
+    λ cells valid.
+    c.selections_are_valid.ensures c.args.core cells (plain_ir_program c.args.ir.now) _ valid c.requires.code (returns-clause-code c)
 
 pub returns-clause-words : goal.returns-clause-words
 returns-clause-words c in_place =
