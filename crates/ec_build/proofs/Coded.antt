@@ -22,9 +22,10 @@ use Rattle.ec_lower_shapes.specs.Laws.{CountsByShapes}
 use Rattle.ec_lower_code.specs.Correct.{GroupsHaveBytes, IsMadeOf}
 use Rattle.ec_build_laws.specs.Laws.{LoweredProgramsHaveCode}
 use Rattle.ec_build_laws.specs.Shortened.{IsShortened, ShortenedIsValid}
+use Rattle.ec_locate.specs.Entries.{work_size}
 use Rattle.ec_locate.specs.Placing.{object_sizes as placed_sizes, scratch_needs}
 use Rattle.ec_select.specs.InPlace.{AreInPlace}
-use Rattle.ec_select.specs.Laws.{object_sizes}
+use Rattle.ec_select.specs.Laws.{object_sizes, CanBePlaced}
 use Rattle.ec_select.specs.Selected.{IsSelection}
 use Rattle.ec_build.specs.Code.{IsCodeOf, IsShortCodeOf, IsOutlineOf}
 
@@ -41,7 +42,7 @@ stands_alone l = rw (eq-eqb l l refl) refl
 -- what a selection of the operations is for the program
 coded : (core : Core) (p : PlainProgram) (io : IoTable) (asm : AsmProgram) → LoweredProgramsHaveCode → Valid p io → GroupsHaveBytes io
     → IsMadeOf p io (lowered p (plain_table io)) → IsSelection core (lowered p (plain_table io)) asm
-    → ValidAsm (object_sizes (lowered p (plain_table io))) 64 asm
+    → ValidAsm (object_sizes (lowered p (plain_table io))) (work_size io) asm
     → (AreInPlace (lowered p (plain_table io)) → code_words asm.items.items
     ≤ program_words + objects_weight (lowered p (plain_table io)).objects + functions_words_by_shapes (lowered p (plain_table io)).functions)
     → CountsByShapes p io (lowered p (plain_table io)) → IsCodeOf core p io asm
@@ -59,12 +60,12 @@ coded core p io asm have valid groups made selection valid_asm words within =
 
 pub code_made : (core : Core) (p : PlainProgram) (io : IoTable) (asm : AsmProgram) (ir : PlainIrProgram) → ir ≡ lowered p (plain_table io)
     → LoweredProgramsHaveCode → Valid p io → GroupsHaveBytes io → IsMadeOf p io ir → IsSelection core ir asm
-    → ValidAsm (object_sizes ir) 64 asm
+    → CanBePlaced ir asm
     → (AreInPlace ir → code_words asm.items.items ≤ program_words + objects_weight ir.objects + functions_words_by_shapes ir.functions)
     → CountsByShapes p io ir → IsCodeOf core p io asm
 code_made core p io asm ir is have valid groups made selection valid_asm words within =
     coded core p io asm have valid groups (subst (λ x. IsMadeOf p io x) is made) (subst (λ x. IsSelection core x asm) is selection)
-    (subst (λ x. ValidAsm (object_sizes x) 64 asm) is valid_asm)
+    (subst (λ x. ValidAsm (object_sizes x) (work_size io) asm) is (valid_asm (length io.dynamics.items) made.valid))
     (subst (λ x. AreInPlace x
     → code_words asm.items.items ≤ program_words + objects_weight x.objects + functions_words_by_shapes x.functions) is words)
     (subst (λ x. CountsByShapes p io x) is within)
@@ -73,7 +74,7 @@ code_made core p io asm ir is have valid groups made selection valid_asm words w
 pub short_code : ShortenedIsValid → (core : Core) (p : PlainProgram) (io : IoTable) (reaches : List Reach) (long short : AsmProgram)
     → IsCodeOf core p io long → IsShortened reaches long short → IsShortCodeOf core p io reaches short
 short_code laws core p io reaches long short code h =
-    let made = laws (placed_sizes p) 64 reaches long short h code.valid in
+    let made = laws (placed_sizes p) (work_size io) reaches long short h code.valid in
     let fewer = made.1 in
     let within = code.small in
     record {
@@ -87,14 +88,15 @@ short_code laws core p io reaches long short code h =
 
 -- so is no more than its label, to be placed
 pub outline_is_valid : (core : Core) (p : PlainProgram) (io : IoTable) (asm outline : AsmProgram) → IsCodeOf core p io asm → IsOutlineOf asm outline
-    → ValidAsm (placed_sizes p) 64 outline × (outline.frames.items ≡ scratch_needs p) × (length outline.items.items < 2 ^ 32)
+    → ValidAsm (placed_sizes p) (work_size io) outline × (outline.frames.items ≡ scratch_needs p) × (length outline.items.items < 2 ^ 32)
 outline_is_valid core p io asm outline code h =
     let frames : outline.frames.items ≡ scratch_needs p = h.frames ∙ code.frames in
     let few = code.valid.functions in
     let as_many = ap length h.frames in
     let one : length outline.items.items ≡ 1 = ap length h.items in (
       record {
-        items = subst (λ is. list_all (is_valid_item (sizes_of (placed_sizes p) outline.frames.items 64)) is ≡ true) (sym h.items) refl;
+        items = subst (λ is. list_all (is_valid_item (sizes_of (placed_sizes p) outline.frames.items (work_size io))) is ≡ true)
+            (sym h.items) refl;
         labels = subst (λ is. list_all (λ i. is_placed is (used_label i)) is ≡ true) (sym h.items) refl;
         entry = subst (λ is. stands_once is outline.entry ≡ true) (sym h.items)
             (subst (λ n. stands_once (Label asm.entry ∷ []) n ≡ true) (sym h.entry) (stands_alone asm.entry));

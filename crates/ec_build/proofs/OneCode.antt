@@ -50,16 +50,16 @@ module _ (s : ℕ) (here there : ℕ → Need) (all : List PlainIr) (here_live :
       let b = there_least here here_live l some place within in
       omega (arith, a, b)
 
-  module _ (p : PlainIrProgram) (results : Results) (f : ℕ) where
+  module _ (cells : ℕ) (p : PlainIrProgram) (results : Results) (f : ℕ) where
     tell_same : (i : PlainIr) (code : List PlainIr) → ((l : ℕ) → count l (i ∷ code) ≤ count l all)
-        → ValidOperation p results f s all i → TellSame s here there i
+        → ValidOperation cells p results f s all i → TellSame s here there i
     tell_same (label l) code m v = label_same l (let a = m l in let b = counted l code in omega (arith, a, b))
     tell_same (jump l) code m v = label_same l (omega (arith, v))
     tell_same (branch_zero t l) code m v = label_same l (let c = v.1 in omega (arith, c))
     tell_same i code m v = tt
 
     all_tell_same : (code : List PlainIr) → ((l : ℕ) → count l code ≤ count l all)
-        → AllByRecursion (ValidOperation p results f s all) code → AllByRecursion (TellSame s here there) code
+        → AllByRecursion (ValidOperation cells p results f s all) code → AllByRecursion (TellSame s here there) code
     all_tell_same [] m v = tt
     all_tell_same (i ∷ code) m v = (
       tell_same i code m v.0,
@@ -72,17 +72,18 @@ pub record Laws : Type 0 where
   pub places : ValidOperationsHavePlaces
   pub written : NeededFunctionsAreWritten
 
-module _ (laws : Laws) (core : Core) (p : PlainIrProgram) (results : ℕ → ℕ) (f : ℕ) (g : PlainIrFunction) (v : ValidIrFunction p results f g)
+module _ (laws : Laws) (core : Core) (cells : ℕ) (p : PlainIrProgram) (results : ℕ → ℕ) (f : ℕ) (g : PlainIrFunction)
+    (v : ValidIrFunction cells p results f g)
     (here there : ℕ → Need) (here_live : IsLive here g.code) (there_live : IsLive there g.code)
     (here_least : IsLeast g.slots here g.code) (there_least : IsLeast g.slots there g.code) where
   tell : AllByRecursion (TellSame g.slots here there) g.code
   tell =
-      all_tell_same g.slots here there g.code here_live there_live here_least there_least p results f g.code
+      all_tell_same g.slots here there g.code here_live there_live here_least there_least cells p results f g.code
       (λ l. omega arith) v.code
 
   -- what is needed of each result
   bytes_same : wanted_bytes (facts_of here g.code) g.code ≡ wanted_bytes (facts_of there g.code) g.code
-  bytes_same = wanted_same g.slots here there g.code g.code (laws.places p results f g v) tell
+  bytes_same = wanted_same g.slots here there g.code g.code (laws.places cells p results f g v) tell
 
   uses_same : function_uses core p here f g ≡ function_uses core p there f g
   uses_same = λ j. uses_in core (data_of p) (homes_of f g.code) (bytes_same j) (right_numbers g.code) g.code
@@ -92,7 +93,7 @@ module _ (laws : Laws) (core : Core) (p : PlainIrProgram) (results : ℕ → ℕ
       let k = linkage_of core p function_label f g.slots (made_with p routines here f g) in
       sym (laws.written (data_of p) k routines f here g.code)
       ∙ (λ j. written_function (data_of p) k f (bytes_same j)
-      (rows_same g.slots here there g.code g.code (laws.places p results f g v) tell j) (right_numbers g.code)
+      (rows_same g.slots here there g.code g.code (laws.places cells p results f g v) tell j) (right_numbers g.code)
       (map routines g.code) g.code)
       ∙ laws.written (data_of p) k routines f there g.code
 
@@ -102,10 +103,10 @@ chain_same a b (suc n) h =
     let last : n < suc n = omega arith in
     λ j. chain_same a b n (λ k l. h k (omega (arith, l))) j ++ h n last j
 
-module _ (laws : Laws) (core : Core) (p : PlainIrProgram) (valid : ValidIr p) (here there : ℕ → ℕ → Need)
+module _ (laws : Laws) (core : Core) (cells : ℕ) (p : PlainIrProgram) (valid : ValidIr cells p) (here there : ℕ → ℕ → Need)
     (here_are : AreTables p here (length p.functions)) (there_are : AreTables p there (length p.functions)) where
-  valid_at : (f : ℕ) (g : PlainIrFunction) → slice_get p.functions f ≡ Some g → ValidIrFunction p valid.results f g
-  valid_at f g e = each_at (ValidIrFunction p valid.results) 0 f f p.functions g (omega arith) valid.functions e
+  valid_at : (f : ℕ) (g : PlainIrFunction) → slice_get p.functions f ≡ Some g → ValidIrFunction cells p valid.results f g
+  valid_at f g e = each_at (ValidIrFunction cells p valid.results) 0 f f p.functions g (omega arith) valid.functions e
 
   -- ---- routines
 
@@ -117,8 +118,8 @@ module _ (laws : Laws) (core : Core) (p : PlainIrProgram) (valid : ValidIr p) (h
       let z : f + 0 ≡ f = omega arith in
       let e : slice_get p.functions f ≡ Some g = subst (λ k. slice_get p.functions k ≡ Some g) z (among 0 g refl) in
       let l = slice_get_within p.functions f g e in
-      let first = uses_same laws core p valid.results f g (valid_at f g e) (here f) (there f) (here_are.live f g l e) (there_are.live f g l e)
-      (here_are.least f g l e) (there_are.least f g l e) in
+      let first = uses_same laws core cells p valid.results f g (valid_at f g e) (here f) (there f)
+      (here_are.live f g l e) (there_are.live f g l e) (here_are.least f g l e) (there_are.least f g l e) in
       let rest = from_same (f + 1) gs
       (λ j x q. let n : f + suc j ≡ f + 1 + j = omega arith in subst (λ k. slice_get p.functions k ≡ Some x) n (among (suc j) x q)) in
       λ j. first j ++ rest j
@@ -136,7 +137,7 @@ module _ (laws : Laws) (core : Core) (p : PlainIrProgram) (valid : ValidIr p) (h
       → code_of core p (routine_of core p here) (here f) f o ≡ code_of core p (routine_of core p there) (there f) f o
   function_same f l None e = refl
   function_same f l (Some g) e =
-      code_same laws core p valid.results f g (valid_at f g e) (here f) (there f) (here_are.live f g l e) (there_are.live f g l e)
+      code_same laws core cells p valid.results f g (valid_at f g e) (here f) (there f) (here_are.live f g l e) (there_are.live f g l e)
       (here_are.least f g l e) (there_are.least f g l e)
       (routine_of core p here)
       ∙ ap (λ (r : PlainIr → Option ℕ). code_of core p r (there f) f (Some g)) routines_same
@@ -153,10 +154,10 @@ module _ (laws : Laws) (core : Core) (p : PlainIrProgram) (valid : ValidIr p) (h
 
 -- ---- programs
 
-pub items_same : Laws → (core : Core) → (p : PlainIrProgram) → ValidIr p → (a b : AsmProgram) → IsSelection core p a → IsSelection core p b
-    → a.items.items ≡ b.items.items
-items_same laws core p valid a b s t =
+pub items_same : Laws → (core : Core) (cells : ℕ) (p : PlainIrProgram) → ValidIr cells p → (a b : AsmProgram) → IsSelection core p a
+    → IsSelection core p b → a.items.items ≡ b.items.items
+items_same laws core cells p valid a b s t =
     s.items
     ∙ (λ j. Label entry_label ∷ (startup_code (spans_of p) (function_label p.main)
-    ++ rest_same laws core p valid s.tables t.tables s.are_tables t.are_tables j))
+    ++ rest_same laws core cells p valid s.tables t.tables s.are_tables t.are_tables j))
     ∙ sym t.items

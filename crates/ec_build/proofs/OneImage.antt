@@ -1,5 +1,5 @@
 -- Builds of the same sources by the same map have one image.
-use Rattle.std.proofs.Common.{◌≡◌, ℕ, List, Option, Some, None, sym, ap, ◌∙◌, subst}
+use Rattle.std.proofs.Common.{◌≡◌, ℕ, List, length, Option, Some, None, sym, ap, ◌∙◌, subst}
 use Rattle.ec_space.specs.declared.Core.{Core}
 use Rattle.ec_asm.specs.declared.items.AsmProgram.{AsmProgram}
 use Rattle.ec_core.specs.Plain.{PlainProgram, plain_program}
@@ -55,7 +55,8 @@ module _ (laws : Laws) (m n : Map) (same : SameMaps m n) (p : PlainProgram) (asm
     (a : IsImageOf p m asm k) (b : IsImageOf p n bsm l) where
   selected_are : a.translated.selected.items.items ≡ b.translated.selected.items.items
   selected_are =
-      items_same (record { places = laws.places; written = laws.written }) m.core (lowered p (plain_table m.io))
+      items_same (record { places = laws.places; written = laws.written }) m.core (length m.io.dynamics.items)
+      (lowered p (plain_table m.io))
       (laws.lowered p m.io a.translated.valid a.translated.groups).valid a.translated.selected b.translated.selected a.translated.selection
       (subst (λ (c : Core). IsSelection c (lowered p (plain_table m.io)) b.translated.selected) (sym same.core_same)
       (subst (λ (t : PlainTable). IsSelection n.core (lowered p t) b.translated.selected) (sym (tables_same m n same)) b.translated.selection))

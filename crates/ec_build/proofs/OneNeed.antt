@@ -1,11 +1,11 @@
 -- What is needed before operations, by two tables that tell the same at all labels.
-use Rattle.std.proofs.Common.{◌≡◌, ℕ, zero, suc, ◌+◌, ◌<◌, ◌≤◌, List, [], ◌∷◌, Option, Some, None, ◌||◌, refl, arith}
+use Rattle.std.proofs.Common.{◌≡◌, ℕ, zero, suc, ◌+◌, ◌<◌, ◌≤◌, Bool, true, false, List, [], ◌∷◌, Option, Some, None, ◌||◌, refl, arith}
 use Rattle.std.specs.Prelude.{◌==◌, if◌then◌else◌, min, max, ⊤, ℤ}
 use Rattle.std.specs.List.{AllByRecursion}
 use Rattle.ec_ir.specs.declared.operations.Temp.{Temp}
 use Rattle.ec_ir.specs.Operations.{PlainIr, constant, copy, address, field, load_at, store_at, load_object}
 use Rattle.ec_ir.specs.Operations.{store_object, binary_op, unary_op, conversion, label, jump, branch_zero}
-use Rattle.ec_ir.specs.Operations.{call_function, return_from, port_in, port_out}
+use Rattle.ec_ir.specs.Operations.{call_function, return_from, port_in, port_out, load_cell, store_cell, cell_port}
 use Rattle.ec_select_operations.specs.Code.{result_wanted, wanted_behind, wanted_bytes, register_places}
 use Rattle.ec_ir_known.specs.declared.known.RightNumber.{RightNumber}
 use Rattle.ec_select_operations.specs.Needs.{Need, at_least, without, either, wanted, is_whole, first_wanted, second_wanted}
@@ -92,6 +92,12 @@ module _ (s : ℕ) (here there : ℕ → Need) where
       same_index s index (without to.at a) (without to.at b) (same_without s to.at a b h)
   before_same n (port_out from port index width) a b l k h =
       same_least s from.at width width (index_needed index a) (index_needed index b) refl (same_index s index a b h)
+  before_same n (load_cell to cell) a b l k h = same_without s to.at a b h
+  before_same n (store_cell cell from) a b l k h = same_least s from.at from.bytes from.bytes a b refl h
+  before_same n (cell_port true to cell offset index width) a b l k h =
+      same_index s index (without to.at a) (without to.at b) (same_without s to.at a b h)
+  before_same n (cell_port false from cell offset index width) a b l k h =
+      same_least s from.at width width (index_needed index a) (index_needed index b) refl (same_index s index a b h)
 
   result_same : (i : PlainIr) (a b : Need) → HasPlaces s i → AreSame s a b → result_wanted a i ≡ result_wanted b i
   result_same (constant t n) a b l h = same_wanted s t a b l h
@@ -103,6 +109,7 @@ module _ (s : ℕ) (here there : ℕ → Need) where
   result_same (call_function f None) a b l h = refl
   result_same (call_function f (Some t)) a b l h = same_wanted s t a b l h
   result_same (port_in to port index width) a b l h = same_wanted s to a b l.0 h
+  result_same (cell_port true to cell offset index width) a b l h = same_wanted s to a b l.0 h
   result_same (load_object t o offset) a b l h = refl
   result_same (store_object o offset t) a b l h = refl
   result_same (branch_zero t k) a b l h = refl
@@ -113,6 +120,9 @@ module _ (s : ℕ) (here there : ℕ → Need) where
   result_same (load_at to ptr space) a b l h = refl
   result_same (store_at ptr space from) a b l h = refl
   result_same (port_out from port index width) a b l h = refl
+  result_same (load_cell to cell) a b l h = refl
+  result_same (store_cell cell from) a b l h = refl
+  result_same (cell_port false from cell offset index width) a b l h = refl
 
   behind_same : (i : PlainIr) (a b : Need) → HasPlaces s i → TellSame s here there i → AreSame s a b
       → wanted_behind here a i ≡ wanted_behind there b i

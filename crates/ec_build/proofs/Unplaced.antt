@@ -11,7 +11,7 @@ use Rattle.ec_core.specs.PortTable.{plain_table}
 use Rattle.ec_core_shapes.specs.SharedWeight.{shared_weight}
 use Rattle.ec_map.specs.declared.map.Map.{Map}
 use Rattle.ec_map.specs.declared.region.Region.{Region}
-use Rattle.ec_locate.specs.Entries.{data_need}
+use Rattle.ec_locate.specs.Entries.{data_need, work_size}
 use Rattle.ec_locate.specs.Needs.{shortage_of, or_else, first_shortage}
 use Rattle.ec_locate.specs.Fixed.{place_name, neighbour_name}
 use Rattle.ec_locate.specs.Placing.{needs, entries_by, scratch_needs, shortage, without_object, clash, IsLocated}
@@ -45,10 +45,10 @@ all_fit m n a e b c d =
 pub fits_whole : (p : PlainProgram) (m : Map) (asm : AsmProgram) → Fits p m → asm.frames.items ≡ scratch_needs p
     → code_words asm.items.items ≤ shared_weight p (plain_table m.io) → shortage p m asm ≡ None
 fits_whole p m asm fits frames small =
-    let vars : data_need 64 (rows_of_program p) (entries_by m p) asm.frames.items ≤ m.vars.size =
-    subst (λ f. data_need 64 (rows_of_program p) (entries_by m p) f ≤ m.vars.size) (sym frames) fits.vars in
+    let vars : data_need (work_size m.io) (rows_of_program p) (entries_by m p) asm.frames.items ≤ m.vars.size =
+    subst (λ f. data_need (work_size m.io) (rows_of_program p) (entries_by m p) f ≤ m.vars.size) (sym frames) fits.vars in
     let code : 2 * code_words asm.items.items ≤ m.code.size = omega (arith, small, fits.code) in
-    all_fit m (needs p (entries_by m p) asm.frames.items asm.items.items) fits.tables fits.far vars fits.stack code
+    all_fit m (needs p m.io (entries_by m p) asm.frames.items asm.items.items) fits.tables fits.far vars fits.stack code
 
 nothing_there : {A : Type 0} (o : Option A) (P : A → Type 0) → o ≡ None → IsSomeAnd o P → ⊥
 nothing_there None P e h = h
@@ -81,7 +81,7 @@ both_none (Some x) b h = absurd cc
 outline_fits : (p : PlainProgram) (m : Map) (asm outline : AsmProgram) → outline.frames.items ≡ asm.frames.items
     → code_words outline.items.items ≡ 0 → shortage p m asm ≡ None → shortage p m outline ≡ None
 outline_fits p m asm outline frames none room =
-    let n = needs p (entries_by m p) asm.frames.items asm.items.items in
+    let n = needs p m.io (entries_by m p) asm.frames.items asm.items.items in
     let tables = shortage_of Tables m.tables n.tables in
     let vars = shortage_of Data m.vars n.vars in
     let stack = shortage_of Stack m.stack n.stack in
@@ -92,8 +92,8 @@ outline_fits p m asm outline frames none room =
     let c = both_none stack (shortage_of Code m.code n.code) b.1 in
     let code : shortage_of Code m.code (2 * code_words outline.items.items) ≡ None =
     no_shortage Code m.code (2 * code_words outline.items.items) (omega (arith, none)) in
-    let same_vars : shortage_of Data m.vars (data_need 64 (rows_of_program p) (entries_by m p) outline.frames.items) ≡ None =
-    subst (λ f. shortage_of Data m.vars (data_need 64 (rows_of_program p) (entries_by m p) f) ≡ None) (sym frames) b.0 in
+    let same_vars : shortage_of Data m.vars (data_need (work_size m.io) (rows_of_program p) (entries_by m p) outline.frames.items) ≡ None =
+    subst (λ f. shortage_of Data m.vars (data_need (work_size m.io) (rows_of_program p) (entries_by m p) f) ≡ None) (sym frames) b.0 in
     rw (a.0, d.0, same_vars, c.0, code) refl
 
 -- so it is refused for nothing but memory

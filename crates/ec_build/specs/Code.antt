@@ -14,6 +14,7 @@ use Rattle.ec_core_shapes.specs.SharedWeight.{shared_weight}
 use Rattle.ec_lower_code.specs.Code.{lowered}
 use Rattle.ec_lower_code.specs.Correct.{GroupsHaveBytes}
 use Rattle.ec_map.specs.declared.map.Map.{Map}
+use Rattle.ec_locate.specs.Entries.{work_size}
 use Rattle.ec_locate.specs.Placing.{object_sizes, scratch_needs, IsLocated}
 use Rattle.ec_locate.specs.declared.placing.Located.{Located}
 use Rattle.ec_select.specs.Selected.{HasCode, IsSelection}
@@ -26,7 +27,7 @@ pub record IsCodeOf (core : Core) (p : PlainProgram) (io : IoTable) (asm : AsmPr
   pub selection : IsSelection core (lowered p (plain_table io)) asm
   pub frames : asm.frames.items ≡ scratch_needs p
   pub small : code_words asm.items.items ≤ shared_weight p (plain_table io)
-  pub valid : ValidAsm (object_sizes p) 64 asm
+  pub valid : ValidAsm (object_sizes p) (work_size io) asm
 
 -- The same with what is near in one word, for bytes that Y reaches. It has no more words
 pub record IsShortCodeOf (core : Core) (p : PlainProgram) (io : IoTable) (reaches : List Reach) (asm : AsmProgram) : Type 0 where
@@ -35,7 +36,7 @@ pub record IsShortCodeOf (core : Core) (p : PlainProgram) (io : IoTable) (reache
   pub shortened : IsShortened reaches long asm
   pub frames : asm.frames.items ≡ scratch_needs p
   pub small : code_words asm.items.items ≤ shared_weight p (plain_table io)
-  pub valid : ValidAsm (object_sizes p) 64 asm
+  pub valid : ValidAsm (object_sizes p) (work_size io) asm
 
 -- no more of code than the label where it begins, with its scratch memory
 pub record IsOutlineOf (asm outline : AsmProgram) : Type 0 where

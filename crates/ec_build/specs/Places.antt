@@ -7,7 +7,7 @@ use Rattle.ec_core.specs.PortTable.{plain_table}
 use Rattle.ec_core_shapes.specs.SharedWeight.{shared_weight}
 use Rattle.ec_map.specs.declared.map.Map.{Map}
 use Rattle.ec_locate.specs.Calls.{call_depth}
-use Rattle.ec_locate.specs.Entries.{table_need, far_need, data_need}
+use Rattle.ec_locate.specs.Entries.{table_need, far_need, data_need, work_size}
 use Rattle.ec_locate.specs.Needs.{stack_need}
 use Rattle.ec_locate.specs.Placing.{scratch_needs, entries_by, without_object, clash, IsStop, IsMemory}
 use Rattle.ec_locate.specs.declared.stop.PlaceStop.{PlaceStop}
@@ -18,7 +18,7 @@ use Rattle.ec_build.specs.declared.stop.BuildStop.TheVariants.{Place, NoMemory}
 pub record Fits (p : PlainProgram) (m : Map) : Type 0 where
   pub tables : table_need (entries_by m p) ≤ m.tables.size
   pub far : far_need (entries_by m p) ≤ m.far.size
-  pub vars : data_need 64 (rows_of_program p) (entries_by m p) (scratch_needs p) ≤ m.vars.size
+  pub vars : data_need (work_size m.io) (rows_of_program p) (entries_by m p) (scratch_needs p) ≤ m.vars.size
   pub stack : stack_need (call_depth p) ≤ m.stack.size
   pub code : 2 * shared_weight p (plain_table m.io) ≤ m.code.size
   pub there : without_object p m ≡ None

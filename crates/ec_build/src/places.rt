@@ -5,6 +5,7 @@ ghost use Rattle.ec_asm.specs.Valid.{ValidAsm};
 ghost use Rattle.ec_core.specs.Plain.{plain_program};
 ghost use Rattle.ec_core.specs.Valid.{Valid};
 ghost use Rattle.ec_map.specs.Maps.{ValidMap};
+ghost use Rattle.ec_locate.specs.Entries.{work_size};
 ghost use Rattle.ec_locate.specs.Placing.{object_sizes, scratch_needs, IsLocated};
 ghost use Rattle.ec_build.specs.Places.{StopsPlacing};
 
@@ -26,7 +27,7 @@ pub(crate) fn placed(
     requires valid { Valid (plain_program program.now) map.now.io }
     requires map { ValidMap map.now }
     requires frames { asm.now.frames.items ≡ scratch_needs (plain_program program.now) }
-    requires code { ValidAsm (object_sizes (plain_program program.now)) 64 asm.now }
+    requires code { ValidAsm (object_sizes (plain_program program.now)) (work_size map.now.io) asm.now }
     requires few { length asm.now.items.items < 2 ^ 32 }
     ensures located { IfOk result (λ l. IsLocated (plain_program program.now) map.now asm.now l
         × AreBytes l.image.bytes.items) }

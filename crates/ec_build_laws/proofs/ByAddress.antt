@@ -24,7 +24,7 @@ use Rattle.ec_map.specs.Maps.{ValidMap}
 use Rattle.ec_map.specs.Regions.{end_of}
 use Rattle.ec_map.specs.declared.map.Map.{Map}
 use Rattle.ec_locate.specs.DataBank.{CanBeLive, Names, an_object, scratch, work, IsInMemory, StandsIn, DataStands, DataStandsApart}
-use Rattle.ec_locate.specs.Entries.{frame_size}
+use Rattle.ec_locate.specs.Entries.{frame_size, work_size}
 use Rattle.ec_locate.specs.Fixed.{same_bank}
 use Rattle.ec_locate.specs.Placing.{IsLocated, layout_by}
 use Rattle.ec_locate.specs.declared.placing.Located.{Located}
@@ -212,7 +212,7 @@ module _ (p : PlainProgram) (m : Map) (asm : AsmProgram) (l : Located) (map_vali
       ∙ rw (object_there Data p.structs p.objects l.places.items a i o q h.object h.place h.home from below) refl
 
   -- what has another number is no byte of an object
-  no_object : (n at s a : ℕ) → Names p asm l n at s → at ≤ a → a < at + s
+  no_object : (n at s a : ℕ) → Names p m asm l n at s → at ≤ a → a < at + s
       → ((i : ℕ) (o : PlainObject) → slice_get p.objects i ≡ Some o → (n ≢ i) × CanBeLive p n i)
       → is_of_objects Data p.structs p.objects l.places.items a ≡ false
   no_object n at s a names from below other =
@@ -225,7 +225,7 @@ module _ (p : PlainProgram) (m : Map) (asm : AsmProgram) (l : Located) (map_vali
       (apart.apart n f.i at f.q.offset s (size f.o) (other f.i f.o f.object).0 (other f.i f.o f.object).1 names (an_object f.i f.o f.q f.object f.home f.place)))
 
   own_kind : (a : ℕ) → 256 ≤ a → a < data_size m.core → is_of_objects Data p.structs p.objects l.places.items a ≡ false
-      → (is_of_scratch asm.frames.items l.frames.items a || is_byte_of l.work 64 a) ≡ true → kinds p m asm l a ≡ Own
+      → (is_of_scratch asm.frames.items l.frames.items a || is_byte_of l.work (work_size m.io) a) ≡ true → kinds p m asm l a ≡ Own
   own_kind a low high none own = high_kind p m asm l a low high ∙ rw (none, own) refl
 
   few : (i : ℕ) (o : PlainObject) → length p.objects ≤ 1_024 → slice_get p.objects i ≡ Some o → i < 1024
@@ -239,18 +239,20 @@ module _ (p : PlainProgram) (m : Map) (asm : AsmProgram) (l : Located) (map_vali
         own_kind a (omega (arith, here.0, from)) (omega (arith, here.1, below))
         (no_object (1024 + f) at (frame_size frame) a (scratch f frame at is there) from below
         (λ i o q. let b = few i o count q in (omega (arith, b), object_last p count (1024 + f) i (omega arith) b)))
-        (or_left (is_of_scratch asm.frames.items l.frames.items a) (is_byte_of l.work 64 a)
+        (or_left (is_of_scratch asm.frames.items l.frames.items a) (is_byte_of l.work (work_size m.io) a)
         (scratch_there asm.frames.items l.frames.items a f frame at is there from below))
 
-    work_kind : (a : ℕ) → l.work ≤ a → a < l.work + 64 → kinds p m asm l a ≡ Own
+    work_kind : (a : ℕ) → l.work ≤ a → a < l.work + work_size m.io → kinds p m asm l a ≡ Own
     work_kind a from below =
         let here = apart.work in
         own_kind a (omega (arith, here.0, from)) (omega (arith, here.1, below))
-        (no_object 1280 l.work 64 a work from below (λ i o q. let b = few i o count q in (omega (arith, b), object_last p count 1280 i (omega arith) b)))
-        (or_right (is_of_scratch asm.frames.items l.frames.items a) (is_byte_of l.work 64 a) (byte_there l.work 64 a from below))
+        (no_object 1280 l.work (work_size m.io) a work from below
+        (λ i o q. let b = few i o count q in (omega (arith, b), object_last p count 1280 i (omega arith) b)))
+        (or_right (is_of_scratch asm.frames.items l.frames.items a) (is_byte_of l.work (work_size m.io) a)
+        (byte_there l.work (work_size m.io) a from below))
 
     -- no byte of the stack is one of what has a number
-    not_stacked : (n at s a : ℕ) → Names p asm l n at s → m.stack.first ≤ a → a < end_of m.stack → at ≤ a → a < at + s → ⊥
+    not_stacked : (n at s a : ℕ) → Names p m asm l n at s → m.stack.first ≤ a → a < end_of m.stack → at ≤ a → a < at + s → ⊥
     not_stacked n at s a names low high from below =
         ⊎_elim (λ u. omega (arith, u, below, low)) (λ u. omega (arith, u, from, high)) (apart.stack n at s names)
 
@@ -266,9 +268,10 @@ module _ (p : PlainProgram) (m : Map) (asm : AsmProgram) (l : Located) (map_vali
         false_from_ne_true (is_of_scratch asm.frames.items l.frames.items a)
         (λ h. let f = scratch_told asm.frames.items l.frames.items a h in
         not_stacked (1024 + f.f) f.at (frame_size f.frame) a (scratch f.f f.frame f.at f.is f.there) low high f.from_there f.below) in
-        let no_work : is_byte_of l.work 64 a ≡ false =
-        false_from_ne_true (is_byte_of l.work 64 a)
-        (λ h. let (from, below) = byte_told l.work 64 a h in not_stacked 1280 l.work 64 a work low high from below) in
+        let no_work : is_byte_of l.work (work_size m.io) a ≡ false =
+        false_from_ne_true (is_byte_of l.work (work_size m.io) a)
+        (λ h. let (from, below) = byte_told l.work (work_size m.io) a h in
+        not_stacked 1280 l.work (work_size m.io) a work low high from below) in
         high_kind p m asm l a (omega (arith, low, first)) (omega (arith, high, ends))
         ∙ rw (none, no_scratch, no_work, byte_there m.stack.first m.stack.size a low high) refl
 
@@ -294,16 +297,17 @@ module _ (p : PlainProgram) (m : Map) (asm : AsmProgram) (l : Located) (map_vali
     -- what stands at an address tells where it is
     record Tells (a : ℕ) (k : Kind) : Type 0 where
       object : k ≡ Object → is_of_objects Data p.structs p.objects l.places.items a ≡ true
-      own : k ≡ Own → IsOwnByte m.core asm l a
+      own : k ≡ Own → IsOwnByte m asm l a
       port : k ≡ Port → is_port m.core a ≡ true
       stacked : k ≡ Stacked → (m.stack.first ≤ a) × (a < end_of m.stack)
 
-    own_memory : (a : ℕ) → (is_of_scratch asm.frames.items l.frames.items a || is_byte_of l.work 64 a) ≡ true → IsOwnByte m.core asm l a
+    own_memory : (a : ℕ) → (is_of_scratch asm.frames.items l.frames.items a || is_byte_of l.work (work_size m.io) a) ≡ true
+        → IsOwnByte m asm l a
     own_memory a h =
         ⊎_elim
         (λ u. let f = scratch_told asm.frames.items l.frames.items a u in of_scratch a f.f f.frame f.at f.is f.there f.from_there f.below)
-        (λ u. let w = byte_told l.work 64 a u in of_work a w.0 w.1)
-        (or_cases (is_of_scratch asm.frames.items l.frames.items a) (is_byte_of l.work 64 a) h)
+        (λ u. let w = byte_told l.work (work_size m.io) a u in of_work a w.0 w.1)
+        (or_cases (is_of_scratch asm.frames.items l.frames.items a) (is_byte_of l.work (work_size m.io) a) h)
 
     register_tells : (a : ℕ) → a < 256 → (b c d : Bool) → is_hidden a ≡ b → is_rampz m.core a ≡ c → is_core_register m.core a ≡ d
         → Tells a (if b then Barred else if c then Page else if d then Own else Port)
@@ -323,7 +327,8 @@ module _ (p : PlainProgram) (m : Map) (asm : AsmProgram) (l : Located) (map_vali
         }
 
     memory_tells : (a : ℕ) (b c d : Bool) → is_of_objects Data p.structs p.objects l.places.items a ≡ b
-        → (is_of_scratch asm.frames.items l.frames.items a || is_byte_of l.work 64 a) ≡ c → is_byte_of m.stack.first m.stack.size a ≡ d
+        → (is_of_scratch asm.frames.items l.frames.items a || is_byte_of l.work (work_size m.io) a) ≡ c
+        → is_byte_of m.stack.first m.stack.size a ≡ d
         → Tells a (if b then Object else if c then Own else if d then Stacked else Barred)
     memory_tells a true c d q r s = record { object = λ h. q; own = λ h. absurd cc; port = λ h. absurd cc; stacked = λ h. absurd cc }
     memory_tells a false true d q r s =
@@ -346,7 +351,7 @@ module _ (p : PlainProgram) (m : Map) (asm : AsmProgram) (l : Located) (map_vali
           register_tells a (ltb-true a 256 q) (is_hidden a) (is_rampz m.core a) (is_core_register m.core a) refl refl refl
       by_tests false true q =
           memory_tells a (is_of_objects Data p.structs p.objects l.places.items a)
-          (is_of_scratch asm.frames.items l.frames.items a || is_byte_of l.work 64 a)
+          (is_of_scratch asm.frames.items l.frames.items a || is_byte_of l.work (work_size m.io) a)
           (is_byte_of m.stack.first m.stack.size a) refl refl refl
       by_tests false false q = record { object = λ h. absurd cc; own = λ h. absurd cc; port = λ h. absurd cc; stacked = λ h. absurd cc }
 
@@ -419,7 +424,7 @@ kinds_may_be p m asm l a = by_tests (nat_lt a 256) (nat_lt a (data_size m.core))
   by_tests false true q r =
       memory_may_be m.core (memory_kind p m asm l a) (data_size m.core) a
       (memory_is_so (is_of_objects Data p.structs p.objects l.places.items a)
-      (is_of_scratch asm.frames.items l.frames.items a || is_byte_of l.work 64 a) (is_byte_of m.stack.first m.stack.size a))
+      (is_of_scratch asm.frames.items l.frames.items a || is_byte_of l.work (work_size m.io) a) (is_byte_of m.stack.first m.stack.size a))
       (ltb-false a 256 q) (ltb-true a (data_size m.core) r)
   by_tests false false q r = refl
 

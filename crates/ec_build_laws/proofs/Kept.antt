@@ -19,6 +19,7 @@ use Rattle.ec_asm_accesses.specs.Allowed.{IsAllowed}
 use Rattle.ec_ir.specs.Operations.{PlainIrFunction}
 use Rattle.ec_lower_code.specs.Code.{lowered_function}
 use Rattle.ec_map.specs.declared.map.Map.{Map}
+use Rattle.ec_locate.specs.Entries.{work_size}
 use Rattle.ec_locate.specs.Placing.{scratch_needs}
 use Rattle.ec_locate.specs.declared.placing.Located.{Located}
 use Rattle.ec_build_laws.specs.Kinds.{is_byte_of, is_of_scratch, kinds}
@@ -45,43 +46,43 @@ module _ (p : PlainProgram) (m : Map) (asm : AsmProgram) (l : Located) (are : Ar
   scratch a = is_of_scratch (scratch_needs p) l.frames.items a
 
   abbrev work : ℕ → Bool
-  work a = is_byte_of l.work 64 a
+  work a = is_byte_of l.work (work_size m.io) a
 
   -- ---- bytes that are code's own
 
-  is_own : (a : ℕ) → 256 ≤ a → IsOwnByte m.core asm l a → is_own_byte p l a ≡ true
+  is_own : (a : ℕ) → 256 ≤ a → IsOwnByte m asm l a → is_own_byte p m l a ≡ true
   is_own a high (of_register b core other) = let low = core_is_low m.core a core in absurd (omega (arith, low, high))
   is_own a high (of_scratch b f frame at is there from below) =
       or_left (scratch a) (work a)
       (subst (λ ns. is_of_scratch ns l.frames.items a ≡ true) frames
       (scratch_there asm.frames.items l.frames.items a f frame at is there from below))
-  is_own a high (of_work b from below) = or_right (scratch a) (work a) (byte_there l.work 64 a from below)
+  is_own a high (of_work b from below) = or_right (scratch a) (work a) (byte_there l.work (work_size m.io) a from below)
 
-  pub own_is : (a : ℕ) → is_own_byte p l a ≡ true → kinds p m asm l a ≡ Own
+  pub own_is : (a : ℕ) → is_own_byte p m l a ≡ true → kinds p m asm l a ≡ Own
   own_is a h =
       ⊎_elim
       (λ u. let f = scratch_told asm.frames.items l.frames.items a
       (subst (λ ns. is_of_scratch ns l.frames.items a ≡ true) (sym frames) u) in
       are.scratch f.f f.frame f.at a f.is f.there f.from_there f.below)
-      (λ u. let w = byte_told l.work 64 a u in are.work a w.0 w.1)
+      (λ u. let w = byte_told l.work (work_size m.io) a u in are.work a w.0 w.1)
       (or_cases (scratch a) (work a) h)
 
   -- what is dropped
-  pub dropped : (a : ℕ) → 256 ≤ a → watched_kinds p m asm l a ≡ Own → is_own_byte p l a ≡ true
+  pub dropped : (a : ℕ) → 256 ≤ a → watched_kinds p m asm l a ≡ Own → is_own_byte p m l a ≡ true
   dropped a high q = is_own a high (are.own_told a (watched_was p m asm l a Own q (λ z. cc)))
 
   -- and what is not
-  pub stays : (a : ℕ) → watched_kinds p m asm l a ≡ Object → is_own_byte p l a ≡ false
+  pub stays : (a : ℕ) → watched_kinds p m asm l a ≡ Object → is_own_byte p m l a ≡ false
   stays a q =
-      false_from_ne_true (is_own_byte p l a)
+      false_from_ne_true (is_own_byte p m l a)
       (λ own. let other = watched_as p m asm l a Own (own_is a own) (λ z. cc) in let no : Object ≡ Own = sym q ∙ other in cc)
 
   -- ---- traces
 
   in_memory : (x : Access) (a : ℕ) → 256 ≤ a → is_held (watched_kinds p m asm l a) ≡ true
-      → if_object (watched_kinds p m asm l a) x ≡ unless (is_own_byte p l a) x
+      → if_object (watched_kinds p m asm l a) x ≡ unless (is_own_byte p m l a) x
   in_memory x a high held = by_kind (watched_kinds p m asm l a) refl held where
-    by_kind : (k : Kind) → watched_kinds p m asm l a ≡ k → is_held k ≡ true → if_object k x ≡ unless (is_own_byte p l a) x
+    by_kind : (k : Kind) → watched_kinds p m asm l a ≡ k → is_held k ≡ true → if_object k x ≡ unless (is_own_byte p m l a) x
     by_kind Own q h = rw (dropped a high q) refl
     by_kind Object q h = rw (stays a q) refl
     by_kind Port q h = absurd (false≢true h)
@@ -96,7 +97,7 @@ module _ (p : PlainProgram) (m : Map) (asm : AsmProgram) (l : Located) (are : Ar
     by_test true h = refl
     by_test false h = absurd (false≢true h)
 
-  kept_one : (x : Access) → IsAllowed (watched p m asm l) x → noted (watched p m asm l) x ≡ kept_of p l x
+  kept_one : (x : Access) → IsAllowed (watched p m asm l) x → noted (watched p m asm l) x ≡ kept_of p m l x
   kept_one Silent h = refl
   kept_one (In port byte) h = refl
   kept_one (Out port byte) h = refl
@@ -106,7 +107,7 @@ module _ (p : PlainProgram) (m : Map) (asm : AsmProgram) (l : Located) (are : Ar
   kept_one Stack h = refl
 
   pub kept_is_noted : (trace : List Access) → AllByRecursion (IsAllowed (watched p m asm l)) trace
-      → noted_all (watched p m asm l) trace ≡ kept p l trace
+      → noted_all (watched p m asm l) trace ≡ kept p m l trace
   kept_is_noted [] h = refl
   kept_is_noted (x ∷ trace) h =
-      ap (λ z. z ++ noted_all (watched p m asm l) trace) (kept_one x h.0) ∙ ap (λ z. kept_of p l x ++ z) (kept_is_noted trace h.1)
+      ap (λ z. z ++ noted_all (watched p m asm l) trace) (kept_one x h.0) ∙ ap (λ z. kept_of p m l x ++ z) (kept_is_noted trace h.1)

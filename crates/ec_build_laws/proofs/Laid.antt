@@ -63,7 +63,7 @@ use Rattle.ec_locate.specs.Apart.{PlacedStandApart}
 use Rattle.ec_locate.specs.Code.{label_word, address_of}
 use Rattle.ec_locate.specs.DataBank.{IsOwnedBy, CanBeLive, Names, an_object, scratch, work, IsInMemory, StandsIn, DataStands}
 use Rattle.ec_locate.specs.DataBank.{DataStandsApart}
-use Rattle.ec_locate.specs.Entries.{entries, flash_sizes, frame_size, scratch_size}
+use Rattle.ec_locate.specs.Entries.{entries, flash_sizes, frame_size, scratch_size, work_size}
 use Rattle.ec_locate.specs.FlashBank.{IsInFlash, FlashStands, FlashStandsApart}
 use Rattle.ec_locate.specs.Image.{value_number, values_at}
 use Rattle.ec_locate.specs.Initial.{values_of, ValuesStand, InitialValues, InitialValuesStand}
@@ -199,15 +199,15 @@ set_by (x ∷ inits) (suc k) u h = let r = set_by inits k u h in record { init =
 
 -- ---- calls
 
-called_known : (p : PlainIrProgram) (results : Results) (f slots : ℕ) (all code : List PlainIr)
-    → AllByRecursion (ValidOperation p results f slots all) code → (b : ℕ) → Contains (called_in code) b → b < length p.functions
-called_known p results f slots all [] h b c = let less = c.1 in absurd (omega (arith, less))
-called_known p results f slots all (call_function k to ∷ code) h b c =
+called_known : (cells : ℕ) (p : PlainIrProgram) (results : Results) (f slots : ℕ) (all code : List PlainIr)
+    → AllByRecursion (ValidOperation cells p results f slots all) code → (b : ℕ) → Contains (called_in code) b → b < length p.functions
+called_known cells p results f slots all [] h b c = let less = c.1 in absurd (omega (arith, less))
+called_known cells p results f slots all (call_function k to ∷ code) h b c =
     ⊎_elim
     (λ u. ⊎_elim (λ z. let less = z.1 in absurd (omega (arith, less))) (λ same. subst (λ n. n < length p.functions) same h.0.0)
     (Contains-push_cases [] k b u))
-    (λ u. called_known p results f slots all code h.1 b u) (Contains-append_cases (k ∷ []) (called_in code) b c)
-called_known p results f slots all (i ∷ code) h b c = called_known p results f slots all code h.1 b c
+    (λ u. called_known cells p results f slots all code h.1 b u) (Contains-append_cases (k ∷ []) (called_in code) b c)
+called_known cells p results f slots all (i ∷ code) h b c = called_known cells p results f slots all code h.1 b c
 
 -- ---- the whole
 
@@ -219,7 +219,7 @@ pub record HasKinds (p : PlainProgram) (m : Map) (asm : AsmProgram) (l : Located
   pub objects : (a i : ℕ) (o : PlainObject) (q : Place) → IsByteOf p l Data a i o q → IsAddressable o.storage → kind a ≡ Object
   pub scratch : (f frame at a : ℕ) → slice_get asm.frames.items f ≡ Some frame → slice_get l.frames.items f ≡ Some at
       → at ≤ a → a < at + frame_size frame → kind a ≡ Own
-  pub work : (a : ℕ) → l.work ≤ a → a < l.work + 64 → kind a ≡ Own
+  pub work : (a : ℕ) → l.work ≤ a → a < l.work + work_size m.io → kind a ≡ Own
   pub stack : (a : ℕ) → m.stack.first ≤ a → a < end_of m.stack → kind a ≡ Stacked
   pub initials : (a : ℕ) → a < size_of_flash m.core → is_of_initials p.structs p.objects (layout_by p m asm).initials a ≡ true
       → is_held (table a) ≡ true
@@ -245,7 +245,7 @@ module _ (laws : PlacedLaws) (p : PlainProgram) (m : Map) (asm : AsmProgram) (l 
   made : IsMadeOf p m.io q
   made = laws.made p m.io h.valid h.groups
 
-  asm_valid : ValidAsm (object_sizes p) 64 asm
+  asm_valid : ValidAsm (object_sizes p) (work_size m.io) asm
   asm_valid = short_is_valid laws.short laws.selections p m asm l h made
 
   stand : DataStands p m asm l
@@ -284,10 +284,10 @@ module _ (laws : PlacedLaws) (p : PlainProgram) (m : Map) (asm : AsmProgram) (l 
   offset_is : (o : ℕ) (z : Place) → slice_get l.places.items o ≡ Some z → place_of l o ≡ z.offset
   offset_is o z there = rw there refl
 
-  names : (o : ℕ) (d : PlainObject) → slice_get p.objects o ≡ Some d → bank_of d.home ≡ Data → Names p asm l o (place_of l o) (size d)
+  names : (o : ℕ) (d : PlainObject) → slice_get p.objects o ≡ Some d → bank_of d.home ≡ Data → Names p m asm l o (place_of l o) (size d)
   names o d is home =
       let z = place_is o d is in
-      subst (λ n. Names p asm l o n (size d)) (sym (offset_is o z.0 z.1)) (an_object o d z.0 is home z.1)
+      subst (λ n. Names p m asm l o n (size d)) (sym (offset_is o z.0 z.1)) (an_object o d z.0 is home z.1)
 
   stands_in : (o : ℕ) (d : PlainObject) → slice_get p.objects o ≡ Some d → bank_of d.home ≡ Data
       → StandsIn m.core d.storage (place_of l o) (size d)
@@ -431,7 +431,7 @@ module _ (laws : PlacedLaws) (p : PlainProgram) (m : Map) (asm : AsmProgram) (l 
           there = placed_there ∙ ap (λ n. Some n) (sym here);
         })
 
-  scratch_names : (f : ℕ) (g : PlainIrFunction) → HasScratch f g → Names p asm l (1024 + f) (scratch_of asm l f) (16 * g.slots)
+  scratch_names : (f : ℕ) (g : PlainIrFunction) → HasScratch f g → Names p m asm l (1024 + f) (scratch_of asm l f) (16 * g.slots)
   scratch_names f g s = scratch f g.slots (scratch_of asm l f) s.frame s.there
 
   scratch_memory : (f : ℕ) (g : PlainIrFunction) → slice_get q.functions f ≡ Some g
@@ -534,14 +534,14 @@ module _ (laws : PlacedLaws) (p : PlainProgram) (m : Map) (asm : AsmProgram) (l 
 
   -- ---- the work bytes
 
-  work_stands : WorkStands (data_of q) e (place_of l) l.work
+  work_stands : WorkStands (length m.io.dynamics.items) (data_of q) e (place_of l) l.work
   work_stands = record {
     high = stand.work.0;
-    at = λ i less. stand.address 1280 l.work 64 i work (omega (arith, less));
+    at = λ i less. stand.address 1280 l.work (work_size m.io) i work (omega (arith, less));
     kind = λ i less. are.work (l.work + i) (omega arith) (omega (arith, less));
     objects_apart = λ o d od home.
-        apart_from (place_of l o) (size d) l.work 64 (object_is o d od).some
-        (stand.apart o 1280 (place_of l o) l.work (size d) 64 (λ z. let b = few_objects o d od in omega (arith, z, b))
+        apart_from (place_of l o) (size d) l.work (work_size m.io) (object_is o d od).some
+        (stand.apart o 1280 (place_of l o) l.work (size d) (work_size m.io) (λ z. let b = few_objects o d od in omega (arith, z, b))
         (object_first p h.valid.object_count o 1280 (few_objects o d od) (omega arith)) (names o d od home) work);
   }
 
@@ -553,16 +553,18 @@ module _ (laws : PlacedLaws) (p : PlainProgram) (m : Map) (asm : AsmProgram) (l 
       omega (arith, b, c, d)
 
   work_apart : (f : ℕ) (g : PlainIrFunction) → slice_get q.functions f ≡ Some g
-      → Apart (scratch_of asm l f) (16 * g.slots) l.work 64
+      → Apart (scratch_of asm l f) (16 * g.slots) l.work (work_size m.io)
   work_apart f g is =
       ⊎_elim
-      (λ s. let n = s.none in let w = stand.work.1 in nothing_apart (data_size m.core) (scratch_of asm l f) (16 * g.slots) l.work 64 s.at (omega (arith, n)) w)
-      (λ s. apart_from (scratch_of asm l f) (16 * g.slots) l.work 64 (let n = s.some in omega (arith, n))
-      (stand.apart (1024 + f) 1280 (scratch_of asm l f) l.work (16 * g.slots) 64 (λ z. let b = few_functions f g is in omega (arith, z, b))
+      (λ s. let n = s.none in let w = stand.work.1 in
+      nothing_apart (data_size m.core) (scratch_of asm l f) (16 * g.slots) l.work (work_size m.io) s.at (omega (arith, n)) w)
+      (λ s. apart_from (scratch_of asm l f) (16 * g.slots) l.work (work_size m.io) (let n = s.some in omega (arith, n))
+      (stand.apart (1024 + f) 1280 (scratch_of asm l f) l.work (16 * g.slots) (work_size m.io)
+      (λ z. let b = few_functions f g is in omega (arith, z, b))
       (scratch_and_work p h.valid.object_count f h.valid.function_count) (scratch_names f g s) work))
       (scratch_is f g is)
 
-  work_laid_out : WorkIsLaidOut q e (place_of l) (scratch_of asm l)
+  work_laid_out : WorkIsLaidOut (length m.io.dynamics.items) q e (place_of l) (scratch_of asm l)
   work_laid_out = record { work = l.work; stands = work_stands; apart = work_apart }
 
   -- ---- initial values
@@ -749,10 +751,10 @@ module _ (laws : PlacedLaws) (p : PlainProgram) (m : Map) (asm : AsmProgram) (l 
       → Contains (called_in (lowered_function p (plain_table m.io) x).code) b → b < length p.functions
   called_below f x is b c =
       let v =
-      each_at (ValidIrFunction q made.valid.results) 0 q.functions f (lowered_function p (plain_table m.io) x) made.valid.functions
-      (lowered_at f x is) in
+      each_at (ValidIrFunction (length m.io.dynamics.items) q made.valid.results) 0 q.functions f
+      (lowered_function p (plain_table m.io) x) made.valid.functions (lowered_at f x is) in
       subst (λ n. b < n) (length-map p.functions (lowered_function p (plain_table m.io)))
-      (called_known q made.valid.results (0 + f) (lowered_function p (plain_table m.io) x).slots
+      (called_known (length m.io.dynamics.items) q made.valid.results (0 + f) (lowered_function p (plain_table m.io) x).slots
       (lowered_function p (plain_table m.io) x).code (lowered_function p (plain_table m.io) x).code v.code b c)
 
   has_row : (f : ℕ) → f < length p.functions → f < length rows
@@ -853,7 +855,7 @@ module _ (laws : PlacedLaws) (p : PlainProgram) (m : Map) (asm : AsmProgram) (l 
 
   long : LongStands e h.selected.items.items
   long =
-      long_stands laws.long (object_sizes p) 64 (reaches_of p l.places.items) h.selected asm h.shortened
+      long_stands laws.long (object_sizes p) (work_size m.io) (reaches_of p l.places.items) h.selected asm h.shortened
       (selected_is_valid laws.selections p m asm l h made) (0, _, h.selection.items) e refl reached short_stands labels
 
   code : CodeIsLaidOut h.selected e
@@ -874,7 +876,7 @@ module _ (laws : PlacedLaws) (p : PlainProgram) (m : Map) (asm : AsmProgram) (l 
 -- ---- the kinds of a placed program are told so
 
 asm_is_valid : PlacedLaws → (p : PlainProgram) (m : Map) (asm : AsmProgram) (l : Located) → IsTranslated p m asm l
-    → ValidAsm (object_sizes p) 64 asm
+    → ValidAsm (object_sizes p) (work_size m.io) asm
 asm_is_valid laws p m asm l h =
     short_is_valid laws.short laws.selections p m asm l h (laws.made p m.io h.valid h.groups)
 

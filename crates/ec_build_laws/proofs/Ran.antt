@@ -1,6 +1,6 @@
 -- What a placed program does.
-use Rattle.std.proofs.Common.{◌≡◌, ⊎_elim, Bool, true, subst, ℕ, ◌+◌, ◌-◌, ◌<◌, ◌≤◌, ℤ, List, [], ◌∷◌, ◌++◌, refl, sym, ap, ◌∙◌, arith}
-use Rattle.std.proofs.Common.{append_assoc}
+use Rattle.std.proofs.Common.{◌≡◌, ⊎_elim, Bool, true, subst, ℕ, ◌+◌, ◌-◌, ◌<◌, ◌≤◌, ℤ, List, [], ◌∷◌, ◌++◌, length, refl, sym, ap}
+use Rattle.std.proofs.Common.{◌∙◌, arith, append_assoc}
 use Rattle.std.specs.Prelude.{IsTrue, All}
 use Rattle.std.proofs.lemmas.Bool.{leb-true, le-leb, cases_lt}
 use Rattle.ec_space.specs.Memory.{data_size}
@@ -81,8 +81,8 @@ runs_as_operations made selections laws p m asm l e s inputs h reset give flash 
     record {
       word = word;
       begins = b;
-      runs = selections (lowered p (plain_table m.io)) h.selected e (place_of l) (scratch_of asm l) (data_size m.core) m.stack.first b.first
-          (view_of b.first inputs) inputs (made p m.io h.valid h.groups).valid h.code
+      runs = selections (length m.io.dynamics.items) (lowered p (plain_table m.io)) h.selected e (place_of l) (scratch_of asm l)
+          (data_size m.core) m.stack.first b.first (view_of b.first inputs) inputs (made p m.io h.valid h.groups).valid h.code
           (subst (λ c. IsSelection c (lowered p (plain_table m.io)) h.selected) core h.selection) fit small b.shows (λ port. refl)
           are.laid b.at;
     }

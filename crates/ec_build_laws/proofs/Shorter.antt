@@ -1,6 +1,6 @@
 -- Shortened code can be placed, and where it stands the code of the operations stands.
 use Rattle.std.proofs.Common.{◌≡◌, ℕ, zero, suc, ◌+◌, ◌*◌, ◌/◌, ◌%◌, ◌<◌, inl, inr, Bool, true, false, ◌&&◌, List, [], ◌∷◌}
-use Rattle.std.proofs.Common.{Some, map, refl, sym, ap, ◌∙◌, subst, arith, zero-add}
+use Rattle.std.proofs.Common.{Some, length, map, refl, sym, ap, ◌∙◌, subst, arith, zero-add}
 use Rattle.std.specs.Prelude.{nat_lt, if◌then◌else◌, slice_get}
 use Rattle.std.specs.List.{list_all}
 use Rattle.std.proofs.lemmas.Bool.{and_parts, ltb-true, false≢true}
@@ -24,6 +24,7 @@ use Rattle.ec_asm_near.specs.Near.{near_items}
 use Rattle.ec_core.specs.Plain.{PlainStruct, PlainStorage, static, local, param, register, PlainObject, PlainProgram}
 use Rattle.ec_core.specs.PortTable.{plain_table}
 use Rattle.ec_core.specs.Valid.{IsAddressable}
+use Rattle.ec_locate.specs.Entries.{work_size}
 use Rattle.ec_locate.specs.Placing.{object_sizes}
 use Rattle.ec_locate.specs.declared.placing.Located.{Located}
 use Rattle.ec_lower_code.specs.Code.{lowered}
@@ -57,14 +58,14 @@ shortened_is_valid based near few_based few_near objects work reaches long short
 
 -- the code of a placed program
 pub selected_is_valid : SelectionsAreValid → (p : PlainProgram) (m : Map) (asm : AsmProgram) (l : Located) → (h : IsTranslated p m asm l)
-    → IsMadeOf p m.io (lowered p (plain_table m.io)) → ValidAsm (object_sizes p) 64 h.selected
+    → IsMadeOf p m.io (lowered p (plain_table m.io)) → ValidAsm (object_sizes p) (work_size m.io) h.selected
 selected_is_valid selections p m asm l h made =
-    selections m.core (lowered p (plain_table m.io)) h.selected made.valid h.code h.selection
+    selections m.core (length m.io.dynamics.items) (lowered p (plain_table m.io)) h.selected made.valid h.code h.selection
 
 pub short_is_valid : ShortenedIsValid → SelectionsAreValid → (p : PlainProgram) (m : Map) (asm : AsmProgram) (l : Located)
-    → IsTranslated p m asm l → IsMadeOf p m.io (lowered p (plain_table m.io)) → ValidAsm (object_sizes p) 64 asm
+    → IsTranslated p m asm l → IsMadeOf p m.io (lowered p (plain_table m.io)) → ValidAsm (object_sizes p) (work_size m.io) asm
 short_is_valid short selections p m asm l h made =
-    (short (object_sizes p) 64 _ h.selected asm h.shortened (selected_is_valid selections p m asm l h made)).0
+    (short (object_sizes p) (work_size m.io) _ h.selected asm h.shortened (selected_is_valid selections p m asm l h made)).0
 
 -- ---- where it stands
 

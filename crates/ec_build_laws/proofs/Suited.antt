@@ -1,5 +1,5 @@
 -- The operations of a program have what code asks of their temporaries.
-use Rattle.std.proofs.Common.{◌≢◌, ℕ, ◌+◌, ◌≤◌, Bool, true, false, List, [], ◌∷◌, map, Option, Some, None, refl, inl}
+use Rattle.std.proofs.Common.{◌≢◌, ℕ, ◌+◌, ◌≤◌, Bool, true, false, List, [], ◌∷◌, length, map, Option, Some, None, refl, inl}
 use Rattle.std.proofs.Common.{inr}
 use Rattle.std.proofs.Common.{arith}
 use Rattle.std.specs.Prelude.{◌||◌, if◌then◌else◌, slice_get}
@@ -12,6 +12,7 @@ use Rattle.ec_fx.specs.declared.formats.FxKind.TheVariants.{UnsignedShortAccum}
 use Rattle.ec_fx.specs.declared.formats.FxKind.TheVariants.{UnsignedAccum, UnsignedLongAccum}
 use Rattle.ec_fx.specs.declared.numbers.Mode.{Mode}
 use Rattle.ec_iohw.specs.declared.operations.IoOp.{IoOp}
+use Rattle.ec_iohw.specs.declared.table.Choice.{Choice}
 use Rattle.ec_iohw.specs.declared.table.IoTable.{IoTable}
 use Rattle.ec_iohw.specs.declared.table.Pair.{Pair}
 use Rattle.ec_space.specs.Spaces.{width}
@@ -19,14 +20,15 @@ use Rattle.ec_space.specs.declared.space.SpaceId.{SpaceId}
 use Rattle.ec_space.specs.declared.space.SpaceId.TheVariants.{Flash, FarFlash, Data, Generic}
 use Rattle.ec_core.specs.ArithmeticTypes.{type_of}
 use Rattle.ec_core.specs.declared.expressions.BinOp.{BinOp}
+use Rattle.ec_core.specs.declared.expressions.BinOp.TheVariants.{Xor}
 use Rattle.ec_core.specs.Layout.{IsIntegerSize, PlainLeaf, scalar_size}
 use Rattle.ec_core.specs.Operators.{OperationTypes, number_type, step_operator}
 use Rattle.ec_core.specs.Plain.{PlainType, void, integer, fixed, pointer, array, struct, PlainExpr, expression}
 use Rattle.ec_core.specs.Plain.{PlainNode, number, null}
 use Rattle.ec_core.specs.Plain.{load, address_of, unary, binary, convert, assign, compound, step, logical_not}
 use Rattle.ec_core.specs.Plain.{logical_and, logical_or}
-use Rattle.ec_core.specs.Plain.{conditional, comma, call, io, group, PlainPlace, object, deref, member, OptionPlainExpr}
-use Rattle.ec_core.specs.Plain.{no_expr, an_expr}
+use Rattle.ec_core.specs.Plain.{conditional, comma, call, io, group, bind, dynamic_group, PlainPlace, object, deref, member}
+use Rattle.ec_core.specs.Plain.{OptionPlainExpr, no_expr, an_expr}
 use Rattle.ec_core.specs.Plain.{PlainExprs, last_expr, next_expr, PlainStmt, statement, PlainKind, empty, evaluate}
 use Rattle.ec_core.specs.Plain.{block, declare, branch}
 use Rattle.ec_core.specs.Plain.{while_loop, do_loop, for_loop, break_loop, continue_loop, return_value, OptionPlainStmt}
@@ -34,7 +36,7 @@ use Rattle.ec_core.specs.Plain.{no_stmt, a_stmt}
 use Rattle.ec_core.specs.Plain.{PlainStmts, last_stmt, next_stmt, PlainFunction, PlainProgram}
 use Rattle.ec_core.specs.PortAccesses.{pairs_of}
 use Rattle.ec_core.specs.PortOperations.{PortAction, reads, writes, updates, PortOperation, port_operation}
-use Rattle.ec_core.specs.PortTable.{PlainPort, PlainGroup, plain_table}
+use Rattle.ec_core.specs.PortTable.{PlainPort, PlainGroup, PlainTable, plain_table, choices_of}
 use Rattle.ec_core.specs.Typing.{int, unsigned_int, unsigned_long, port_value, type_of_expr}
 use Rattle.ec_core.specs.Valid.{EachFrom, IsExprType, ValidExpr, ValidParts, ValidPlace, ValidOption, ValidExprs}
 use Rattle.ec_core.specs.Valid.{ValidCondition}
@@ -48,7 +50,7 @@ use Rattle.ec_lower_code.specs.Code.{load_from, store_to}
 use Rattle.ec_lower_code.specs.Code.{value_place, settled_code, address_code, update_types, update_code, keeping_code}
 use Rattle.ec_lower_code.specs.Code.{moving_code}
 use Rattle.ec_lower_code.specs.Code.{change_code, postfix_code, step_code, offset_of, site, params_of, params_code}
-use Rattle.ec_lower_code.specs.Code.{port_operator, port_code}
+use Rattle.ec_lower_code.specs.Code.{port_operator, read_from, write_to, port_code, byte_type, bind_code, base_test, choices_code}
 use Rattle.ec_lower_code.specs.Code.{place_behind, operand_temp, access_code, pairs_code, group_code, option_labels}
 use Rattle.ec_lower_code.specs.Code.{option_code, expr_labels}
 use Rattle.ec_lower_code.specs.Code.{optional_labels, option_stmt_labels, stmt_labels, expr_code, node_code, place_code}
@@ -258,13 +260,28 @@ step_suit false up mode ty s t rest b r = postfix_suit up mode ty s t rest b r
 
 -- ---- ports
 
+read_suit : (dynamic : Option ℕ) (to : Temp) (at : ℕ) (index : Option Temp) (width : ℕ) → to.bytes ≤ 8
+    → IsSuited (read_from dynamic to at index width)
+read_suit None to at index width b = b
+read_suit (Some d) to at index width b = b
+
+write_suit : (dynamic : Option ℕ) (from : Temp) (at : ℕ) (index : Option Temp) (width : ℕ) → from.bytes ≤ 8
+    → IsSuited (write_to dynamic from at index width)
+write_suit None from at index width b = b
+write_suit (Some d) from at index width b = b
+
 port_suit : (action : PortAction) (op : BinOp) (ty : PlainType) (mode : Mode) (port : PlainPort) (index : Option Temp) (t v : ℕ)
     (rest : List PlainIr)
     → scalar_size ty ≤ 8 → AllSuited rest → AllSuited (port_code action op ty mode port index t v rest)
-port_suit reads op ty mode port index t v rest b r = (b, r)
-port_suit writes op ty mode port index t v rest b r = (b, r)
-port_suit updates op ty mode port index t v rest b r =
-    (b, (port_places op v (is_fixed ty || is_fixed ty) (is_pointer ty || is_pointer ty), (b, r)))
+port_suit reads op ty mode port index t v rest b r = (read_suit port.dynamic (temp t ty) port.address index port.width b, r)
+port_suit writes op ty mode port index t v rest b r = (write_suit port.dynamic (temp v ty) port.address index port.width b, r)
+port_suit updates op ty mode port index t v rest b r = (
+  read_suit port.dynamic (temp (v + 1) ty) port.address index port.width b,
+  (
+    port_places op v (is_fixed ty || is_fixed ty) (is_pointer ty || is_pointer ty),
+    (write_suit port.dynamic (temp (v + 1) ty) port.address index port.width b, r),
+  ),
+)
 
 access_suit : (op : IoOp) (mode : Mode) (port : Option PlainPort) (index : OptionPlainExpr) (t : ℕ) (rest : List PlainIr)
     → AllSuited rest → AllSuited (access_code op mode port index t rest)
@@ -282,6 +299,28 @@ group_suit : (acquire : Bool) (x : Option PlainGroup) (t : ℕ) (rest : List Pla
     → AllSuited (group_code acquire x t rest)
 group_suit acquire None t rest r = r
 group_suit acquire (Some x) t rest r = pairs_suit (pairs_of acquire x) t rest r
+
+-- ---- dynamic groups
+
+bind_suit : (d : ℕ) (c : Option Choice) (t : ℕ) (rest : List PlainIr) → AllSuited rest → AllSuited (bind_code d c t rest)
+bind_suit d None t rest r = r
+bind_suit d (Some c) t rest r = (omega arith, (tt, r))
+
+base_suit : (mode : Mode) (d base l t : ℕ) (rest : List PlainIr) → AllSuited rest → AllSuited (base_test mode d base l t rest)
+base_suit mode d base l t rest r =
+    let places = places_suit Xor t (is_fixed byte_type || is_fixed byte_type) (is_pointer byte_type || is_pointer byte_type) in
+    (tt, (omega arith, (places, (omega arith, r))))
+
+choices_suit : (acquire : Bool) (table : PlainTable) (mode : Mode) (d : ℕ) (cs : List Choice) (l t : ℕ) (rest : List PlainIr)
+    → AllSuited rest → AllSuited (choices_code acquire table mode d cs l t rest)
+choices_suit acquire table mode d [] l t rest r = r
+choices_suit acquire table mode d (c ∷ []) l t rest r = group_suit acquire (slice_get table.groups c.group) t rest r
+choices_suit acquire table mode d (c ∷ other ∷ cs) l t rest r =
+    let end : List PlainIr = label (l + 1) ∷ rest in
+    let q : List PlainIr = jump (l + 1) ∷ label l ∷ group_code acquire (slice_get table.groups c.group) t end in
+    base_suit mode d c.base l t (choices_code acquire table mode d (other ∷ cs) (l + 2) t q)
+    (choices_suit acquire table mode d (other ∷ cs) (l + 2) t q
+    (tt, (tt, group_suit acquire (slice_get table.groups c.group) t end (tt, r))))
 
 -- ---- parts of conditions, and steps
 
@@ -397,6 +436,10 @@ module _ (program : PlainProgram) (table : IoTable) (f : ℕ) where
         (access_suit op mode (slice_get (plain_table table).ports port) i t rest r))
     node_suit ty mode (group acquire g) l t rest h k v r =
         group_suit acquire (slice_get (plain_table table).groups g) t rest r
+    node_suit ty mode (bind d choice) l t rest h k v r =
+        bind_suit d (slice_get (choices_of (plain_table table) d) choice) t rest r
+    node_suit ty mode (dynamic_group acquire d) l t rest h k v r =
+        choices_suit acquire (plain_table table) mode d (choices_of (plain_table table) d) l t rest r
 
     unread_suit : (e : PlainExpr) (l t : ℕ) (rest : List PlainIr) → ValidExpr program table f e → AllSuited rest
         → AllSuited (unread_code program (plain_table table) e l t rest)
@@ -558,5 +601,6 @@ suited program table valid = functions_suit program table 0 program.functions va
 pub have_code : LoweredIsMadeOf → OperationsStayOnPorts → OperationsHaveCode → LoweredProgramsHaveCode
 have_code made on_ports have program table valid bytes =
     let fit = suited program table valid in
-    let has = have (lowered program (plain_table table)) (made program table valid bytes).valid (on_ports program table valid bytes) fit in
+    let has = have (length table.dynamics.items) (lowered program (plain_table table)) (made program table valid bytes).valid
+    (on_ports program table valid bytes) fit in
     record { suited = fit; code = has.0; in_place = has.1 }

@@ -12,6 +12,7 @@ use Rattle.ec_locate.specs.declared.placing.Located.{Located}
 use Rattle.ec_build_laws.specs.Kinds.{is_byte_of, is_of_objects, is_of_scratch, register_kind, memory_kind, kinds, environment_of}
 use Rattle.ec_space.specs.declared.space.Bank.TheVariants.{Data}
 use Rattle.ec_space.specs.Bytes.{AreBytes}
+use Rattle.ec_locate.specs.Entries.{work_size}
 use Rattle.ec_locate.specs.Placing.{IsLocated}
 use Rattle.ec_build_laws.specs.Laws.{AreKinds, AreLaidOut}
 use Rattle.ec_build_laws.specs.Translation.{IsTranslated}
@@ -106,7 +107,8 @@ module _ (p : PlainProgram) (m : Map) (asm : AsmProgram) (l : Located) where
     by_tests false true q r =
         memory_may_be m.core (if_barred (memory_kind p m asm l a)) (data_size m.core) a
         (stays_so (memory_kind p m asm l a) (memory_is_so (is_of_objects Data p.structs p.objects l.places.items a)
-        (is_of_scratch asm.frames.items l.frames.items a || is_byte_of l.work 64 a) (is_byte_of m.stack.first m.stack.size a)))
+        (is_of_scratch asm.frames.items l.frames.items a || is_byte_of l.work (work_size m.io) a)
+        (is_byte_of m.stack.first m.stack.size a)))
         (ltb-false a 256 q) (ltb-true a (data_size m.core) r)
     by_tests false false q r = refl
 

@@ -193,7 +193,7 @@ module _ (laws : WholeLaws) (p : PlainProgram) (m : Map) (asm : AsmProgram) (l :
     by_shown (Ends es result) q t = t
 
   alike : (k : ℕ) → HasMeaning p m inputs k → noted_all e (trace_of (machine k inputs r.main))
-      ≡ kept p l (trace_of (machine k inputs r.main))
+      ≡ kept p m l (trace_of (machine k inputs r.main))
   alike k has =
       kept_is_noted p m asm l are (frames_are_needs p m asm l h) (trace_of (machine k inputs r.main))
       (subst (λ f. AllByRecursion (IsAllowed e) (trace_of (machine k f r.main))) r.given
@@ -271,8 +271,8 @@ module _ (laws : WholeLaws) (p : PlainProgram) (m : Map) (asm : AsmProgram) (l :
     copied = r.copies ∙ are_copies laws.laid p m asm l h are;
     quiet = quiet e r.before r.trace (spans_of (lowered p (plain_table m.io))) r.calls r.copies;
     initials = initials;
-    reached = λ defined. reached p m l e s inputs r (kept p l) (HasMeaning p m inputs) alike (λ k point. defined k point);
-    within = within p m l e s inputs r (kept p l) (HasMeaning p m inputs) alike laws.machine_run laws.turns
+    reached = λ defined. reached p m l e s inputs r (kept p m l) (HasMeaning p m inputs) alike (λ k point. defined k point);
+    within = within p m l e s inputs r (kept p m l) (HasMeaning p m inputs) alike laws.machine_run laws.turns
         (meaning_before laws.turns p m inputs);
     spaces = spaces;
     live = record { accesses = laws.live p; parts = laws.parts p (plain_table m.io) inputs };

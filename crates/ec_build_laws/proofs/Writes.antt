@@ -19,18 +19,20 @@ use Rattle.ec_core.specs.Plain.{PlainType, PlainObject, PlainStorage, static, lo
 use Rattle.ec_core.specs.Pointers.{Pointer as PointerValue, moved}
 use Rattle.ec_core.specs.PortAccesses.{number_read, bytes_read, bytes_written, byte_read, next_byte}
 use Rattle.ec_core.specs.State.{Inputs, Event, In, Out, Read, Write, told, ObjectState, State, worked, with_event}
-use Rattle.ec_core.specs.State.{with_object, Outcome, got, more, undefined, next, given}
+use Rattle.ec_core.specs.State.{with_object, with_choice, chosen, Outcome, got, more, undefined, next, given}
 use Rattle.ec_core.specs.Typing.{int}
 use Rattle.ec_core.proofs.Homes.{home_written}
 use Rattle.ec_ir.specs.Costs.{op_steps}
 use Rattle.ec_ir.specs.Meaning.{Mach, machine, held_as, pointer_in, held_pointer, number_in, held_number, object_access}
 use Rattle.ec_ir.specs.Meaning.{access_at, leaf_from, accessed_type, is_access_of, pointer_access, put_leaf, put, Frame}
 use Rattle.ec_ir.specs.Meaning.{Place, place, find, Go, jump_to, enter, returned, resulted, leave, element_of_port}
+use Rattle.ec_ir.specs.Meaning.{based, element_of_cell}
 use Rattle.ec_ir.specs.Meaning.{put_named, put_object, before_store, kept_for, active}
 use Rattle.ec_ir.specs.Meaning.{port_read, port_written, perform, exec_from, exec, start, pointer_at, run}
 use Rattle.ec_ir.specs.Operations.{PlainIr, constant, copy, address, field, load_at, store_at, load_object}
 use Rattle.ec_ir.specs.Operations.{store_object, binary_op, unary_op, conversion, label, jump, branch_zero}
-use Rattle.ec_ir.specs.Operations.{call_function, return_from, port_in, port_out, PlainIrFunction, PlainIrProgram}
+use Rattle.ec_ir.specs.Operations.{call_function, return_from, port_in, port_out, load_cell, store_cell, cell_port}
+use Rattle.ec_ir.specs.Operations.{PlainIrFunction, PlainIrProgram}
 use Rattle.ec_ir.specs.Operations.{data_of}
 use Rattle.ec_ir.specs.Temporaries.{Content, bits, points, value_in, value_of_type, is_zero, Held, Temps, no_temps}
 use Rattle.ec_ir.specs.Temporaries.{with_content, with_temp, read_held, held}
@@ -202,6 +204,15 @@ module _ (p : PlainProgram) where
   keeps_element port width None m = λ g. g
   keeps_element port width (Some t) m = keeps_next m.state (held_number t m.temps m.state) _ (keeps_number t m.temps m.state) (λ i s g. g)
 
+  keeps_based : (base : Option ℕ) (s : State) → Keeps s (based base s)
+  keeps_based None s = λ g. g
+  keeps_based (Some base) s = λ g. g
+
+  keeps_cell : (cell offset width : ℕ) (t : Option Temp) (m : Mach) → Keeps m.state (element_of_cell cell offset width t m)
+  keeps_cell cell offset width t m =
+      keeps_next m.state (based (chosen cell m.state) m.state) _ (keeps_based (chosen cell m.state) m.state)
+      (λ base s. keeps_element (base + offset) width t (machine m.temps s))
+
   bytes_read_keep : (inputs : Inputs) (n port : ℕ) (s : State) → Good s → Good (bytes_read inputs n port s)
   bytes_read_keep inputs zero port s g = g
   bytes_read_keep inputs (suc n) port s g =
@@ -232,6 +243,24 @@ module _ (p : PlainProgram) where
       leave_keeps (f ∷ stack) result s =
           keeps_next s (resulted f.to result f.temps s) _ (keeps_resulted f.to result f.temps s)
           (λ temps s1. g (place f.code stack f.rest) (machine temps (kept_for p (active p.main stack) s1)))
+
+      -- bytes of a port are read to a temporary, or written from one
+      read_keeps : (to : Temp) (at width : ℕ) (q : Place) (temps : Temps) (s : State)
+          → Keeps s (next (port_read inputs at width s) (λ v s1. go q (machine (with_temp to v temps) s1)))
+      read_keeps to at width q temps s =
+          keeps_next s (port_read inputs at width s) _
+          (keeps_if s (nat_le (at + width) 256) (got (Number (pos (number_read inputs width at s))) (bytes_read inputs width at s))
+          (undefined BufferIndex s) (bytes_read_keep inputs width at s) (λ x. x))
+          (λ v s1. g q (machine (with_temp to v temps) s1))
+
+      write_keeps : (from : Temp) (at width : ℕ) (q : Place) (temps : Temps) (s : State)
+          → Keeps s (next (held_number from temps s) (λ low s1. next (port_written at width low s1) (λ v s2. go q (machine temps s2))))
+      write_keeps from at width q temps s =
+          keeps_next s (held_number from temps s) _ (keeps_number from temps s)
+          (λ low s1. keeps_next s1 (port_written at width low s1) _
+          (keeps_if s1 (nat_le (at + width) 256) (got (Number (pos low)) (bytes_written width at low s1)) (undefined BufferIndex s1)
+          (bytes_written_keep width at low s1) (λ x. x))
+          (λ v s2. g q (machine temps s2)))
 
       perform_keeps : (i : PlainIr) (code : List PlainIr) (stack : List Frame) (rest : List PlainIr) (temps : Temps) (s : State)
           → Keeps s (perform functions p inputs i on go code stack rest temps s)
@@ -289,18 +318,24 @@ module _ (p : PlainProgram) where
           (λ result s1. leave_keeps stack result s1)
       perform_keeps (port_in to port index width) code stack rest temps s =
           keeps_next s (element_of_port port width index (machine temps s)) _ (keeps_element port width index (machine temps s))
-          (λ at s1. keeps_next s1 (port_read inputs at width s1) _
-          (keeps_if s1 (nat_le (at + width) 256) (got (Number (pos (number_read inputs width at s1))) (bytes_read inputs width at s1))
-          (undefined BufferIndex s1)
-          (bytes_read_keep inputs width at s1) (λ x. x))
-          (λ v s2. g (place code stack rest) (machine (with_temp to v temps) s2)))
+          (λ at s1. read_keeps to at width (place code stack rest) temps s1)
       perform_keeps (port_out from port index width) code stack rest temps s =
           keeps_next s (element_of_port port width index (machine temps s)) _ (keeps_element port width index (machine temps s))
-          (λ at s1. keeps_next s1 (held_number from temps s1) _ (keeps_number from temps s1)
-          (λ low s2. keeps_next s2 (port_written at width low s2) _
-          (keeps_if s2 (nat_le (at + width) 256) (got (Number (pos low)) (bytes_written width at low s2)) (undefined BufferIndex s2)
-          (bytes_written_keep width at low s2) (λ x. x))
-          (λ v s3. g (place code stack rest) (machine temps s3))))
+          (λ at s1. write_keeps from at width (place code stack rest) temps s1)
+      perform_keeps (load_cell to cell) code stack rest temps s =
+          keeps_next s (based (chosen cell s) s) _ (keeps_based (chosen cell s) s)
+          (λ base s1. g (place code stack rest) (machine (with_temp to (Number (pos base)) temps) s1))
+      perform_keeps (store_cell cell from) code stack rest temps s =
+          keeps_next s (held_number from temps s) _ (keeps_number from temps s)
+          (λ low s1. g (place code stack rest) (machine temps (with_choice cell low s1)))
+      perform_keeps (cell_port true to cell offset index width) code stack rest temps s =
+          keeps_next s (element_of_cell cell offset width index (machine temps s)) _
+          (keeps_cell cell offset width index (machine temps s))
+          (λ at s1. read_keeps to at width (place code stack rest) temps s1)
+      perform_keeps (cell_port false from cell offset index width) code stack rest temps s =
+          keeps_next s (element_of_cell cell offset width index (machine temps s)) _
+          (keeps_cell cell offset width index (machine temps s))
+          (λ at s1. write_keeps from at width (place code stack rest) temps s1)
 
     exec_keeps : (n : ℕ) (code : List PlainIr) (stack : List Frame) (rest : List PlainIr) (m : Mach)
         → Keeps m.state (exec_from functions p inputs n code stack rest m)

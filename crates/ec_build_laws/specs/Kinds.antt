@@ -14,7 +14,7 @@ use Rattle.ec_asm_based.specs.Based.{base_set}
 use Rattle.ec_core.specs.Layout.{size_of_type}
 use Rattle.ec_core.specs.Plain.{PlainStruct, PlainObject, PlainProgram}
 use Rattle.ec_map.specs.declared.map.Map.{Map}
-use Rattle.ec_locate.specs.Entries.{frame_size}
+use Rattle.ec_locate.specs.Entries.{frame_size, work_size}
 use Rattle.ec_locate.specs.Fixed.{same_bank}
 use Rattle.ec_locate.specs.Placing.{layout_by}
 use Rattle.ec_locate.specs.Stands.{environment}
@@ -66,7 +66,7 @@ register_kind core a =
 abbrev pub memory_kind : PlainProgram → Map → AsmProgram → Located → ℕ → Kind
 memory_kind p m asm l a =
     if is_of_objects Data p.structs p.objects l.places.items a then Object
-    else if is_of_scratch asm.frames.items l.frames.items a || is_byte_of l.work 64 a then Own
+    else if is_of_scratch asm.frames.items l.frames.items a || is_byte_of l.work (work_size m.io) a then Own
     else if is_byte_of m.stack.first m.stack.size a then Stacked else Barred
 
 -- what stands at each data address of the core of a map

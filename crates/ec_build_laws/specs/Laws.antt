@@ -1,5 +1,5 @@
 -- The operations of a program have code.
-use Rattle.std.specs.Prelude.{ℕ, ◌≡◌, ◌⊎◌, ◌+◌, ◌/◌, ◌%◌, ◌<◌, ◌≤◌, false, IsTrue, Some, slice_get}
+use Rattle.std.specs.Prelude.{ℕ, ◌≡◌, ◌⊎◌, ◌+◌, ◌/◌, ◌%◌, ◌<◌, ◌≤◌, false, IsTrue, Some, length, slice_get}
 use Rattle.ec_space.specs.Bytes.{AreBytes}
 use Rattle.ec_space.specs.Memory.{data_size}
 use Rattle.ec_space.specs.declared.Core.{Core}
@@ -22,7 +22,7 @@ use Rattle.ec_core.specs.Valid.{IsAddressable, Valid}
 use Rattle.ec_map.specs.Maps.{ValidMap}
 use Rattle.ec_map.specs.Regions.{end_of}
 use Rattle.ec_map.specs.declared.map.Map.{Map}
-use Rattle.ec_locate.specs.Entries.{frame_size}
+use Rattle.ec_locate.specs.Entries.{frame_size, work_size}
 use Rattle.ec_locate.specs.Placing.{IsLocated, object_sizes}
 use Rattle.ec_locate.specs.declared.placing.Located.{Located}
 use Rattle.ec_lower_code.specs.Code.{lowered}
@@ -56,11 +56,11 @@ pub record IsObjectByte (p : PlainProgram) (l : Located) (bank : Bank) (a : ℕ)
 
 -- an address that is code's own: that of a register of a core or of the stack pointer, or of a byte of scratch memory
 -- or of the work bytes
-pub data IsOwnByte (core : Core) (asm : AsmProgram) (l : Located) : ℕ → Type 0 where
-  of_register : (a : ℕ) → IsTrue (is_core_register core a) → is_apart a ≡ false → IsOwnByte core asm l a
+pub data IsOwnByte (m : Map) (asm : AsmProgram) (l : Located) : ℕ → Type 0 where
+  of_register : (a : ℕ) → IsTrue (is_core_register m.core a) → is_apart a ≡ false → IsOwnByte m asm l a
   of_scratch : (a f frame at : ℕ) → slice_get asm.frames.items f ≡ Some frame → slice_get l.frames.items f ≡ Some at
-      → at ≤ a → a < at + frame_size frame → IsOwnByte core asm l a
-  of_work : (a : ℕ) → l.work ≤ a → a < l.work + 64 → IsOwnByte core asm l a
+      → at ≤ a → a < at + frame_size frame → IsOwnByte m asm l a
+  of_work : (a : ℕ) → l.work ≤ a → a < l.work + work_size m.io → IsOwnByte m asm l a
 
 -- RAMPZ is told to be it on a core that has it. Registers but that and Y's, scratch memory and work bytes are code's
 -- own, ports are ports, and the bytes of region `stack` are the stack's. All bytes of objects are told to be such, but
@@ -74,17 +74,17 @@ pub record AreKinds (p : PlainProgram) (m : Map) (asm : AsmProgram) (l : Located
       → kinds p m asm l a ≡ Object
   pub scratch : (f frame at a : ℕ) → slice_get asm.frames.items f ≡ Some frame → slice_get l.frames.items f ≡ Some at
       → at ≤ a → a < at + frame_size frame → kinds p m asm l a ≡ Own
-  pub work : (a : ℕ) → l.work ≤ a → a < l.work + 64 → kinds p m asm l a ≡ Own
+  pub work : (a : ℕ) → l.work ≤ a → a < l.work + work_size m.io → kinds p m asm l a ≡ Own
   pub stack : (a : ℕ) → m.stack.first ≤ a → a < end_of m.stack → kinds p m asm l a ≡ Stacked
   pub object_told : (a : ℕ) → kinds p m asm l a ≡ Object → IsObjectByte p l Data a
-  pub own_told : (a : ℕ) → kinds p m asm l a ≡ Own → IsOwnByte m.core asm l a
+  pub own_told : (a : ℕ) → kinds p m asm l a ≡ Own → IsOwnByte m asm l a
   pub port_told : (a : ℕ) → kinds p m asm l a ≡ Port → IsTrue (is_port m.core a)
   pub stack_told : (a : ℕ) → kinds p m asm l a ≡ Stacked → (m.stack.first ≤ a) × (a < end_of m.stack)
 
 abbrev pub KindsAreTold : Type 0
 KindsAreTold =
     (p : PlainProgram) (m : Map) (asm : AsmProgram) (l : Located) → Valid p m.io → ValidMap m
-    → ValidAsm (object_sizes p) 64 asm → IsLocated p m asm l → AreKinds p m asm l
+    → ValidAsm (object_sizes p) (work_size m.io) asm → IsLocated p m asm l → AreKinds p m asm l
 
 -- they suit the data addresses and the flash of the map's core
 abbrev pub KindsFit : Type 0
@@ -103,7 +103,7 @@ SetsBase e begin =
 
 -- code, objects and stack stand as the code of the operations asks
 pub record AreLaidOut (p : PlainProgram) (m : Map) (selected asm : AsmProgram) (l : Located) (e : Env) : Type 0 where
-  pub laid : IsLaidOut (lowered p (plain_table m.io)) selected e (place_of l) (scratch_of asm l) m.stack.first
+  pub laid : IsLaidOut (length m.io.dynamics.items) (lowered p (plain_table m.io)) selected e (place_of l) (scratch_of asm l) m.stack.first
   pub sets : SetsBase e laid.code.begin
 
 -- those of a placed program do

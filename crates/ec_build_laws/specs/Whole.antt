@@ -26,6 +26,7 @@ use Rattle.ec_core.specs.declared.values.Undefined.{Undefined}
 use Rattle.ec_ir.specs.Temporaries.{low_bytes}
 use Rattle.ec_core_accesses.specs.Objects.{GoesByLiveAccesses}
 use Rattle.ec_map.specs.declared.map.Map.{Map}
+use Rattle.ec_locate.specs.Entries.{work_size}
 use Rattle.ec_locate.specs.Layout.{initials_by}
 use Rattle.ec_locate.specs.Placing.{entries_by, scratch_needs}
 use Rattle.ec_locate.specs.declared.placing.Located.{Located}
@@ -41,25 +42,25 @@ use Rattle.ec_build_laws.specs.Translation.{IsTranslated}
 -- ---- what is left of a trace
 
 -- a byte of the scratch memory of a function, or one of the work bytes
-abbrev pub is_own_byte : PlainProgram → Located → ℕ → Bool
-is_own_byte p l a = is_of_scratch (scratch_needs p) l.frames.items a || is_byte_of l.work 64 a
+abbrev pub is_own_byte : PlainProgram → Map → Located → ℕ → Bool
+is_own_byte p m l a = is_of_scratch (scratch_needs p) l.frames.items a || is_byte_of l.work (work_size m.io) a
 
 abbrev pub unless : Bool → Access → List Access
 unless own a = if own then [] else a ∷ []
 
-abbrev pub kept_of : PlainProgram → Located → Access → List Access
-kept_of p l Silent = []
-kept_of p l Stack = []
-kept_of p l (PortIn port byte) = PortIn port byte ∷ []
-kept_of p l (PortOut port byte) = PortOut port byte ∷ []
-kept_of p l (ByteRead FlashBank at byte) = ByteRead FlashBank at byte ∷ []
-kept_of p l (ByteRead DataBank at byte) = unless (is_own_byte p l at) (ByteRead DataBank at byte)
-kept_of p l (ByteWrite at byte) = unless (is_own_byte p l at) (ByteWrite at byte)
+abbrev pub kept_of : PlainProgram → Map → Located → Access → List Access
+kept_of p m l Silent = []
+kept_of p m l Stack = []
+kept_of p m l (PortIn port byte) = PortIn port byte ∷ []
+kept_of p m l (PortOut port byte) = PortOut port byte ∷ []
+kept_of p m l (ByteRead FlashBank at byte) = ByteRead FlashBank at byte ∷ []
+kept_of p m l (ByteRead DataBank at byte) = unless (is_own_byte p m l at) (ByteRead DataBank at byte)
+kept_of p m l (ByteWrite at byte) = unless (is_own_byte p m l at) (ByteWrite at byte)
 
 -- all accesses but those that are silent, those of the stack, and reads and writes of scratch memory and work bytes
-abbrev pub kept : PlainProgram → Located → List Access → List Access
-kept p l [] = []
-kept p l (a ∷ trace) = kept_of p l a ++ kept p l trace
+abbrev pub kept : PlainProgram → Map → Located → List Access → List Access
+kept p m l [] = []
+kept p m l (a ∷ trace) = kept_of p m l a ++ kept p m l trace
 
 -- ---- what an event stands for
 
@@ -149,10 +150,10 @@ pub record ShowsWhole (p : PlainProgram) (m : Map) (l : Located) (s : State) (in
   pub quiet : ports_of start ≡ []
   pub initials : AreInitial p l main
   pub reached : Defined p (plain_table m.io) inputs → (n : ℕ)
-      → Comes p l (kept p l) s inputs start n (start_steps p + work p (plain_table m.io) inputs n)
+      → Comes p l (kept p m l) s inputs start n (start_steps p + work p (plain_table m.io) inputs n)
       (source p (plain_table m.io) inputs n)
   pub within : (k : ℕ)
-      → IsWithinSource p l (kept p l) s inputs start (source p (plain_table m.io) inputs k) (machine k inputs s)
+      → IsWithinSource p l (kept p m l) s inputs start (source p (plain_table m.io) inputs k) (machine k inputs s)
   pub spaces : (n : ℕ) → StaysAtHome p l (source p (plain_table m.io) inputs n)
   pub live : GoesByLiveAccesses p (plain_table m.io) inputs
   pub start_stack : (k : ℕ) (trace : List Access) (t : State) → k < steps → machine k inputs s ≡ Running trace t

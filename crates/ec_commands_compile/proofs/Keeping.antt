@@ -53,15 +53,15 @@ no_write : (own : Bool) (at byte : ℕ) (rest : List Access) → ports_of (unles
 no_write true at byte rest = refl
 no_write false at byte rest = refl
 
-pub ports_kept : (p : PlainProgram) (l : Located) (trace : List Access) → ports_of (kept p l trace) ≡ ports_of trace
-ports_kept p l [] = refl
-ports_kept p l (PortIn port byte ∷ trace) = ap (λ (xs : List Access). PortIn port byte ∷ xs) (ports_kept p l trace)
-ports_kept p l (PortOut port byte ∷ trace) = ap (λ (xs : List Access). PortOut port byte ∷ xs) (ports_kept p l trace)
-ports_kept p l (Silent ∷ trace) = ports_kept p l trace
-ports_kept p l (Stack ∷ trace) = ports_kept p l trace
-ports_kept p l (ByteRead FlashBank at byte ∷ trace) = ports_kept p l trace
-ports_kept p l (ByteRead DataBank at byte ∷ trace) = no_read _ at byte (kept p l trace) ∙ ports_kept p l trace
-ports_kept p l (ByteWrite at byte ∷ trace) = no_write _ at byte (kept p l trace) ∙ ports_kept p l trace
+pub ports_kept : (p : PlainProgram) (m : Map) (l : Located) (trace : List Access) → ports_of (kept p m l trace) ≡ ports_of trace
+ports_kept p m l [] = refl
+ports_kept p m l (PortIn port byte ∷ trace) = ap (λ (xs : List Access). PortIn port byte ∷ xs) (ports_kept p m l trace)
+ports_kept p m l (PortOut port byte ∷ trace) = ap (λ (xs : List Access). PortOut port byte ∷ xs) (ports_kept p m l trace)
+ports_kept p m l (Silent ∷ trace) = ports_kept p m l trace
+ports_kept p m l (Stack ∷ trace) = ports_kept p m l trace
+ports_kept p m l (ByteRead FlashBank at byte ∷ trace) = ports_kept p m l trace
+ports_kept p m l (ByteRead DataBank at byte ∷ trace) = no_read _ at byte (kept p m l trace) ∙ ports_kept p m l trace
+ports_kept p m l (ByteWrite at byte ∷ trace) = no_write _ at byte (kept p m l trace) ∙ ports_kept p m l trace
 
 -- ---- port accesses of events
 
@@ -106,15 +106,15 @@ ports_events p place (Write o k space told ∷ es) =
 
 -- ---- what is shown
 
-shown_all : (p : PlainProgram) (l : Located) (start trace : List Access) (es : List Event) → ports_of start ≡ []
-    → ShowsAll p l (kept p l) start es trace → ports_of trace ≡ port_events es
-shown_all p l start trace es quiet h =
+shown_all : (p : PlainProgram) (m : Map) (l : Located) (start trace : List Access) (es : List Event) → ports_of start ≡ []
+    → ShowsAll p l (kept p m l) start es trace → ports_of trace ≡ port_events es
+shown_all p m l start trace es quiet h =
     ap ports_of h.is ∙ ports_append start h.after ∙ ap (λ (xs : List Access). xs ++ ports_of h.after) quiet
-    ∙ sym (ports_kept p l h.after) ∙ ap ports_of h.shown ∙ ports_events p (place_of l) es
+    ∙ sym (ports_kept p m l h.after) ∙ ap ports_of h.shown ∙ ports_events p (place_of l) es
 
-shown_first : (p : PlainProgram) (l : Located) (start trace : List Access) (es : List Event) → ports_of start ≡ []
-    → BeginWith trace start ⊎ ShowsFirst p l (kept p l) start es trace → BeginWith (ports_of trace) (port_events es)
-shown_first p l start trace es quiet (inl h) =
+shown_first : (p : PlainProgram) (m : Map) (l : Located) (start trace : List Access) (es : List Event) → ports_of start ≡ []
+    → BeginWith trace start ⊎ ShowsFirst p l (kept p m l) start es trace → BeginWith (ports_of trace) (port_events es)
+shown_first p m l start trace es quiet (inl h) =
     record {
       added = port_events es;
       is = ap (λ (xs : List Access). xs ++ port_events es)
@@ -124,43 +124,43 @@ shown_first p l start trace es quiet (inl h) =
     front : (xs ys : List Access) → xs ++ ys ≡ [] → xs ≡ []
     front [] ys e = refl
     front (x ∷ xs) ys e = cc
-shown_first p l start trace es quiet (inr h) =
-    let same : ports_of trace ≡ ports_of (kept p l h.after) =
+shown_first p m l start trace es quiet (inr h) =
+    let same : ports_of trace ≡ ports_of (kept p m l h.after) =
     ap ports_of h.is ∙ ports_append start h.after ∙ ap (λ (xs : List Access). xs ++ ports_of h.after) quiet
-    ∙ sym (ports_kept p l h.after) in
+    ∙ sym (ports_kept p m l h.after) in
     record {
       added = ports_of h.shown.added;
-      is = sym (ports_events p (place_of l) es) ∙ ap ports_of h.shown.is ∙ ports_append (kept p l h.after) h.shown.added
+      is = sym (ports_events p (place_of l) es) ∙ ap ports_of h.shown.is ∙ ports_append (kept p m l h.after) h.shown.added
           ∙ ap (λ (xs : List Access). xs ++ ports_of h.shown.added) (sym same);
     }
 
 -- ---- by how the source goes on
 
-module _ (p : PlainProgram) (l : Located) (s : State) (inputs : Inputs) (start : List Access) (quiet : ports_of start ≡ []) where
+module _ (p : PlainProgram) (m : Map) (l : Located) (s : State) (inputs : Inputs) (start : List Access) (quiet : ports_of start ≡ []) where
   first_by : (b : Behaviour Event ℤ Undefined) (trace : List Access) (t : State) → ((point : Undefined) → b ≡ Failed point → ⊥)
-      → IsWithinSource p l (kept p l) s inputs start b (Running trace t) → BeginWith (ports_of trace) (port_events (events_of b))
-  first_by (GoesOn es) trace t defined h = shown_first p l start trace es quiet h
-  first_by (Ends es result) trace t defined h = shown_first p l start trace es quiet h
+      → IsWithinSource p l (kept p m l) s inputs start b (Running trace t) → BeginWith (ports_of trace) (port_events (events_of b))
+  first_by (GoesOn es) trace t defined h = shown_first p m l start trace es quiet h
+  first_by (Ends es result) trace t defined h = shown_first p m l start trace es quiet h
   first_by (Failed point) trace t defined h = absurd (defined point refl)
 
   never_by : (b : Behaviour Event ℤ Undefined) (trace : List Access) (kind : FaultKind) (pc : ℕ)
       → ((point : Undefined) → b ≡ Failed point → ⊥)
-      → IsWithinSource p l (kept p l) s inputs start b (FaultedAt trace kind pc) → ⊥
+      → IsWithinSource p l (kept p m l) s inputs start b (FaultedAt trace kind pc) → ⊥
   never_by (GoesOn es) trace kind pc defined h = h
   never_by (Ends es result) trace kind pc defined h = h
   never_by (Failed point) trace kind pc defined h = defined point refl
 
-  ended_by : (m : Map) (n : ℕ) (b : Behaviour Event ℤ Undefined) (trace : List Access) (result : ℤ) → source p (plain_table m.io) inputs n
+  ended_by : (n : ℕ) (b : Behaviour Event ℤ Undefined) (trace : List Access) (result : ℤ) → source p (plain_table m.io) inputs n
       ≡ b
       → ((point : Undefined) → b ≡ Failed point → ⊥)
-      → IsWithinSource p l (kept p l) s inputs start b (EndedWith trace result) → EndsWith p m inputs n result trace
-  ended_by m n (GoesOn es) trace result is defined h = absurd h
-  ended_by m n (Ends es other) trace result is defined h = record {
+      → IsWithinSource p l (kept p m l) s inputs start b (EndedWith trace result) → EndsWith p m inputs n result trace
+  ended_by n (GoesOn es) trace result is defined h = absurd h
+  ended_by n (Ends es other) trace result is defined h = record {
     es = es;
     source_ends = is ∙ ap (λ (r : ℤ). Ends es r) (sym h.1);
-    all = shown_all p l start trace es quiet h.0;
+    all = shown_all p m l start trace es quiet h.0;
   }
-  ended_by m n (Failed point) trace result is defined h = absurd (defined point refl)
+  ended_by n (Failed point) trace result is defined h = absurd (defined point refl)
 
 -- a run that ended after fewer steps does not go on
 not_out : (s : State) (inputs : Inputs) (k steps : ℕ) (trace other : List Access) (result : ℤ) (t : State) → machine k inputs s
@@ -177,12 +177,12 @@ not_out s inputs k steps trace other result t ended fewer goes =
     apart : (r : Run) → r ≡ Running other t → r ≡ EndedWith trace result → ⊥
     apart r a b = cc
 
-enough_steps : (p : PlainProgram) (l : Located) (s : State) (inputs : Inputs) (start : List Access) (n most steps : ℕ)
+enough_steps : (p : PlainProgram) (m : Map) (l : Located) (s : State) (inputs : Inputs) (start : List Access) (n most steps : ℕ)
     (b : Behaviour Event ℤ Undefined) (es : List Event) (result : ℤ)
-    (trace : List Access) (t : State) → b ≡ Ends es result → Comes p l (kept p l) s inputs start n most b → most ≤ steps
+    (trace : List Access) (t : State) → b ≡ Ends es result → Comes p l (kept p m l) s inputs start n most b → most ≤ steps
     → machine steps inputs s ≡ Running trace t → ⊥
-enough_steps p l s inputs start n most steps b es result trace t is comes few goes =
-    let h = subst (λ x. Comes p l (kept p l) s inputs start n most x) is comes in
+enough_steps p m l s inputs start n most steps b es result trace t is comes few goes =
+    let h = subst (λ x. Comes p l (kept p m l) s inputs start n most x) is comes in
     not_out s inputs h.0 steps h.1 trace result t h.3 (omega (arith, h.2, few)) goes
 
 pub keeps_source : (sources : List (List ℕ)) (text : List ℕ) (b : Built) (gives : Gives) (steps : ℕ) (s after : State) (report : EmuReport)
@@ -191,28 +191,29 @@ pub keeps_source : (sources : List (List ℕ)) (text : List ℕ) (b : Built) (gi
     → KeepsSourceOf b steps report.end trace
 keeps_source sources text b gives steps s after report trace built reset runs more bytes defined =
     let p = plain_program b.program in
+    let m = b.map in
     let l = b.located in
     let inputs = and_then (answers trace) more in
     let shows = built.image.shows s inputs reset bytes in
     record {
       never = λ kind pc e.
-          never_by p l s inputs shows.start shows.quiet (source p (plain_table b.map.io) inputs steps) trace kind pc
+          never_by p m l s inputs shows.start shows.quiet (source p (plain_table b.map.io) inputs steps) trace kind pc
           (λ point. defined steps point)
-          (subst (λ r. IsWithinSource p l (kept p l) s inputs shows.start (source p (plain_table b.map.io) inputs steps) r)
+          (subst (λ r. IsWithinSource p l (kept p m l) s inputs shows.start (source p (plain_table b.map.io) inputs steps) r)
           (subst (λ end. EndsBy steps s end trace) e runs.ended more) (shows.within steps));
       first =
-          first_by p l s inputs shows.start shows.quiet (source p (plain_table b.map.io) inputs (length trace)) trace after
+          first_by p m l s inputs shows.start shows.quiet (source p (plain_table b.map.io) inputs (length trace)) trace after
           (λ point. defined (length trace) point)
-          (subst (λ r. IsWithinSource p l (kept p l) s inputs shows.start (source p (plain_table b.map.io) inputs (length trace)) r)
+          (subst (λ r. IsWithinSource p l (kept p m l) s inputs shows.start (source p (plain_table b.map.io) inputs (length trace)) r)
           (runs.made more) (shows.within (length trace)));
       ended = λ result e.
-          ended_by p l s inputs shows.start shows.quiet b.map steps (source p (plain_table b.map.io) inputs steps) trace result refl
+          ended_by p m l s inputs shows.start shows.quiet steps (source p (plain_table b.map.io) inputs steps) trace result refl
           (λ point. defined steps point)
-          (subst (λ r. IsWithinSource p l (kept p l) s inputs shows.start (source p (plain_table b.map.io) inputs steps) r)
+          (subst (λ r. IsWithinSource p l (kept p m l) s inputs shows.start (source p (plain_table b.map.io) inputs steps) r)
           (subst (λ end. EndsBy steps s end trace) e runs.ended more) (shows.within steps));
       enough = λ n es result is few e.
           let all : length trace ≡ steps = subst (λ end. EndsBy steps s end trace) e runs.ended in
-          enough_steps p l s inputs shows.start n _ steps (source p (plain_table b.map.io) inputs n) es result trace after is
+          enough_steps p m l s inputs shows.start n _ steps (source p (plain_table b.map.io) inputs n) es result trace after is
           (shows.reached defined n) few
           (subst (λ k. machine k inputs s ≡ Running trace after) all (runs.made more));
     }

@@ -68,31 +68,31 @@ front_of_none (x ∷ xs) ys e = cc
 
 module _ (p : PlainProgram) (m : Map) (l : Located) (s : State) (inputs : Inputs) (shows : ShowsWhole p m l s inputs) where
   left_ports : (es : List Event) (trace : List Access)
-      → BeginWith trace shows.start ⊎ ShowsFirst p l (kept p l) shows.start es trace
-      → ports_of (plain_trace p l trace) ≡ ports_of trace
+      → BeginWith trace shows.start ⊎ ShowsFirst p l (kept p m l) shows.start es trace
+      → ports_of (plain_trace p m l trace) ≡ ports_of trace
   left_ports es trace (inl h) =
       let quiet : ports_of trace ≡ [] =
       front_of_none (ports_of trace) (ports_of h.added) (sym (ports_append trace h.added) ∙ sym (ap ports_of h.is) ∙ shows.quiet) in
-      ports_kept p l (after_startup trace) ∙ within_startup trace quiet ∙ sym quiet
+      ports_kept p m l (after_startup trace) ∙ within_startup trace quiet ∙ sym quiet
   left_ports es trace (inr h) =
       let before : ports_of shows.before ≡ [] =
       sym (append-nil (ports_of shows.before)) ∙ sym (ports_append shows.before (Stack ∷ [])) ∙ sym (ap ports_of shows.calls) ∙ shows.quiet in
-      ports_kept p l (after_startup trace)
+      ports_kept p m l (after_startup trace)
       ∙ ap (λ (z : List Access). ports_of (after_startup z)) (h.is ∙ ap (λ (z : List Access). z ++ h.after) shows.calls)
       ∙ behind_startup shows.before h.after before ∙ sym (quiet_front shows.start h.after shows.quiet) ∙ sym (ap ports_of h.is)
 
   by_source : (b : Behaviour Event ℤ Undefined) (trace : List Access) (t : State) → ((point : Undefined) → b ≡ Failed point → ⊥)
-      → IsWithinSource p l (kept p l) s inputs shows.start b (Running trace t)
-      → ports_of (plain_trace p l trace) ≡ ports_of trace
+      → IsWithinSource p l (kept p m l) s inputs shows.start b (Running trace t)
+      → ports_of (plain_trace p m l trace) ≡ ports_of trace
   by_source (GoesOn es) trace t defined h = left_ports es trace h
   by_source (Ends es result) trace t defined h = left_ports es trace h
   by_source (Failed point) trace t defined h = absurd (defined point refl)
 
   pub run_ports : (trace : List Access) (t : State) → Defined p (plain_table m.io) inputs
-      → machine (length trace) inputs s ≡ Running trace t → ports_of (plain_trace p l trace) ≡ ports_of trace
+      → machine (length trace) inputs s ≡ Running trace t → ports_of (plain_trace p m l trace) ≡ ports_of trace
   run_ports trace t defined made =
       by_source (source p (plain_table m.io) inputs (length trace)) trace t (λ point. defined (length trace) point)
-      (subst (λ r. IsWithinSource p l (kept p l) s inputs shows.start (source p (plain_table m.io) inputs (length trace)) r) made
+      (subst (λ r. IsWithinSource p l (kept p m l) s inputs shows.start (source p (plain_table m.io) inputs (length trace)) r) made
       (shows.within (length trace)))
 
 -- ---- port accesses of events
@@ -113,16 +113,16 @@ no_port o k holds (Write object leaf space told) value h = refl
 -- ---- by how a run ended
 
 module _ (p : PlainProgram) (m : Map) (l : Located) (inputs : Inputs) (point : WatchPoint) (holds : ℤ → Bool) (steps : ℕ)
-    (trace : List Access) (same : ports_of (plain_trace p l trace) ≡ ports_of trace) where
-  first_ports : (es : List Event) → BeginWith (plain_trace p l trace) (accesses p (place_of l) es)
+    (trace : List Access) (same : ports_of (plain_trace p m l trace) ≡ ports_of trace) where
+  first_ports : (es : List Event) → BeginWith (plain_trace p m l trace) (accesses p (place_of l) es)
       → BeginWith (ports_of trace) (port_events es)
   first_ports es h = record {
     added = ports_of h.added;
-    is = sym (ports_events p (place_of l) es) ∙ ap ports_of h.is ∙ ports_append (plain_trace p l trace) h.added
+    is = sym (ports_events p (place_of l) es) ∙ ap ports_of h.is ∙ ports_append (plain_trace p m l trace) h.added
         ∙ ap (λ (z : List Access). z ++ ports_of h.added) same;
   }
 
-  all_ports : (es : List Event) → plain_trace p l trace ≡ accesses p (place_of l) es → ports_of trace ≡ port_events es
+  all_ports : (es : List Event) → plain_trace p m l trace ≡ accesses p (place_of l) es → ports_of trace ≡ port_events es
   all_ports es h = sym same ∙ ap ports_of h ∙ ports_events p (place_of l) es
 
   pub keeps_ports : (end : WatchEnd) (h : KeepsWatched p m l inputs point holds steps trace end)

@@ -45,7 +45,7 @@ changed_here f (y ∷ before) behind x (suc i) h = ap (λ ys. y ∷ ys) (changed
 
 -- a state with these objects
 abbrev with_objects : State → List ObjectState → State
-with_objects s xs = record { objects = xs; acquired = s.acquired; events = s.events; work = s.work }
+with_objects s xs = record { objects = xs; groups = s.groups; events = s.events; work = s.work }
 
 one_of : {A B : Type 0} (b : Bool) (g : A → B) (x y : A) (u v : B) → u ≡ g x → v ≡ g y → (if b then u else v) ≡ g (if b then x else y)
 one_of true g x y u v p q = p

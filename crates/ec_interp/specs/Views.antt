@@ -9,7 +9,8 @@ use Rattle.ec_core.specs.Layout.{AreStructs}
 use Rattle.ec_core.specs.Meaning.{setting}
 use Rattle.ec_core.specs.Plain.{plain_program, plain_struct, plain_expr, OptionPlainExpr, no_expr, an_expr}
 use Rattle.ec_core.specs.PortTable.{plain_table}
-use Rattle.ec_core.specs.State.{Inputs, Setting, Event as EventOf, ObjectState as ObjectStateOf, State as StateOf}
+use Rattle.ec_core.specs.State.{Inputs, Setting, Event as EventOf, ObjectState as ObjectStateOf, GroupStates}
+use Rattle.ec_core.specs.State.{State as StateOf}
 use Rattle.ec_core.specs.Statements.{Exit as ExitOf, at_end, by_break, by_continue, by_return}
 use Rattle.ec_interp.specs.declared.behaviour.Behaviour.{Behaviour}
 use Rattle.ec_interp.specs.declared.behaviour.Behaviour.TheVariants.{Ended, Running, MeetsUndefined}
@@ -44,11 +45,14 @@ plain_optional (Some e) = an_expr (plain_expr e)
 abbrev pub seen_object : ObjectState → ObjectStateOf
 seen_object x = record { serial = x.serial; live = x.live; leaves = x.leaves.items }
 
+abbrev pub seen_groups : State → GroupStates
+seen_groups s = record { acquired = s.acquired.items; choices = s.choices.items }
+
 abbrev pub seen : State → StateOf
 seen s =
     record {
       objects = map seen_object s.objects.items;
-      acquired = s.acquired.items;
+      groups = seen_groups s;
       events = s.events;
       work = s.work;
     }

@@ -2,11 +2,11 @@
 use Rattle.std.specs.Prelude.{ℕ, ◌+◌, List, [], ◌∷◌, Option, Some, None}
 use Rattle.ec_core.specs.Plain.{PlainExpr, expression, PlainNode, number, null, load, address_of, unary, binary}
 use Rattle.ec_core.specs.Plain.{convert, assign, compound, step, logical_not, logical_and, logical_or, conditional}
-use Rattle.ec_core.specs.Plain.{comma, call, io, group, PlainPlace, object, deref, member, OptionPlainExpr, no_expr}
-use Rattle.ec_core.specs.Plain.{an_expr, PlainExprs, last_expr, next_expr, PlainStmt, statement, PlainKind, empty}
-use Rattle.ec_core.specs.Plain.{evaluate, block, declare, branch, while_loop, do_loop, for_loop, break_loop}
-use Rattle.ec_core.specs.Plain.{continue_loop, return_value, OptionPlainStmt, no_stmt, a_stmt, PlainStmts, last_stmt}
-use Rattle.ec_core.specs.Plain.{next_stmt, PlainFunction}
+use Rattle.ec_core.specs.Plain.{comma, call, io, group, bind, dynamic_group, PlainPlace, object, deref, member}
+use Rattle.ec_core.specs.Plain.{OptionPlainExpr, no_expr, an_expr, PlainExprs, last_expr, next_expr, PlainStmt}
+use Rattle.ec_core.specs.Plain.{statement, PlainKind, empty, evaluate, block, declare, branch, while_loop, do_loop}
+use Rattle.ec_core.specs.Plain.{for_loop, break_loop, continue_loop, return_value, OptionPlainStmt, no_stmt, a_stmt}
+use Rattle.ec_core.specs.Plain.{PlainStmts, last_stmt, next_stmt, PlainFunction}
 
 abbrev mutual
   pub expr_weight : PlainExpr → ℕ
@@ -31,6 +31,8 @@ abbrev mutual
   node_weight (call f args) = exprs_weight args + 3
   node_weight (io op port index value) = option_weight index + option_weight value + 3
   node_weight (group acquire g) = 1
+  node_weight (bind d choice) = 1
+  node_weight (dynamic_group acquire d) = 1
 
   pub place_weight : PlainPlace → ℕ
   place_weight (object o) = 1

@@ -124,6 +124,21 @@ fn none_acquired(f: &Context) -> Result<Vec<bool>, NoMemory>
     closed(f.alloc, f.io.groups.len())
 }
 
+fn unbound(alloc: Global, count: usize) -> Result<Vec<Option<u16>>, NoMemory>
+    ensures { IfOk result (λ choices. choices.items ≡ replicate count None) }
+{
+    match vec![in alloc; None; count] {
+        Ok(choices) => Ok(choices),
+        Err(_) => Err(NoMemory),
+    }
+}
+
+fn none_chosen(f: &Context) -> Result<Vec<Option<u16>>, NoMemory>
+    ensures { IfOk result (λ choices. choices.items ≡ map (λ d. None) (plain_table f.now.io.now).dynamics) }
+{
+    unbound(f.alloc, f.io.dynamics.len())
+}
+
 fn initial_state(f: &Context) -> Result<State, Unanswered>
     requires { HasLayouts f.now.program.now }
     ensures answered { IsGiven f.now → IfErr result IsMemory }
@@ -132,9 +147,11 @@ fn initial_state(f: &Context) -> Result<State, Unanswered>
 {
     let objects = initial_objects(f, f.program.objs.as_slice())?;
     let acquired = none_acquired(f)?;
+    let choices = none_chosen(f)?;
     Ok(State {
         objects,
         acquired,
+        choices,
         events: Events::new(f.alloc),
         work: 200,
     })

@@ -1,24 +1,25 @@
 //! Operations on ports and groups of ports.
 ghost use Rattle.std.specs.Prelude.{◌≡◌, ◌+◌, ◌*◌, ◌^◌, ◌<◌};
 ghost use Rattle.std.specs.Prelude.{◌≤◌, nat_lt, map, option_map, slice_get, slice_index};
-ghost use Rattle.std.specs.Prelude.{IfOk, OnOk};
+ghost use Rattle.std.specs.Prelude.{IfOk, IfSome, OnOk};
 ghost use Rattle.std.specs.Option.{option_copied};
 ghost use Rattle.ec_core.specs.PortAccesses.{next_byte, byte_read, bytes_read, number_read, bytes_written, updated};
 ghost use Rattle.ec_core.specs.PortAccesses.{no_value, unsigned, port_accessed, is_open, within, opened, port_effect};
-ghost use Rattle.ec_core.specs.PortAccesses.{pairs_written, pairs_of, group_effect};
+ghost use Rattle.ec_core.specs.PortAccesses.{bound, standing_port, accessed, pairs_written, pairs_of, group_effect};
+ghost use Rattle.ec_core.specs.PortAccesses.{bind_effect, dynamic_effect};
 ghost use Rattle.ec_core.specs.PortOperations.{port_operation};
-ghost use Rattle.ec_core.specs.PortTable.{plain_port, plain_group};
-ghost use Rattle.ec_core.specs.State.{Out as OutOf, with_event, with_group};
+ghost use Rattle.ec_core.specs.PortTable.{plain_port, plain_group, plain_table, choices_of};
+ghost use Rattle.ec_core.specs.State.{Out as OutOf, with_event, with_group, with_choice, chosen};
 ghost use Rattle.ec_interp.specs.Shows.{Shows, ShowsMemory};
 ghost use Rattle.ec_interp.specs.Suits.{IsGiven, IsAnswered};
-ghost use Rattle.ec_interp.specs.Actions.{seen_action};
+ghost use Rattle.ec_interp.specs.Actions.{seen_action, seen_port};
 ghost use Rattle.ec_interp.specs.Views.{seen, inputs_of};
 
 use crate::accesses::is_open;
 use crate::behaviour::{Event, PortInput, Unanswered};
 use crate::state::{Context, RunError, State, at};
 use ec_core::{Undefined, Value};
-use ec_iohw::{IoOp, IoTable, Pair, Port, PortGroup};
+use ec_iohw::{Choice, IoOp, IoTable, Pair, Port, PortGroup};
 use ec_space::NoMemory;
 
 // ---- the table
@@ -46,6 +47,67 @@ pub fn pairs(acquire: bool, group: &PortGroup) -> &[Pair]
     } else {
         group.release.as_slice()
     }
+}
+
+/// The choices of a dynamic group.
+pub fn choices_of(io: &IoTable, dynamic: u16) -> &[Choice]
+    ensures { result.now ≡ choices_of (plain_table io.now) dynamic }
+{
+    match at(io.dynamics.as_slice(), dynamic as usize) {
+        Some(dynamic) => dynamic.choices.as_slice(),
+        None => &[],
+    }
+}
+
+/// The number of the choice that a dynamic group is bound to.
+fn chosen(s: &State, dynamic: u16) -> Option<u16>
+    ensures { result ≡ chosen dynamic (seen s.now) }
+{
+    match at(s.choices.as_slice(), dynamic as usize) {
+        Some(choice) => *choice,
+        None => None,
+    }
+}
+
+/// What a dynamic group is bound to.
+fn bound(f: &Context, s: &State, dynamic: u16) -> Option<Choice>
+    ensures { result ≡ bound (plain_table f.now.io.now) dynamic (seen s.now) }
+{
+    match chosen(s, dynamic) {
+        Some(k) => choices_of(f.io, dynamic).get(k as usize).copied(),
+        None => None,
+    }
+}
+
+/// A port as it stands in a state: the address of its first byte, and its group.
+#[derive(Clone, Copy)]
+pub struct Standing {
+    pub address: u32,
+    pub width: u8,
+    pub count: u8,
+    pub group: Option<u16>,
+}
+
+/// A port as it stands; none where its dynamic group is not bound.
+fn standing_port(f: &Context, s: &State, port: &Port) -> Option<Standing>
+    ensures shows { option_map seen_port result
+        ≡ standing_port (plain_table f.now.io.now) (plain_port port.now) port.now.dynamic (seen s.now) }
+    ensures near { IfSome result (λ x. x.address < 2 ^ 10) }
+    ensures width { IfSome result (λ x. x.width ≡ port.now.width) }
+{
+    let (base, group) = match port.dynamic {
+        None => (0, port.group),
+        Some(d) => {
+            let choice = bound(f, s, d)?;
+            (choice.base, Some(choice.group))
+        }
+    };
+    Some(Standing {
+        address: base as u32 + port.address as u32,
+        width: port.width,
+        count: port.count,
+        group,
+    })
 }
 
 /// What an operation does with the bytes of its port.
@@ -206,14 +268,14 @@ fn open_port(
     f: &Context,
     s: &mut State,
     op: IoOp,
-    port: &Port,
+    port: Standing,
     i: u128,
     v: u128,
 ) -> Result<Value, RunError>
+    requires { port.address < 2 ^ 10 }
     ensures shows { Shows result (seen s.new)
-        (opened (inputs_of f.now.inputs.now) (is_open port.now.group (seen s.old)) op (plain_port port.now) i v
-        (seen s.old)) }
-    ensures answered { port.now.width ≤ 8 → IsAnswered result }
+        (opened (inputs_of f.now.inputs.now) (is_open port.group (seen s.old)) op (seen_port port) i v (seen s.old)) }
+    ensures answered { port.width ≤ 8 → IsAnswered result }
 {
     if !is_open(port.group, s) {
         return Err(RunError::Undefined(Undefined::ClosedPort));
@@ -224,9 +286,29 @@ fn open_port(
     if port.width > 8 {
         return Err(RunError::Unanswered(Unanswered::Unsuited));
     }
-    let address = port.address as u32 + i as u32 * port.width as u32;
+    let address = port.address + i as u32 * port.width as u32;
     let x = access_port(f, s, op, port.width, address, v)?;
     Ok(x)
+}
+
+fn operate_on(
+    f: &Context,
+    s: &mut State,
+    op: IoOp,
+    port: &Port,
+    i: u128,
+    v: u128,
+) -> Result<Value, RunError>
+    ensures shows { Shows result (seen s.new)
+        (accessed (inputs_of f.now.inputs.now) op
+        (standing_port (plain_table f.now.io.now) (plain_port port.now) port.now.dynamic (seen s.old)) i v
+        (seen s.old)) }
+    ensures answered { port.now.width ≤ 8 → IsAnswered result }
+{
+    match standing_port(f, s, port) {
+        None => Err(RunError::Undefined(Undefined::UnboundGroup)),
+        Some(p) => open_port(f, s, op, p, i, v),
+    }
 }
 
 /// An operation on a port, with its index and its operand.
@@ -239,13 +321,13 @@ pub fn operate(
     v: Value,
 ) -> Result<Value, RunError>
     ensures shows { Shows result (seen s.new)
-        (port_effect (inputs_of f.now.inputs.now) op (slice_get (map plain_port f.now.io.now.ports.items) port) i v
-        (seen s.old)) }
+        (port_effect (inputs_of f.now.inputs.now) (plain_table f.now.io.now) op
+        (slice_get (map plain_port f.now.io.now.ports.items) port) i v (seen s.old)) }
     ensures answered { IsGiven f.now → IsAnswered result }
 {
     match port_at(f.io, port) {
         None => Err(RunError::Undefined(Undefined::Invalid)),
-        Some(p) => open_port(f, s, op, p, unsigned(i), unsigned(v)),
+        Some(p) => operate_on(f, s, op, p, unsigned(i), unsigned(v)),
     }
 }
 
@@ -281,5 +363,35 @@ pub fn operate_group(f: &Context, s: &mut State, acquire: bool, g: u16) -> Resul
             set_group(s, g, acquire);
             Ok(no_value())
         }
+    }
+}
+
+// ---- dynamic groups
+
+fn set_choice(s: &mut State, d: u16, choice: u16)
+    ensures { seen s.new ≡ with_choice d choice (seen s.old) }
+{
+    if (d as usize) < s.choices.len() {
+        s.choices[d as usize] = Some(choice);
+    }
+}
+
+/// A dynamic group is bound to one of its choices.
+pub fn bind_group(s: &mut State, d: u16, choice: u16) -> Result<Value, RunError>
+    ensures shows { Shows result (seen s.new) (bind_effect d choice (seen s.old)) }
+    ensures answered { IsAnswered result }
+{
+    set_choice(s, d, choice);
+    Ok(no_value())
+}
+
+/// The group that a dynamic group is bound to is acquired or released.
+pub fn operate_dynamic(f: &Context, s: &mut State, acquire: bool, d: u16) -> Result<Value, RunError>
+    ensures shows { Shows result (seen s.new) (dynamic_effect acquire (plain_table f.now.io.now) d (seen s.old)) }
+    ensures answered { IsAnswered result }
+{
+    match bound(f, s, d) {
+        None => Err(RunError::Undefined(Undefined::UnboundGroup)),
+        Some(choice) => operate_group(f, s, acquire, choice.group),
     }
 }

@@ -45,7 +45,7 @@ use crate::objects::{begin, end_declared, end_first, end_frame, pointer_to};
 use crate::operators::{
     Operand, binary_value, compound_value, conversion, moved, referent, truth, unary_value,
 };
-use crate::ports::{no_value, operate, operate_group};
+use crate::ports::{bind_group, no_value, operate, operate_dynamic, operate_group};
 use crate::state::{Context, Exit, RunError, State, at, function, placed};
 use crate::values::updated_value;
 use crate::words::{leaf_words, node_words, return_of};
@@ -360,6 +360,8 @@ fn node_value(
             },
         },
         Node::Group { acquire, group } => operate_group(f, s, *acquire, *group),
+        Node::Bind { dynamic, choice } => bind_group(s, *dynamic, *choice),
+        Node::DynGroup { acquire, dynamic } => operate_dynamic(f, s, *acquire, *dynamic),
     }
 }
 

@@ -33,12 +33,13 @@ pub struct ObjectState {
     pub leaves: Vec<Option<Value>>,
 }
 
-/// The objects in the program's order, which groups of ports are acquired, the events so far, and the
-/// work so far in words.
+/// The objects in the program's order, which groups of ports are acquired, the choice of each dynamic group
+/// that is bound, the events so far, and the work so far in words.
 #[derive(Drop)]
 pub struct State {
     pub objects: Vec<ObjectState>,
     pub acquired: Vec<bool>,
+    pub choices: Vec<Option<u16>>,
     pub events: Events,
     pub work: u64,
 }

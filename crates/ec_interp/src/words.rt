@@ -4,15 +4,16 @@ ghost use Rattle.ec_core.specs.Layout.{scalar_size};
 ghost use Rattle.ec_core.specs.Plain.{plain_type, plain_node, plain_place, plain_expr, plain_exprs};
 ghost use Rattle.ec_core.specs.PortAccesses.{pairs_of};
 ghost use Rattle.ec_core.specs.PortOperations.{port_operation};
-ghost use Rattle.ec_core.specs.PortTable.{plain_table, plain_port, plain_group};
+ghost use Rattle.ec_core.specs.PortTable.{plain_table, plain_port, plain_group, choices_of};
 ghost use Rattle.ec_core.specs.Words.{simple_words, operation_words, update_words, choice_words, return_words};
-ghost use Rattle.ec_core.specs.Words.{port_words, group_words, node_words, total_size, return_of, leaf_words};
+ghost use Rattle.ec_core.specs.Words.{port_words, group_words, pair_count, dynamic_words, node_words, total_size};
+ghost use Rattle.ec_core.specs.Words.{return_of, leaf_words};
 ghost use Rattle.ec_interp.specs.Lookups.{widest_from};
 ghost use Rattle.ec_interp.specs.Actions.{seen_action};
 
-use crate::ports::{Action, action_of, group_at, pairs, port_at};
+use crate::ports::{Action, action_of, choices_of, group_at, pairs, port_at};
 use ec_core::{CType, Expr, Node, PlaceExpr};
-use ec_iohw::IoTable;
+use ec_iohw::{Choice, IoTable};
 use ec_space::{NoMemory, SpaceId};
 
 // ---- bytes of types
@@ -157,6 +158,25 @@ fn pair_count(io: &IoTable, acquire: bool, group: u16) -> usize
     }
 }
 
+/// The work of an acquire or release of a dynamic group, for one of its choices.
+fn one_choice_words(io: &IoTable, acquire: bool, group: u16) -> Result<u64, NoMemory>
+    ensures { IfOk result (λ words. words ≡ 40 + 10 * pair_count (plain_table io.now) acquire group) }
+{
+    let bytes = product(10, pair_count(io, acquire, group) as u64)?;
+    sum(40, bytes)
+}
+
+fn dynamic_words(io: &IoTable, acquire: bool, choices: &[Choice]) -> Result<u64, NoMemory>
+    ensures { IfOk result (λ words. words ≡ dynamic_words (plain_table io.now) acquire choices.now) }
+{
+    let mut words = 0;
+    for choice in choices {
+        let one = one_choice_words(io, acquire, choice.group)?;
+        words = sum(words, one)?;
+    }
+    Ok(words)
+}
+
 /// The work of a node of this type.
 pub fn node_words(io: &IoTable, ty: &CType, node: &Node) -> Result<u64, NoMemory>
     ensures { IfOk result (λ words. words ≡ node_words (plain_table io.now) (plain_type ty.now) (plain_node node.now)) }
@@ -183,6 +203,10 @@ pub fn node_words(io: &IoTable, ty: &CType, node: &Node) -> Result<u64, NoMemory
         Node::Call(_, args) => call_words(args.as_slice(), ty),
         Node::Io { op, port, .. } => Ok(port_words(action_of(*op), port_width(io, *port))),
         Node::Group { acquire, group } => group_words(pair_count(io, *acquire, *group) as u64),
+        Node::Bind { .. } => Ok(20),
+        Node::DynGroup { acquire, dynamic } => {
+            dynamic_words(io, *acquire, choices_of(io, *dynamic))
+        }
     }
 }
 

@@ -38,7 +38,8 @@ fn number_of(point: Undefined) -> u32
         Undefined::ClosedPort => 12,
         Undefined::BufferIndex => 13,
         Undefined::NoResult => 14,
-        Undefined::Invalid => 15,
+        Undefined::UnboundGroup => 15,
+        Undefined::Invalid => 16,
     }
 }
 

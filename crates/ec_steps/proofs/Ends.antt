@@ -21,7 +21,7 @@ module _ (p : PlainProgram) (m : Map) (l : Located) (s : State) (inputs : Inputs
     (bounded : IsBounded p m.io inputs) (defined : Defined p (plain_table m.io) inputs) where
   -- by what comes of the run of the source
   by_outcome : (o : Outcome Value) → run p (plain_table m.io) inputs 65_536 ≡ o
-      → Comes p l (kept p l) s inputs shows.start 65_536 (start_steps p + work p (plain_table m.io) inputs 65_536) (behaviour_of o)
+      → Comes p l (kept p m l) s inputs shows.start 65_536 (start_steps p + work p (plain_table m.io) inputs 65_536) (behaviour_of o)
       → EndsWithin p m s inputs (most_steps p m)
   by_outcome (got x t) e c =
       let few = c.2 in

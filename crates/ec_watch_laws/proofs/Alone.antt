@@ -48,7 +48,7 @@ pub record IsAlone (p : PlainProgram) (m : Map) (l : Located) (point : WatchPoin
   pub some : 1 ≤ scalar_size leaf.ty
   pub high : 256 ≤ place_of l point.object + leaf.at
   pub low : place_of l point.object + leaf.at + scalar_size leaf.ty ≤ data_size m.core
-  pub own : (a : ℕ) → IsIn (place_of l point.object + leaf.at) (scalar_size leaf.ty) a → is_own_byte p l a ≡ false
+  pub own : (a : ℕ) → IsIn (place_of l point.object + leaf.at) (scalar_size leaf.ty) a → is_own_byte p m l a ≡ false
   pub alone : (o k a : ℕ) (space : SpaceId) → IsHomeByte p l o k space DataBank a
       → IsIn (place_of l point.object + leaf.at) (scalar_size leaf.ty) a → (o ≡ point.object) × (k ≡ point.leaf)
   pub off : (a : ℕ) → IsIn (place_of l point.object + leaf.at) (scalar_size leaf.ty) a → (a < m.stack.first) ⊎ (end_of m.stack ≤ a)

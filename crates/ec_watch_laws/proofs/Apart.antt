@@ -27,7 +27,7 @@ use Rattle.ec_map.specs.Regions.{end_of}
 use Rattle.ec_map.specs.declared.map.Map.{Map}
 use Rattle.ec_locate.specs.DataBank.{IsOwnedBy, IsLocalOf, Names, an_object, scratch, work, CanBeLive, StandsIn}
 use Rattle.ec_locate.specs.DataBank.{IsInMemory, DataStands, DataStandsApart}
-use Rattle.ec_locate.specs.Entries.{flash_size, far_size, data_size, frame_size}
+use Rattle.ec_locate.specs.Entries.{flash_size, far_size, data_size, frame_size, work_size}
 use Rattle.ec_locate.specs.Layout.{places_from}
 use Rattle.ec_locate.specs.Placing.{object_sizes, scratch_needs, entries_by}
 use Rattle.ec_locate.specs.declared.entries.Entry.{Entry}
@@ -50,8 +50,9 @@ pub record ApartLaws : Type 0 where
 pub stands : ApartLaws → (p : PlainProgram) (m : Map) (asm : AsmProgram) (l : Located) → IsTranslated p m asm l → DataStands p m asm l
 stands laws p m asm l h =
     laws.apart p m asm l h.valid h.map
-    (laws.short (object_sizes p) 64 _ h.selected asm h.shortened
-    (laws.selections m.core (lowered p (plain_table m.io)) h.selected (laws.made p m.io h.valid h.groups).valid h.code h.selection)).0 h.located
+    (laws.short (object_sizes p) (work_size m.io) _ h.selected asm h.shortened
+    (laws.selections m.core (length m.io.dynamics.items) (lowered p (plain_table m.io)) h.selected
+    (laws.made p m.io h.valid h.groups).valid h.code h.selection)).0 h.located
 
 -- ---- places
 
@@ -153,7 +154,7 @@ module _ (p : PlainProgram) (m : Map) (asm : AsmProgram) (l : Located) (h : IsTr
   own_place : place_of l point.object ≡ q.object_place.offset
   own_place = place_is point.object q.object_place q.stands
 
-  names : Names p asm l point.object q.object_place.offset (size_of_type p.structs object.ty)
+  names : Names p m asm l point.object q.object_place.offset (size_of_type p.structs object.ty)
   names = an_object point.object object q.object_place q.is_number.is_object (data_home (bank_of object.home) named.home) q.stands
 
   few : point.object < 1024
@@ -184,7 +185,7 @@ module _ (p : PlainProgram) (m : Map) (asm : AsmProgram) (l : Located) (h : IsTr
       (omega (arith, low, at), omega (arith, high, inside, at))
 
   -- what else has a number does not have it
-  elsewhere : (n at many a : ℕ) → point.object ≢ n → Names p asm l n at many → IsIn base size a → (a < at) ⊎ (at + many ≤ a)
+  elsewhere : (n at many a : ℕ) → point.object ≢ n → Names p m asm l n at many → IsIn base size a → (a < at) ⊎ (at + many ≤ a)
   elsewhere n at many a other has i =
       let r = in_object a i in
       let low = r.0 in
@@ -193,14 +194,15 @@ module _ (p : PlainProgram) (m : Map) (asm : AsmProgram) (l : Located) (h : IsTr
       (λ (x : at + many ≤ q.object_place.offset). inr (omega (arith, low, x)))
       (d.apart point.object n q.object_place.offset at (size_of_type p.structs object.ty) many other (can_be_live n) names has)
 
-  no_own : (a : ℕ) → IsIn base size a → is_own_byte p l a ≡ false
+  no_own : (a : ℕ) → IsIn base size a → is_own_byte p m l a ≡ false
   no_own a i =
-      ap (λ (z : Bool). z || is_byte_of l.work 64 a)
+      ap (λ (z : Bool). z || is_byte_of l.work (work_size m.io) a)
       (no_scratch (scratch_needs p) l.frames.items a (λ f frame at is there.
       not_in at (frame_size frame) a
       (elsewhere (1024 + f) at (frame_size frame) a (λ e. let b = few in absurd (omega (arith, b, e)))
       (scratch f frame at (ap (λ (z : List ℕ). slice_get z f) h.located.scratch ∙ is) there) i)))
-      ∙ not_in l.work 64 a (elsewhere 1280 l.work 64 a (λ e. let b = few in absurd (omega (arith, b, e))) work i)
+      ∙ not_in l.work (work_size m.io) a
+      (elsewhere 1280 l.work (work_size m.io) a (λ e. let b = few in absurd (omega (arith, b, e))) work i)
 
   -- two leaves of one object share no byte
   one_leaf : (j a : ℕ) (leaf : PlainLeaf) → slice_get (leaves_of_type p.structs object.ty) j ≡ Some leaf → IsIn base size a

@@ -161,25 +161,25 @@ module _ (laws : MachineLaws) (p : PlainProgram) (m : Map) (l : Located) (point 
   -- where all accesses of a watched write were kept, and those of all events before it, a step is a hit
   hit_of : (after : List Access) (t : State) → machine (length (shows.start ++ after)) inputs s ≡ Running (shows.start ++ after) t
       → (es : List Event) (e : Event) (value : ℤ) → WritesNumber p e → IsWatchedWrite o k holds e value
-      → BeginWith (shown_by (es ++ e ∷ [])) (kept p l after) → HasNoHit point holds s (shows.start ++ after) → ⊥
+      → BeginWith (shown_by (es ++ e ∷ [])) (kept p m l after) → HasNoHit point holds s (shows.start ++ after) → ⊥
   hit_of after t made es e value w is b none =
       let write = as_write o k holds e value is in
       let is_point = subst (IsPoint (bytes_of p m l point h) (watched p m l point h)) (sym write.1.0)
       (write_is_point p m l point h write.0 (Number value)) in
-      let kept_is : kept p l after ≡ (shown_by es ++ is_point.front) ++ is_point.last ∷ b.added =
+      let kept_is : kept p m l after ≡ (shown_by es ++ is_point.front) ++ is_point.last ∷ b.added =
       b.is ∙ ap (λ (z : List Access). z ++ b.added) (accesses-last p (place_of l) es e
       ∙ ap (λ (z : List Access). shown_by es ++ z) is_point.is ∙ sym (append_assoc (shown_by es) is_point.front (is_point.last ∷ [])))
       ∙ append_assoc (shown_by es ++ is_point.front) (is_point.last ∷ []) b.added in
-      let cut = kept_split p l after (shown_by es ++ is_point.front) is_point.last b.added kept_is in
+      let cut = kept_split p m l after (shown_by es ++ is_point.front) is_point.last b.added kept_is in
       let first = cut.before ++ is_point.last ∷ [] in
       let parts : after ≡ first ++ cut.behind = cut.is ∙ sym (append_assoc cut.before (is_point.last ∷ []) cut.behind) in
       let whole : shows.start ++ after ≡ (shows.start ++ first) ++ cut.behind =
       ap (λ (z : List Access). shows.start ++ z) parts ∙ sym (append_assoc shows.start first cut.behind) in
       let there = between inputs s t (shows.start ++ first) cut.behind
       (subst (λ (z : List Access). machine (length z) inputs s ≡ Running z t) whole made) in
-      let kept_first : kept p l first ≡ shown_by (es ++ Write o k write.0 (Number value) ∷ []) =
-      kept-append p l cut.before (is_point.last ∷ [])
-      ∙ ap (λ (z : List Access). z ++ (kept_of p l is_point.last ++ [])) cut.kept_before
+      let kept_first : kept p m l first ≡ shown_by (es ++ Write o k write.0 (Number value) ∷ []) =
+      kept-append p m l cut.before (is_point.last ∷ [])
+      ∙ ap (λ (z : List Access). z ++ (kept_of p m l is_point.last ++ [])) cut.kept_before
       ∙ ap (λ (z : List Access). (shown_by es ++ is_point.front) ++ (z ++ [])) cut.kept_here
       ∙ append_assoc (shown_by es) is_point.front (is_point.last ∷ []) ∙ ap (λ (z : List Access). shown_by es ++ z) (sym is_point.is)
       ∙ sym (accesses-last p (place_of l) es e) ∙ ap (λ (z : Event). shown_by (es ++ z ∷ [])) write.1.0 in
@@ -200,7 +200,7 @@ module _ (laws : MachineLaws) (p : PlainProgram) (m : Map) (l : Located) (point 
 
   -- so there is none among events of which all accesses were kept
   none_watched : (after : List Access) (t : State) → machine (length (shows.start ++ after)) inputs s ≡ Running (shows.start ++ after) t
-      → (es : List Event) → AllByRecursion (WritesNumber p) es → BeginWith (shown_by es) (kept p l after)
+      → (es : List Event) → AllByRecursion (WritesNumber p) es → BeginWith (shown_by es) (kept p m l after)
       → HasNoHit point holds s (shows.start ++ after) → HasNoWatchedWrite o k holds es
   none_watched after t made es numbers b none before behind e value are is =
       let w = in_middle (WritesNumber p) before e behind (subst (AllByRecursion (WritesNumber p)) are numbers) in
@@ -213,33 +213,33 @@ module _ (laws : MachineLaws) (p : PlainProgram) (m : Map) (l : Located) (point 
 
   -- ---- what is left of a trace
 
-  plain_is : (after : List Access) → plain_trace p l (shows.start ++ after) ≡ kept p l after
+  plain_is : (after : List Access) → plain_trace p m l (shows.start ++ after) ≡ kept p m l after
   plain_is after =
-      ap (λ (z : List Access). kept p l (after_startup (z ++ after))) shows.calls
-      ∙ ap (kept p l) (behind_startup shows.before after no_stack)
+      ap (λ (z : List Access). kept p m l (after_startup (z ++ after))) shows.calls
+      ∙ ap (kept p m l) (behind_startup shows.before after no_stack)
 
-  plain_early : (trace : List Access) → BeginWith trace shows.start → plain_trace p l trace ≡ []
-  plain_early trace b = ap (kept p l) (nothing_behind shows.before trace b.added no_stack (sym shows.calls ∙ b.is))
+  plain_early : (trace : List Access) → BeginWith trace shows.start → plain_trace p m l trace ≡ []
+  plain_early trace b = ap (kept p m l) (nothing_behind shows.before trace b.added no_stack (sym shows.calls ∙ b.is))
 
   -- what is told by the steps that were made: the run has not left the startup, or shows a part of the source
   abbrev Shown : List Event → List Access → Type 0
-  Shown es trace = BeginWith trace shows.start ⊎ ShowsFirst p l (kept p l) shows.start es trace
+  Shown es trace = BeginWith trace shows.start ⊎ ShowsFirst p l (kept p m l) shows.start es trace
 
-  plain_shown : (es : List Event) (trace : List Access) → Shown es trace → BeginWith (plain_trace p l trace) (shown_by es)
+  plain_shown : (es : List Event) (trace : List Access) → Shown es trace → BeginWith (plain_trace p m l trace) (shown_by es)
   plain_shown es trace (inl b) =
       record { added = shown_by es; is = sym (ap (λ (z : List Access). z ++ shown_by es) (plain_early trace b)) }
   plain_shown es trace (inr f) =
       record {
         added = f.shown.added;
         is = f.shown.is ∙ ap (λ (z : List Access). z ++ f.shown.added)
-            (sym (ap (plain_trace p l) f.is ∙ plain_is f.after));
+            (sym (ap (plain_trace p m l) f.is ∙ plain_is f.after));
       }
 
   -- ---- a run that stopped with a value
 
   stops : (trace : List Access) (new : State) (value : ℤ) → machine (length trace) inputs s ≡ Running trace new
       → EndsAtHit point holds s trace new value → (es : List Event) → AreFine es → Shown es trace
-      → (first : FirstWatchedWrite o k holds es value) × (plain_trace p l trace ≡ shown_by (first.before ++ first.write ∷ []))
+      → (first : FirstWatchedWrite o k holds es value) × (plain_trace p m l trace ≡ shown_by (first.before ++ first.write ∷ []))
   stops trace new value made ends_at es fine (inl b) = absurd (early (split shows.before Stack ends_at.before ends_at.last b.added whole))
     where
       whole : shows.before ++ Stack ∷ [] ≡ ends_at.before ++ ends_at.last ∷ b.added
@@ -254,7 +254,7 @@ module _ (laws : MachineLaws) (p : PlainProgram) (m : Map) (l : Located) (point 
           sym (has_stack-append ends_at.before (ends_at.last ∷ q.0) ends_at.hit.begun) ∙ ap has_stack (sym q.1) ∙ no_stack in cc
   stops trace new value made ends_at es fine (inr f) = by_last (ends_or_not f.after)
     where
-      last_written : (a : Access) → writes_last point a ≡ true → kept_of p l a ≡ a ∷ []
+      last_written : (a : Access) → writes_last point a ≡ true → kept_of p m l a ≡ a ∷ []
       last_written Silent w = cc
       last_written Stack w = cc
       last_written (PortIn port byte) w = cc
@@ -268,17 +268,17 @@ module _ (laws : MachineLaws) (p : PlainProgram) (m : Map) (l : Located) (point 
 
       found : (front : List Access) (last : Access) → f.after ≡ front ++ last ∷ [] → ends_at.before ≡ shows.start ++ front
           → ends_at.last ≡ last
-          → (first : FirstWatchedWrite o k holds es value) × (plain_trace p l trace ≡ shown_by (first.before ++ first.write ∷ []))
+          → (first : FirstWatchedWrite o k holds es value) × (plain_trace p m l trace ≡ shown_by (first.before ++ first.write ∷ []))
       found front last is before_is last_is =
           let told : writes_last point last ≡ true = subst (λ (z : Access). writes_last point z ≡ true) last_is ends_at.hit.writes in
-          let kept_is : kept p l (front ++ last ∷ []) ≡ kept p l front ++ last ∷ [] =
-          kept-append p l front (last ∷ []) ∙ ap (λ (z : List Access). kept p l front ++ (z ++ [])) (last_written last told) in
-          let all : kept p l front ++ last ∷ f.shown.added ≡ shown_by es =
-          sym (append_assoc (kept p l front) (last ∷ []) f.shown.added)
-          ∙ ap (λ (z : List Access). z ++ f.shown.added) (sym kept_is ∙ ap (kept p l) (sym is)) ∙ sym f.shown.is in
-          let r = ends (bytes_of p m l point h) (watched p m l point h) es (kept p l front) last f.shown.added
+          let kept_is : kept p m l (front ++ last ∷ []) ≡ kept p m l front ++ last ∷ [] =
+          kept-append p m l front (last ∷ []) ∙ ap (λ (z : List Access). kept p m l front ++ (z ++ [])) (last_written last told) in
+          let all : kept p m l front ++ last ∷ f.shown.added ≡ shown_by es =
+          sym (append_assoc (kept p m l front) (last ∷ []) f.shown.added)
+          ∙ ap (λ (z : List Access). z ++ f.shown.added) (sym kept_is ∙ ap (kept p m l) (sym is)) ∙ sym f.shown.is in
+          let r = ends (bytes_of p m l point h) (watched p m l point h) es (kept p m l front) last f.shown.added
           (have_kinds p m l point h es fine.home) (all ∙ sym (expand_is p m l point h es)) told in
-          let shown : kept p l front ++ last ∷ [] ≡ shown_by (r.before ++ r.at ∷ []) =
+          let shown : kept p m l front ++ last ∷ [] ≡ shown_by (r.before ++ r.at ∷ []) =
           r.all ∙ expand_is p m l point h (r.before ++ r.at ∷ []) in
           let w = point_writes p m l point h r.at
           (in_middle _ r.before r.at r.behind (subst (AreForEvents p l) r.events fine.home)) r.is_point in
@@ -294,7 +294,7 @@ module _ (laws : MachineLaws) (p : PlainProgram) (m : Map) (l : Located) (point 
           let earlier = between inputs s new (shows.start ++ front) (last ∷ [])
           (subst (λ (z : List Access). machine (length z) inputs s ≡ Running z new)
           (trace_is ∙ sym (append_assoc shows.start front (last ∷ []))) made) in
-          let front_is = last_of (kept p l front) last (shown_by r.before ++ r.is_point.front) r.is_point.last
+          let front_is = last_of (kept p m l front) last (shown_by r.before ++ r.is_point.front) r.is_point.last
           (shown ∙ accesses-last p (place_of l) r.before r.at ∙ ap (λ (z : List Access). shown_by r.before ++ z) r.is_point.is
           ∙ sym (append_assoc (shown_by r.before) r.is_point.front (r.is_point.last ∷ []))) in (
             record {
@@ -308,11 +308,11 @@ module _ (laws : MachineLaws) (p : PlainProgram) (m : Map) (l : Located) (point 
                   (record { added = r.is_point.front; is = sym front_is.front })
                   (subst (HasNoHit point holds s) before_is ends_at.first);
             },
-            ap (plain_trace p l) trace_is ∙ plain_is (front ++ last ∷ []) ∙ kept_is ∙ shown,
+            ap (plain_trace p m l) trace_is ∙ plain_is (front ++ last ∷ []) ∙ kept_is ∙ shown,
           )
 
       by_last : (f.after ≡ []) ⊎ HasLast f.after
-          → (first : FirstWatchedWrite o k holds es value) × (plain_trace p l trace ≡ shown_by (first.before ++ first.write ∷ []))
+          → (first : FirstWatchedWrite o k holds es value) × (plain_trace p m l trace ≡ shown_by (first.before ++ first.write ∷ []))
       by_last (inl none) =
           let whole : shows.before ++ Stack ∷ [] ≡ ends_at.before ++ ends_at.last ∷ [] =
           sym shows.calls ∙ sym (append-nil shows.start) ∙ ap (λ (z : List Access). shows.start ++ z) (sym none) ∙ sym f.is ∙ ends_at.is in
@@ -328,14 +328,14 @@ module _ (laws : MachineLaws) (p : PlainProgram) (m : Map) (l : Located) (point 
 
   ended : (steps : ℕ) (trace : List Access) (new : State) (result : ℤ) → machine (length trace) inputs s ≡ Running trace new
       → HasNoHit point holds s trace → (es : List Event) → AllByRecursion (WritesNumber p) es
-      → source p (plain_table m.io) inputs steps ≡ Ends es result → ShowsAll p l (kept p l) shows.start es trace
+      → source p (plain_table m.io) inputs steps ≡ Ends es result → ShowsAll p l (kept p m l) shows.start es trace
       → EndsUnwatched p m l inputs point holds steps trace result
   ended steps trace new result made none es numbers is f = record {
     es = es;
     source_ends = is;
     none = none_watched f.after new (subst (λ (z : List Access). machine (length z) inputs s ≡ Running z new) f.is made) es numbers
         (record { added = []; is = f.shown ∙ sym (append-nil (shown_by es)) }) (subst (HasNoHit point holds s) f.is none);
-    shown = ap (plain_trace p l) f.is ∙ plain_is f.after ∙ f.shown;
+    shown = ap (plain_trace p m l) f.is ∙ plain_is f.after ∙ f.shown;
   }
 
   -- a watched write has an access
@@ -357,13 +357,13 @@ module _ (laws : MachineLaws) (p : PlainProgram) (m : Map) (l : Located) (point 
   none_complete : (trace : List Access) (new : State) → machine (length trace) inputs s ≡ Running trace new
       → HasNoHit point holds s trace → (es : List Event) → AllByRecursion (WritesNumber p) es → Shown es trace
       → (before behind : List Event) (e : Event) (value : ℤ) → es ≡ before ++ e ∷ behind
-      → BeginWith (shown_by (before ++ e ∷ [])) (plain_trace p l trace) → IsWatchedWrite o k holds e value → ⊥
+      → BeginWith (shown_by (before ++ e ∷ [])) (plain_trace p m l trace) → IsWatchedWrite o k holds e value → ⊥
   none_complete trace new made none es numbers (inl b) before behind e value are complete is =
       some_access before e value is complete.added (sym (plain_early trace b) ∙ complete.is)
   none_complete trace new made none es numbers (inr f) before behind e value are complete is =
       hit_of f.after new (subst (λ (z : List Access). machine (length z) inputs s ≡ Running z new) f.is made) before e value
       (in_middle (WritesNumber p) before e behind (subst (AllByRecursion (WritesNumber p)) are numbers)) is
-      (subst (BeginWith (shown_by (before ++ e ∷ []))) (ap (plain_trace p l) f.is ∙ plain_is f.after) complete)
+      (subst (BeginWith (shown_by (before ++ e ∷ []))) (ap (plain_trace p m l) f.is ∙ plain_is f.after) complete)
       (subst (HasNoHit point holds s) f.is none)
 
   -- ---- by how the source goes on
@@ -384,10 +384,10 @@ module _ (laws : MachineLaws) (p : PlainProgram) (m : Map) (l : Located) (point 
     shown_after : (n : ℕ) (trace : List Access) (new : State) → machine n inputs s ≡ Running trace new
         → Shown (events_in (after_turns n)) trace
     shown_after n trace new made =
-        by_source (after_turns n) refl (subst (IsWithinSource p l (kept p l) s inputs shows.start (after_turns n)) made (shows.within n))
+        by_source (after_turns n) refl (subst (IsWithinSource p l (kept p m l) s inputs shows.start (after_turns n)) made (shows.within n))
       where
         by_source : (b : Behaviour Event ℤ Undefined) → after_turns n ≡ b
-            → IsWithinSource p l (kept p l) s inputs shows.start b (Running trace new) → Shown (events_in b) trace
+            → IsWithinSource p l (kept p m l) s inputs shows.start b (Running trace new) → Shown (events_in b) trace
         by_source (GoesOn es) e w = w
         by_source (Ends es result) e w = w
         by_source (Failed reason) e w = absurd (defined n reason e)
@@ -404,10 +404,10 @@ module _ (laws : MachineLaws) (p : PlainProgram) (m : Map) (l : Located) (point 
         → HasNoHit point holds s trace → EndsUnwatched p m l inputs point holds steps trace result
     keeps_ended steps trace new result made at none =
         by_source (after_turns steps) refl
-        (subst (IsWithinSource p l (kept p l) s inputs shows.start (after_turns steps)) at (shows.within steps)) (fine_after steps)
+        (subst (IsWithinSource p l (kept p m l) s inputs shows.start (after_turns steps)) at (shows.within steps)) (fine_after steps)
       where
         by_source : (b : Behaviour Event ℤ Undefined) → after_turns steps ≡ b
-            → IsWithinSource p l (kept p l) s inputs shows.start b (EndedWith trace result) → AreFine (events_in b)
+            → IsWithinSource p l (kept p m l) s inputs shows.start b (EndedWith trace result) → AreFine (events_in b)
             → EndsUnwatched p m l inputs point holds steps trace result
         by_source (GoesOn es) e w f = absurd w
         by_source (Ends es other) e w f =
@@ -417,10 +417,10 @@ module _ (laws : MachineLaws) (p : PlainProgram) (m : Map) (l : Located) (point 
     pub never_faults : (steps : ℕ) (trace : List Access) (kind : FaultKind) (pc : ℕ) → machine steps inputs s ≡ FaultedAt trace kind pc → ⊥
     never_faults steps trace kind pc at =
         by_source (after_turns steps) refl
-        (subst (IsWithinSource p l (kept p l) s inputs shows.start (after_turns steps)) at (shows.within steps))
+        (subst (IsWithinSource p l (kept p m l) s inputs shows.start (after_turns steps)) at (shows.within steps))
       where
         by_source : (b : Behaviour Event ℤ Undefined) → after_turns steps ≡ b
-            → IsWithinSource p l (kept p l) s inputs shows.start b (FaultedAt trace kind pc) → ⊥
+            → IsWithinSource p l (kept p m l) s inputs shows.start b (FaultedAt trace kind pc) → ⊥
         by_source (GoesOn es) e w = w
         by_source (Ends es other) e w = w
         by_source (Failed reason) e w = defined steps reason e

@@ -142,7 +142,7 @@ module _ (laws : MachineLaws) (p : PlainProgram) (m : Map) (l : Located) (point 
   -- each byte of the leaf is the one of the event that wrote it last
   byte_there : (after : List Access) (es : List Event) (space : SpaceId) (told : LeafInit) (t : State)
       → machine (length (shows.start ++ after)) inputs s ≡ Running (shows.start ++ after) t
-      → kept p l after ≡ accesses p (place_of l) (es ++ Write point.object point.leaf space told ∷ []) → (i : ℕ)
+      → kept p m l after ≡ accesses p (place_of l) (es ++ Write point.object point.leaf space told ∷ []) → (i : ℕ)
       → i < size p m l point h
       → byte_at t (base p m l point h + i) ≡ number_in p m l point h told / 256 ^ i % 256
   byte_there after es space told t run k i less =
@@ -153,7 +153,7 @@ module _ (laws : MachineLaws) (p : PlainProgram) (m : Map) (l : Located) (point 
       let before = accesses p (place_of l) es in
       laws.changes (length after) inputs shows.main t after a (omega (arith, high)) (from_main after t run)
       (off_stack (length after) a inside)
-      ∙ sym (byte_after-kept p l a old after (h.own a inside)) ∙ ap (byte_after a old) k
+      ∙ sym (byte_after-kept p m l a old after (h.own a inside)) ∙ ap (byte_after a old) k
       ∙ ap (byte_after a old) (accesses-last p (place_of l) es (Write point.object point.leaf space told))
       ∙ byte_after-append a old before _
       ∙ ap (byte_after a (byte_after a old before)) (event_is p m l point h space told)
@@ -167,7 +167,7 @@ module _ (laws : MachineLaws) (p : PlainProgram) (m : Map) (l : Located) (point 
 
   pub value_there : (after : List Access) (es : List Event) (space : SpaceId) (told : LeafInit) (t : State)
       → machine (length (shows.start ++ after)) inputs s ≡ Running (shows.start ++ after) t
-      → kept p l after ≡ accesses p (place_of l) (es ++ Write point.object point.leaf space told ∷ [])
+      → kept p m l after ≡ accesses p (place_of l) (es ++ Write point.object point.leaf space told ∷ [])
       → WritesNumber p (Write point.object point.leaf space told) → HoldsTold told t
   value_there after es space told t run k w =
       let n = only_number h.leaf.ty h.ty told h.arithmetic

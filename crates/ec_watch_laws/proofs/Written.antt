@@ -9,56 +9,58 @@ use Rattle.ec_avr.specs.declared.machine.Access.TheVariants.{Silent, In, Out, Re
 use Rattle.ec_avr_accesses.specs.Sram.{byte_after}
 use Rattle.ec_core.specs.Plain.{PlainProgram}
 use Rattle.ec_core.specs.State.{Event}
+use Rattle.ec_map.specs.declared.map.Map.{Map}
 use Rattle.ec_locate.specs.declared.placing.Located.{Located}
 use Rattle.ec_select_functions.specs.Relation.{byte_accesses, event_accesses, accesses}
 use Rattle.ec_build_laws.specs.Whole.{is_own_byte, unless, kept_of, kept}
 
 -- ---- what is kept
 
-pub kept-append : (p : PlainProgram) (l : Located) (xs ys : List Access) → kept p l (xs ++ ys) ≡ kept p l xs ++ kept p l ys
-kept-append p l [] ys = refl
-kept-append p l (a ∷ xs) ys =
-    ap (λ (z : List Access). kept_of p l a ++ z) (kept-append p l xs ys) ∙ sym (append_assoc (kept_of p l a) (kept p l xs) (kept p l ys))
+pub kept-append : (p : PlainProgram) (m : Map) (l : Located) (xs ys : List Access) → kept p m l (xs ++ ys) ≡ kept p m l xs ++ kept p m l ys
+kept-append p m l [] ys = refl
+kept-append p m l (a ∷ xs) ys =
+    ap (λ (z : List Access). kept_of p m l a ++ z) (kept-append p m l xs ys)
+    ∙ sym (append_assoc (kept_of p m l a) (kept p m l xs) (kept p m l ys))
 
 unless_one : (own : Bool) (a : Access) → (unless own a ≡ []) ⊎ (unless own a ≡ a ∷ [])
 unless_one true a = inl refl
 unless_one false a = inr refl
 
 -- of one access nothing is kept, or itself
-kept_one : (p : PlainProgram) (l : Located) (a : Access) → (kept_of p l a ≡ []) ⊎ (kept_of p l a ≡ a ∷ [])
-kept_one p l Silent = inl refl
-kept_one p l Stack = inl refl
-kept_one p l (In port byte) = inr refl
-kept_one p l (Out port byte) = inr refl
-kept_one p l (Read FlashBank at byte) = inr refl
-kept_one p l (Read DataBank at byte) = unless_one (is_own_byte p l at) (Read DataBank at byte)
-kept_one p l (Write at byte) = unless_one (is_own_byte p l at) (Write at byte)
+kept_one : (p : PlainProgram) (m : Map) (l : Located) (a : Access) → (kept_of p m l a ≡ []) ⊎ (kept_of p m l a ≡ a ∷ [])
+kept_one p m l Silent = inl refl
+kept_one p m l Stack = inl refl
+kept_one p m l (In port byte) = inr refl
+kept_one p m l (Out port byte) = inr refl
+kept_one p m l (Read FlashBank at byte) = inr refl
+kept_one p m l (Read DataBank at byte) = unless_one (is_own_byte p m l at) (Read DataBank at byte)
+kept_one p m l (Write at byte) = unless_one (is_own_byte p m l at) (Write at byte)
 
 -- where one access stands among those that are kept, it stands among all, and so does what is around it
-pub record IsSplit (p : PlainProgram) (l : Located) (trace front : List Access) (a : Access) (more : List Access) : Type 0 where
+pub record IsSplit (p : PlainProgram) (m : Map) (l : Located) (trace front : List Access) (a : Access) (more : List Access) : Type 0 where
   pub before : List Access
   pub behind : List Access
   pub is : trace ≡ before ++ a ∷ behind
-  pub kept_before : kept p l before ≡ front
-  pub kept_here : kept_of p l a ≡ a ∷ []
+  pub kept_before : kept p m l before ≡ front
+  pub kept_here : kept_of p m l a ≡ a ∷ []
 
-pub kept_split : (p : PlainProgram) (l : Located) (trace front : List Access) (a : Access) (more : List Access)
-    → kept p l trace ≡ front ++ a ∷ more → IsSplit p l trace front a more
-kept_split p l [] [] a more e = cc
-kept_split p l [] (x ∷ front) a more e = cc
-kept_split p l (b ∷ trace) front a more e = by_one (kept_one p l b) front e (λ f. kept_split p l trace f a more)
+pub kept_split : (p : PlainProgram) (m : Map) (l : Located) (trace front : List Access) (a : Access) (more : List Access)
+    → kept p m l trace ≡ front ++ a ∷ more → IsSplit p m l trace front a more
+kept_split p m l [] [] a more e = cc
+kept_split p m l [] (x ∷ front) a more e = cc
+kept_split p m l (b ∷ trace) front a more e = by_one (kept_one p m l b) front e (λ f. kept_split p m l trace f a more)
   where
-    later : (f : List Access) → kept_of p l b ++ f ≡ front → IsSplit p l trace f a more → IsSplit p l (b ∷ trace) front a more
+    later : (f : List Access) → kept_of p m l b ++ f ≡ front → IsSplit p m l trace f a more → IsSplit p m l (b ∷ trace) front a more
     later f g r = record {
       before = b ∷ r.before;
       behind = r.behind;
       is = ap (λ (z : List Access). b ∷ z) r.is;
-      kept_before = ap (λ (z : List Access). kept_of p l b ++ z) r.kept_before ∙ g;
+      kept_before = ap (λ (z : List Access). kept_of p m l b ++ z) r.kept_before ∙ g;
       kept_here = r.kept_here;
     }
 
-    by_front : kept_of p l b ≡ b ∷ [] → (f : List Access) → f ≡ front → b ∷ kept p l trace ≡ f ++ a ∷ more
-        → ((g : List Access) → kept p l trace ≡ g ++ a ∷ more → IsSplit p l trace g a more) → IsSplit p l (b ∷ trace) front a more
+    by_front : kept_of p m l b ≡ b ∷ [] → (f : List Access) → f ≡ front → b ∷ kept p m l trace ≡ f ++ a ∷ more
+        → ((g : List Access) → kept p m l trace ≡ g ++ a ∷ more → IsSplit p m l trace g a more) → IsSplit p m l (b ∷ trace) front a more
     by_front h [] same q ih =
         let here : b ≡ a = cc in
         record {
@@ -66,18 +68,19 @@ kept_split p l (b ∷ trace) front a more e = by_one (kept_one p l b) front e (�
           behind = trace;
           is = ap (λ (z : Access). z ∷ trace) here;
           kept_before = same;
-          kept_here = subst (λ (z : Access). kept_of p l z ≡ z ∷ []) here h;
+          kept_here = subst (λ (z : Access). kept_of p m l z ≡ z ∷ []) here h;
         }
     by_front h (x ∷ f) same q ih =
         let here : b ≡ x = cc in
-        let rest : kept p l trace ≡ f ++ a ∷ more = cc in
+        let rest : kept p m l trace ≡ f ++ a ∷ more = cc in
         later f (ap (λ (z : List Access). z ++ f) h ∙ ap (λ (z : Access). z ∷ f) here ∙ same) (ih f rest)
 
-    by_one : (kept_of p l b ≡ []) ⊎ (kept_of p l b ≡ b ∷ []) → (f : List Access) → kept_of p l b ++ kept p l trace ≡ front ++ a ∷ more
-        → ((g : List Access) → kept p l trace ≡ g ++ a ∷ more → IsSplit p l trace g a more) → IsSplit p l (b ∷ trace) front a more
+    by_one : (kept_of p m l b ≡ []) ⊎ (kept_of p m l b ≡ b ∷ []) → (f : List Access)
+        → kept_of p m l b ++ kept p m l trace ≡ front ++ a ∷ more
+        → ((g : List Access) → kept p m l trace ≡ g ++ a ∷ more → IsSplit p m l trace g a more) → IsSplit p m l (b ∷ trace) front a more
     by_one (inl h) f q ih =
-        later front (ap (λ (z : List Access). z ++ front) h) (ih front (sym (ap (λ (z : List Access). z ++ kept p l trace) h) ∙ q))
-    by_one (inr h) f q ih = by_front h front refl (sym (ap (λ (z : List Access). z ++ kept p l trace) h) ∙ q) ih
+        later front (ap (λ (z : List Access). z ++ front) h) (ih front (sym (ap (λ (z : List Access). z ++ kept p m l trace) h) ∙ q))
+    by_one (inr h) f q ih = by_front h front refl (sym (ap (λ (z : List Access). z ++ kept p m l trace) h) ∙ q) ih
 
 -- ---- the byte that was written last
 
@@ -91,30 +94,31 @@ byte_after-append at byte (Write to new ∷ xs) ys = byte_after-append at (if to
 byte_after-append at byte (Stack ∷ xs) ys = byte_after-append at byte xs ys
 
 -- where a byte is none of code's own, it is by what is kept
-pub byte_after-kept : (p : PlainProgram) (l : Located) (at byte : ℕ) (trace : List Access) → is_own_byte p l at ≡ false
-    → byte_after at byte (kept p l trace) ≡ byte_after at byte trace
-byte_after-kept p l at byte [] own = refl
-byte_after-kept p l at byte (Silent ∷ trace) own = byte_after-kept p l at byte trace own
-byte_after-kept p l at byte (Stack ∷ trace) own = byte_after-kept p l at byte trace own
-byte_after-kept p l at byte (In port b ∷ trace) own = byte_after-kept p l at byte trace own
-byte_after-kept p l at byte (Out port b ∷ trace) own = byte_after-kept p l at byte trace own
-byte_after-kept p l at byte (Read FlashBank from b ∷ trace) own = byte_after-kept p l at byte trace own
-byte_after-kept p l at byte (Read DataBank from b ∷ trace) own = of_read (is_own_byte p l from) ∙ byte_after-kept p l at byte trace own
+pub byte_after-kept : (p : PlainProgram) (m : Map) (l : Located) (at byte : ℕ) (trace : List Access) → is_own_byte p m l at ≡ false
+    → byte_after at byte (kept p m l trace) ≡ byte_after at byte trace
+byte_after-kept p m l at byte [] own = refl
+byte_after-kept p m l at byte (Silent ∷ trace) own = byte_after-kept p m l at byte trace own
+byte_after-kept p m l at byte (Stack ∷ trace) own = byte_after-kept p m l at byte trace own
+byte_after-kept p m l at byte (In port b ∷ trace) own = byte_after-kept p m l at byte trace own
+byte_after-kept p m l at byte (Out port b ∷ trace) own = byte_after-kept p m l at byte trace own
+byte_after-kept p m l at byte (Read FlashBank from b ∷ trace) own = byte_after-kept p m l at byte trace own
+byte_after-kept p m l at byte (Read DataBank from b ∷ trace) own =
+    of_read (is_own_byte p m l from) ∙ byte_after-kept p m l at byte trace own
   where
-    of_read : (c : Bool) → byte_after at byte (unless c (Read DataBank from b) ++ kept p l trace) ≡ byte_after at byte (kept p l trace)
+    of_read : (c : Bool) → byte_after at byte (unless c (Read DataBank from b) ++ kept p m l trace) ≡ byte_after at byte (kept p m l trace)
     of_read true = refl
     of_read false = refl
-byte_after-kept p l at byte (Write to new ∷ trace) own =
-    of_write (is_own_byte p l to) refl ∙ byte_after-kept p l at (if to == at then new else byte) trace own
+byte_after-kept p m l at byte (Write to new ∷ trace) own =
+    of_write (is_own_byte p m l to) refl ∙ byte_after-kept p m l at (if to == at then new else byte) trace own
   where
-    other : is_own_byte p l to ≡ true → (to == at) ≡ false
+    other : is_own_byte p m l to ≡ true → (to == at) ≡ false
     other h = ⊎_elim
-        (λ (t : (to == at) ≡ true). let same : true ≡ false = sym h ∙ ap (is_own_byte p l) (eqb-true to at t) ∙ own in cc) (λ f. f)
+        (λ (t : (to == at) ≡ true). let same : true ≡ false = sym h ∙ ap (is_own_byte p m l) (eqb-true to at t) ∙ own in cc) (λ f. f)
         (cases_Bool (to == at))
 
-    of_write : (c : Bool) → is_own_byte p l to ≡ c → byte_after at byte (unless c (Write to new) ++ kept p l trace)
-        ≡ byte_after at (if to == at then new else byte) (kept p l trace)
-    of_write true h = ap (λ (z : Bool). byte_after at (if z then new else byte) (kept p l trace)) (sym (other h))
+    of_write : (c : Bool) → is_own_byte p m l to ≡ c → byte_after at byte (unless c (Write to new) ++ kept p m l trace)
+        ≡ byte_after at (if to == at then new else byte) (kept p m l trace)
+    of_write true h = ap (λ (z : Bool). byte_after at (if z then new else byte) (kept p m l trace)) (sym (other h))
     of_write false h = refl
 
 at_end : (i n : ℕ) → i < suc n → (i ≡ n) ⊎ (i < n)

@@ -26,8 +26,8 @@ after_startup [] = []
 after_startup (Stack ∷ trace) = trace
 after_startup (_ ∷ trace) = after_startup trace
 
-abbrev pub plain_trace : PlainProgram → Located → List Access → List Access
-plain_trace p l trace = kept p l (after_startup trace)
+abbrev pub plain_trace : PlainProgram → Map → Located → List Access → List Access
+plain_trace p m l trace = kept p m l (after_startup trace)
 
 -- ---- the events of the source
 
@@ -70,25 +70,25 @@ module _ (p : PlainProgram) (m : Map) (l : Located) (inputs : Inputs) (point : W
   -- that the source does up to this write and with it
   pub record StopsAtWrite (trace : List Access) (value : ℤ) : Type 0 where
     pub first : FirstWatchedWrite point.object point.leaf holds (events_after (length trace)) value
-    pub shown : plain_trace p l trace ≡ accesses p (place_of l) (first.before ++ first.write ∷ [])
+    pub shown : plain_trace p m l trace ≡ accesses p (place_of l) (first.before ++ first.write ∷ [])
 
   -- it ended, and so did the source, with this result and no watched write
   pub record EndsUnwatched (steps : ℕ) (trace : List Access) (result : ℤ) : Type 0 where
     pub es : List Event
     pub source_ends : source p (plain_table m.io) inputs steps ≡ Ends es result
     pub none : HasNoWatchedWrite point.object point.leaf holds es
-    pub shown : plain_trace p l trace ≡ accesses p (place_of l) es
+    pub shown : plain_trace p m l trace ≡ accesses p (place_of l) es
 
   -- what is left of it is the first part of what the source does
   abbrev pub IsWithinEvents : ℕ → List Access → Type 0
-  IsWithinEvents n trace = BeginWith (plain_trace p l trace) (accesses p (place_of l) (events_after n))
+  IsWithinEvents n trace = BeginWith (plain_trace p m l trace) (accesses p (place_of l) (events_after n))
 
   -- all steps were made, and no event whose accesses were all made is a watched write
   pub record GoesOnUnwatched (steps : ℕ) (trace : List Access) : Type 0 where
     pub all : length trace ≡ steps
     pub shown : IsWithinEvents steps trace
     pub none : (before behind : List Event) (e : Event) (value : ℤ) → events_after steps ≡ before ++ e ∷ behind
-        → BeginWith (accesses p (place_of l) (before ++ e ∷ [])) (plain_trace p l trace)
+        → BeginWith (accesses p (place_of l) (before ++ e ∷ [])) (plain_trace p m l trace)
         → IsWatchedWrite point.object point.leaf holds e value → ⊥
 
   -- so it is by how the run ended, which is never in a fault

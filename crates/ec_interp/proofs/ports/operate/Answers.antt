@@ -23,8 +23,8 @@ small_port f n p g h = by_port (slice_get f.io.now.ports.items n) refl (sym (sli
     by_port : (q : Option Port) → slice_get f.io.now.ports.items n ≡ q → option_map plain_port q ≡ Some p → p.width ≤ 8
     by_port None e k = cc
     by_port (Some q) e k =
-        let i : IsPort (length f.io.now.groups.items) q = subst (IsPort (length f.io.now.groups.items))
-        (get_or_from_slice_get f.io.now.ports.items n q q e) (g.valid.ports.each n q (slice_get_within f.io.now.ports.items n q e)) in
+        let i : IsPort (length f.io.now.groups.items) f.io.now.dynamics.items q =
+        subst (IsPort (length f.io.now.groups.items) f.io.now.dynamics.items) (get_or_from_slice_get f.io.now.ports.items n q q e) (g.valid.ports.each n q (slice_get_within f.io.now.ports.items n q e)) in
         let w : q.width ≡ p.width = ap width_of k in
         let l = few q.width i.width in
         omega (arith, w, l)
@@ -32,4 +32,4 @@ small_port f n p g h = by_port (slice_get f.io.now.ports.items n) refl (sym (sli
 pub returns-in-Some-clause-answered : goal.returns-in-Some-clause-answered
 returns-in-Some-clause-answered c = λ g.
     let small = small_port c.args.f.now c.args.port (plain_port c.in-Some.p.now) g (sym c.in-Some.ensures) in
-    c.open_port.ensures.answered small
+    c.operate_on.ensures.answered small

@@ -8,7 +8,7 @@ returns-then-g-len c =
     let s = c.args.s.now in
     ap (λ acquired. record {
       objects = map seen_object s.objects.items;
-      acquired = acquired;
+      groups = record { acquired = acquired; choices = s.choices.items };
       events = s.events;
       work = s.work;
     }) (changed_set_to s.acquired.items c.args.g c.args.acquired (omega (arith, s.acquired.ok.0, c.len.ensures, c.if-g-len.true)))
@@ -18,7 +18,7 @@ returns-else-g-len c =
     let s = c.args.s.now in
     ap (λ acquired. record {
       objects = map seen_object s.objects.items;
-      acquired = acquired;
+      groups = record { acquired = acquired; choices = s.choices.items };
       events = s.events;
       work = s.work;
     }) (changed_past_to s.acquired.items c.args.g c.args.acquired (omega (arith, s.acquired.ok.0, c.len.ensures, c.if-g-len.false)))

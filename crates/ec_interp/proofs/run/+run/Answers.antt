@@ -120,6 +120,14 @@ pub node_value-returns-in-Group : goal.node_value-returns-in-Group
 node_value-returns-in-Group t c = λ quiet.
     rw (c.in-Group.is) (shown c.args.f.now quiet (λ x. x) c.operate_group.result _ _ c.operate_group.ensures.shows (λ h. c.operate_group.ensures.answered))
 
+pub node_value-returns-in-Bind : goal.node_value-returns-in-Bind
+node_value-returns-in-Bind t c = λ quiet.
+    rw (c.in-Bind.is) (shown c.args.f.now quiet (λ x. x) c.bind_group.result _ _ c.bind_group.ensures.shows (λ h. c.bind_group.ensures.answered))
+
+pub node_value-returns-in-DynGroup : goal.node_value-returns-in-DynGroup
+node_value-returns-in-DynGroup t c = λ quiet.
+    rw (c.in-DynGroup.is) (shown c.args.f.now quiet (λ x. x) c.operate_dynamic.result _ _ c.operate_dynamic.ensures.shows (λ h. c.operate_dynamic.ensures.answered))
+
 pub load-returns-in_err-to : goal.load-returns-in_err-to
 load-returns-in_err-to t c = λ quiet.
     passes c.args.f.now quiet (λ x. x) c.from_residual.result c.in_err-to.field-0.0 _ _ _ c.from_residual.ensures.1
