@@ -17,7 +17,7 @@ BANKS = {
     "large": {"code": (0, 131_072), "tables": (0, 65_535), "far": (0, 131_071), "data": (256, 16_640), "stack": (256, 16_640)},
 }
 LAST_PLACE = {"small": 65_535, "large": 131_071}
-PORT_KEYS, GROUP_KEYS = ("name", "address", "width"), ("name", "acquire", "release")
+PORT_KEYS, GROUP_KEYS, DYNAMIC_KEYS = ("name", "address", "width"), ("name", "acquire", "release"), ("name", "choices")
 
 
 def is_number(value, least=-(2**63), most=2**63 - 1):
@@ -26,6 +26,11 @@ def is_number(value, least=-(2**63), most=2**63 - 1):
 
 def is_pair(value):
     return isinstance(value, list) and len(value) == 2 and all(map(is_number, value))
+
+
+def quoted(value):
+    """A value as it stands in a map."""
+    return repr(value).replace("'", '"')
 
 
 def keys(table, item, needed, others=()):
@@ -46,16 +51,16 @@ def tables(given, kind, most, needed, others=()):
         yield from keys(table, (kind, i), needed, others)
 
 
-def names(given, kind):
-    """Names that are no identifiers, or stand twice."""
-    seen = {}
+def names(given, kind, groups=()):
+    """Names that are no identifiers, or stand twice, or are those of groups."""
+    seen = {group["name"]: f"group {i}" for i, group in enumerate(groups, 1)}
     for i, table in enumerate(given):
         name = table["name"]
         if not isinstance(name, str) or not re.fullmatch(r"[A-Za-z_][A-Za-z0-9_]*", name, re.ASCII):
             yield (kind, i), "name", name, "is no identifier"
         elif name in seen:
-            yield (kind, i), "name", name, f"is the name of {kind} {seen[name]} too"
-        seen.setdefault(name if isinstance(name, str) else None, i + 1)
+            yield (kind, i), "name", name, f"is the name of {seen[name]} too"
+        seen.setdefault(name if isinstance(name, str) else None, f"{kind} {i + 1}")
 
 
 def regions(table, holds, why):
@@ -71,12 +76,39 @@ def sizes(ports):
             yield ("port", i), "count", port["count"], "is not from 1 to 220"
 
 
-def addresses(ports, core):
-    others = "0x5B, 0x5D, 0x5E and 0x5F" if core == "large" else "0x5D, 0x5E and 0x5F"
-    for i, port in enumerate(ports):
+def dynamic_group(port, given):
+    """The first table of `dynamic` that has the name of a port's group, none where the port is not dynamic."""
+    dynamics, group = given.get("dynamic"), port.get("group")
+    tables = [table for table in dynamics if isinstance(table, dict)] if isinstance(dynamics, list) else []
+    return next((table for table in tables if isinstance(group, str) and table.get("name") == group), None)
+
+
+def are_ports(first, port, core):
+    """Whether all bytes of a port are ports of the core where it begins at an address."""
+    return PORTS[core].issuperset(range(first, first + port["width"] * port.get("count", 1)))
+
+
+def no_ports(core):
+    return f"not the address of ports alone: 0x20 to 0xFF but for {'0x5B, ' * (core == 'large')}0x5D, 0x5E and 0x5F"
+
+
+def addresses(given, core):
+    for i, port in enumerate(given["port"]):
         first = port["address"]
-        if not is_number(first) or not PORTS[core].issuperset(range(first, first + port["width"] * port.get("count", 1))):
-            yield ("port", i), "address", first, f"is not the address of ports alone: 0x20 to 0xFF but for {others}"
+        if not is_number(first, 0, 255):
+            yield ("port", i), "address", first, "is not from 0 to 255"
+        elif dynamic_group(port, given) is None and not are_ports(first, port, core):
+            yield ("port", i), "address", first, f"is {no_ports(core)}"
+
+
+def sums(given, core):
+    """Dynamic ports that are no ports from the base of a choice on."""
+    for i, port in enumerate(given.get("port", [])):
+        dynamic = dynamic_group(port, given) or {"choices": []}
+        for group, base in dynamic["choices"]:
+            if not are_ports(base + port["address"], port, core):
+                told = f"and the base {base} of the choice `{group}` of `{port['group']}` are {no_ports(core)}"
+                yield ("port", i), "address", port["address"], told
 
 
 def lists(groups, holds, why):
@@ -107,8 +139,28 @@ def shared(table):
 def unknown_groups(given):
     known = {group["name"] for group in given.get("group", [])}
     for i, port in enumerate(given.get("port", [])):
-        if "group" in port and not (isinstance(port["group"], str) and port["group"] in known):
+        is_known = isinstance(port.get("group"), str) and port["group"] in known
+        if "group" in port and not is_known and dynamic_group(port, given) is None:
             yield ("port", i), "group", port["group"], "is the name of no group of the map"
+
+
+def is_choice(value, known):
+    """Whether a choice is the name of a group and a base."""
+    return isinstance(value, list) and len(value) == 2 and isinstance(value[0], str) and value[0] in known and is_number(value[1], 0, 255)
+
+
+def choices(given):
+    known = {group["name"] for group in given.get("group", [])}
+    for i, dynamic in enumerate(given["dynamic"]):
+        value = dynamic["choices"]
+        if not isinstance(value, list) or not 1 <= len(value) <= 8:
+            yield ("dynamic", i), "choices", value, "is no array of 1 to 8 choices"
+            continue
+        for k, choice in enumerate(value):
+            if not is_choice(choice, known):
+                yield ("dynamic", i), "choices", value, f"has {quoted(choice)}, which is not the name of a group and a base from 0 to 255"
+            elif any(choice[0] == other[0] or choice[1] == other[1] for other in value[:k]):
+                yield ("dynamic", i), "choices", value, f"has {quoted(choice)}, whose group or base stands in a choice before it"
 
 
 def faults(given, rule):
@@ -117,7 +169,7 @@ def faults(given, rule):
     core = given.get("core") if given.get("core") == "large" else "small"
     banks, last = BANKS[core], LAST_PLACE[core]
     checks = {
-        1: lambda: keys(given, (), ("core", "region"), ("port", "group", "place")),
+        1: lambda: keys(given, (), ("core", "region"), ("port", "group", "place", "dynamic")),
         2: lambda: [((), "core", given["core"], "is not the string \"small\" or \"large\"")],
         3: lambda: keys(region, ("region",), tuple(BANKS["small"]), tuple(banks)),
         4: lambda: regions(
@@ -135,7 +187,7 @@ def faults(given, rule):
         8: lambda: tables(given["port"], "port", 64, PORT_KEYS, ("count", "group")),
         9: lambda: names(ports, "port"),
         10: lambda: sizes(ports),
-        11: lambda: addresses(ports, core),
+        11: lambda: addresses(given, core),
         12: lambda: tables(given["group"], "group", 16, GROUP_KEYS),
         13: lambda: names(groups, "group"),
         14: lambda: lists(groups, are_pairs, "is no array of at most 32 arrays of two integers"),
@@ -143,6 +195,10 @@ def faults(given, rule):
         16: lambda: unknown_groups(given),
         17: lambda: [((), "place", place, "is no table")],
         18: lambda: ((("place",), key, value, f"is not from 1 to {last}") for key, value in place.items() if not is_number(value, 1, last)),
+        19: lambda: tables(given["dynamic"], "dynamic", 8, DYNAMIC_KEYS),
+        20: lambda: names(given["dynamic"], "dynamic", groups),
+        21: lambda: choices(given),
+        22: lambda: sums(given, core),
     }
     return checks[rule]()
 
@@ -150,7 +206,7 @@ def faults(given, rule):
 def line_of(text, given, item, key):
     """The line of a key, from 1: below the header of its table, where each table of the array has one; None where there is none."""
     lines = text.split("\n")
-    headers = [i for i, line in enumerate(lines) if re.match(r"\s*\[", line) and not re.match(r"\s*\[.*\]\s*,", line)] + [len(lines)]
+    headers = [i for i, line in enumerate(lines) if re.match(r"\s*\[\[?[^\[\],]*\]\]?\s*(#.*)?$", line)] + [len(lines)]
     start, stop = -1, headers[0]
     if item:
         brackets = (r"\[\[", r"\]\]") if len(item) == 2 else (r"\[", r"\]")
@@ -185,7 +241,7 @@ def note(path, told):
     rule = re.fullmatch(r"map: rule (\d+)", told)
     item, key, value, why = next(iter(faults(given, int(rule[1]))))
     line = line_of(text, given, item, key)
-    shown = "" if key is None else f"`{key}`" if value is None else f"`{key} = {value!r}`".replace("'", '"')
+    shown = "" if key is None else f"`{key}`" if value is None else f"`{key} = {quoted(value)}`"
     return f"{path}:{f'{line}:1: ' if line else ' '}note: {name_of(item, given)}{shown} {why}"
 
 

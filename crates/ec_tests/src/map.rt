@@ -1,5 +1,5 @@
-//! Maps that break one rule each, by the reading of the rules alone, and a map with a port, a group and a place.
-use ec_iohw::Port;
+//! Maps that break one rule each, by the reading of the rules alone, and maps with ports, groups, dynamic groups and places.
+use ec_iohw::{Choice, Dynamic, Port};
 use ec_map::{Fixed1, Map, MapStop, read_map};
 use ec_space::{NoMemory, Seq};
 use std::alloc::Global;
@@ -167,6 +167,171 @@ fn tells_the_first_broken_rule(rt: HostRuntime) {
     }
 }
 
+/// Two groups, of which each is a choice.
+const GROUPS: &str =
+    "[[group]]\nname = \"U0\"\nacquire = [[0x7B, 1]]\nrelease = [[0x7B, 0]]\n[[group]]\nname = \"U1\"\nacquire = [[0x7B, 2]]\nrelease = [[0x7B, 0]]\n";
+
+const UART: &str = "[[dynamic]]\nname = \"UART\"\nchoices = [[\"U0\", 0x90], [\"U1\", 0xA0]]\n";
+
+/// A port that counts from the base of a choice.
+const TX: &str = "[[port]]\nname = \"TX\"\naddress = 3\nwidth = 1\ngroup = \"UART\"\n";
+
+/// A dynamic group and a port behind the two groups, and the rule that the map breaks first, if any.
+static DYNAMIC_MAPS: [(&str, &str, Option<u8>); 34] = [
+    (UART, TX, None),
+    (UART, "", None),
+    (UART, PORT, None),
+    (
+        "[[dynamic]]\nname = \"UART\"\nchoices = [[\"U1\", 0], [\"U0\", 0xFC]]\n",
+        "[[port]]\nname = \"TX\"\naddress = 0x21\nwidth = 2\ncount = 2\ngroup = \"UART\"\n",
+        Some(22),
+    ),
+    (
+        "[[dynamic]]\nname = \"UART\"\nchoices = [[\"U1\", 0], [\"U0\", 0xDB]]\n",
+        "[[port]]\nname = \"TX\"\naddress = 0x21\nwidth = 2\ncount = 2\ngroup = \"UART\"\n",
+        None,
+    ),
+    (
+        "[[dynamic]]\nname = \"UART\"\nchoices = [[\"U1\", 0], [\"U0\", 0xDC]]\n",
+        "[[port]]\nname = \"TX\"\naddress = 0x21\nwidth = 2\ncount = 2\ngroup = \"UART\"\n",
+        Some(22),
+    ),
+    (
+        "[[dynamic]]\nname = \"UART\"\nchoices = [[\"U0\", 0x90], [\"U1\", 0xFD]]\n",
+        TX,
+        Some(22),
+    ),
+    (
+        "[[dynamic]]\nname = \"UART\"\nchoices = [[\"U0\", 0x90], [\"U1\", 0xFC]]\n",
+        TX,
+        None,
+    ),
+    (
+        "[[dynamic]]\nname = \"UART\"\nchoices = [[\"U0\", 0x1C]]\n",
+        TX,
+        Some(22),
+    ),
+    (
+        "[[dynamic]]\nname = \"UART\"\nchoices = [[\"U0\", 0x5A]]\n",
+        TX,
+        Some(22),
+    ),
+    (
+        UART,
+        "[[port]]\nname = \"TX\"\naddress = 0x25\nwidth = 1\ngroup = \"U1\"\n",
+        None,
+    ),
+    (
+        UART,
+        "[[port]]\nname = \"TX\"\naddress = 3\nwidth = 1\ngroup = \"U1\"\n",
+        Some(11),
+    ),
+    (
+        UART,
+        "[[port]]\nname = \"TX\"\naddress = 256\nwidth = 1\ngroup = \"UART\"\n",
+        Some(11),
+    ),
+    (
+        UART,
+        "[[port]]\nname = \"TX\"\naddress = \"3\"\nwidth = 1\ngroup = \"UART\"\n",
+        Some(11),
+    ),
+    (
+        UART,
+        "[[port]]\nname = \"TX\"\naddress = 3\nwidth = 1\ngroup = \"USART\"\n",
+        Some(11),
+    ),
+    (
+        UART,
+        "[[port]]\nname = \"TX\"\naddress = 0x25\nwidth = 1\ngroup = \"USART\"\n",
+        Some(16),
+    ),
+    (
+        "[dynamic]\nname = \"UART\"\nchoices = [[\"U0\", 0x90]]\n",
+        TX,
+        Some(11),
+    ),
+    (
+        "[dynamic]\nname = \"UART\"\nchoices = [[\"U0\", 0x90]]\n",
+        "[[port]]\nname = \"TX\"\naddress = 0x25\nwidth = 1\ngroup = \"UART\"\n",
+        Some(16),
+    ),
+    (
+        "[dynamic]\nname = \"UART\"\nchoices = [[\"U0\", 0x90]]\n",
+        PORT,
+        Some(19),
+    ),
+    ("[[dynamic]]\nname = \"UART\"\n", TX, Some(19)),
+    ("[[dynamic]]\nchoices = [[\"U0\", 0x90]]\n", "", Some(19)),
+    (
+        "[[dynamic]]\nname = \"UART\"\nbase = 0\nchoices = [[\"U0\", 0x90]]\n",
+        TX,
+        Some(19),
+    ),
+    (
+        "[[dynamic]]\nname = \"\"\nchoices = [[\"U0\", 0x90]]\n",
+        "[[port]]\nname = \"TX\"\naddress = 3\nwidth = 1\ngroup = \"\"\n",
+        Some(20),
+    ),
+    (
+        "[[dynamic]]\nname = 7\nchoices = [[\"U0\", 0x90]]\n",
+        "[[port]]\nname = \"TX\"\naddress = 3\nwidth = 1\ngroup = \"\"\n",
+        Some(11),
+    ),
+    (
+        "[[dynamic]]\nname = 7\nchoices = [[\"U0\", 0x90]]\n",
+        PORT,
+        Some(20),
+    ),
+    (
+        "[[dynamic]]\nname = \"U0\"\nchoices = [[\"U1\", 0x90]]\n",
+        "",
+        Some(20),
+    ),
+    (UART, UART, Some(20)),
+    ("[[dynamic]]\nname = \"UART\"\nchoices = []\n", TX, Some(21)),
+    (
+        "[[dynamic]]\nname = \"UART\"\nchoices = 0x90\n",
+        TX,
+        Some(21),
+    ),
+    (
+        "[[dynamic]]\nname = \"UART\"\nchoices = [[\"U2\", 0x90]]\n",
+        TX,
+        Some(21),
+    ),
+    (
+        "[[dynamic]]\nname = \"UART\"\nchoices = [[\"U0\", 256]]\n",
+        TX,
+        Some(21),
+    ),
+    (
+        "[[dynamic]]\nname = \"UART\"\nchoices = [[0x90, \"U0\"]]\n",
+        TX,
+        Some(21),
+    ),
+    (
+        "[[dynamic]]\nname = \"UART\"\nchoices = [[\"U0\", 0x90], [\"U0\", 0xA0]]\n",
+        TX,
+        Some(21),
+    ),
+    (
+        "[[dynamic]]\nname = \"UART\"\nchoices = [[\"U0\", 0x90], [\"U1\", 0x90]]\n",
+        TX,
+        Some(21),
+    ),
+];
+
+#[test]
+fn tells_the_first_broken_rule_of_dynamic_groups(rt: HostRuntime) {
+    for &(dynamic, port, rule) in &DYNAMIC_MAPS {
+        assert!(rt;
+            breaks(rt.alloc(), &[CORE, REGIONS, GROUPS, dynamic, port], rule),
+            "{dynamic}{port}"
+        );
+    }
+}
+
 /// Bytes that are no TOML document.
 static NO_TOML: [&[u8]; 3] = [b"=", b"core", b"\xff"];
 
@@ -192,7 +357,35 @@ fn tells_what_is_no_toml(rt: HostRuntime) {
 fn is_port(ports: &[Port]) -> bool {
     match ports {
         [port] => {
-            port.address == 0x25 && port.width == 1 && port.count == 4 && port.group.is_none()
+            let bytes = port.address == 0x25 && port.width == 1 && port.count == 4;
+            bytes && port.group.is_none() && port.dynamic.is_none()
+        }
+        _ => false,
+    }
+}
+
+/// Whether the one port counts from the base of the one dynamic group.
+fn is_dynamic(ports: &[Port]) -> bool {
+    match ports {
+        [port] => port.address == 3 && port.group.is_none() && port.dynamic == Some(0),
+        _ => false,
+    }
+}
+
+/// Whether the one dynamic group has the second group at 0x90 and the first at 0xA0.
+fn are_dynamics(dynamics: &[Dynamic]) -> bool {
+    let second = Choice {
+        group: 1,
+        base: 0x90,
+    };
+    let first = Choice {
+        group: 0,
+        base: 0xA0,
+    };
+    match dynamics {
+        [dynamic] => {
+            dynamic.name.as_slice() == b"UART".as_slice()
+                && dynamic.choices.as_slice() == [second, first].as_slice()
         }
         _ => false,
     }
@@ -226,4 +419,17 @@ fn is_said(alloc: Global) -> bool {
 #[test]
 fn reads_what_a_map_says(rt: HostRuntime) {
     assert!(rt; is_said(rt.alloc()));
+}
+
+fn are_dynamics_said(alloc: Global) -> bool {
+    let dynamic = "[[dynamic]]\nname = \"UART\"\nchoices = [[\"U1\", 0x90], [\"U0\", 0xA0]]\n";
+    match told(alloc, &[CORE, REGIONS, GROUPS, dynamic, TX]) {
+        Ok(map) => is_dynamic(map.io.ports.as_slice()) && are_dynamics(map.io.dynamics.as_slice()),
+        Err(_) => false,
+    }
+}
+
+#[test]
+fn reads_dynamic_groups(rt: HostRuntime) {
+    assert!(rt; are_dynamics_said(rt.alloc()));
 }

@@ -1,12 +1,15 @@
 //! Places of objects and refusals, by the rules of a map and the needs of a program: the scratch memory of `main` has
-//! 16 bytes, there are 64 work bytes, and a stack needs 16 bytes and two for each function of a chain of calls.
-ghost use Rattle.std.specs.Prelude.{IfOk};
+//! 16 bytes, there are 64 work bytes and one for each dynamic group, and a stack needs 16 bytes and two for each function of
+//! a chain of calls.
+ghost use Rattle.std.specs.Prelude.{◌≡◌, ◌≤◌, IfOk, length};
+ghost use Rattle.ec_locate.specs.Entries.{work_size};
 ghost use Rattle.ec_map.specs.Maps.{ValidMap};
 
 use crate::programs::{code, far_program, far_sizes, program, sizes};
 use Want::{Clashes, Fits, Lacks, Needs, Puts};
 use ec_asm::is_valid_asm;
 use ec_avr::Image;
+use ec_iohw::IoTable;
 use ec_locate::{Located, Map, PlaceStop, RegionName, place, read_map};
 use ec_map::MapStop;
 use ec_space::{NoMemory, Place, Seq};
@@ -40,7 +43,11 @@ const LOW: &str = "[256, 1024]";
 
 const STACK: &str = "[2048, 256]";
 
-static ROWS: [Row; 28] = [
+/// Behind the places: a group, and a dynamic group that has it as its choice.
+const DYNAMIC: &str =
+    "[[group]]\nname = \"U0\"\nacquire = []\nrelease = []\n[[dynamic]]\nname = \"UART\"\nchoices = [[\"U0\", 0x90]]\n";
+
+static ROWS: [Row; 30] = [
     (true, [CODE, TABLES, LOW, STACK], "q = 0x500", Puts),
     (
         false,
@@ -53,6 +60,18 @@ static ROWS: [Row; 28] = [
         [CODE, TABLES, "[256, 79]", STACK],
         "",
         Needs(RegionName::Data, 80, 79),
+    ),
+    (
+        false,
+        [CODE, TABLES, "[256, 80]", STACK],
+        DYNAMIC,
+        Needs(RegionName::Data, 81, 80),
+    ),
+    (
+        false,
+        [CODE, TABLES, "[256, 81]", STACK],
+        DYNAMIC,
+        Fits(&[], 256, 272),
     ),
     (
         false,
@@ -328,13 +347,21 @@ fn is_wanted(got: &Result<Located, PlaceStop>, want: &Want) -> bool {
     }
 }
 
+/// The work bytes of a map.
+fn work_of(io: &IoTable) -> u32
+    requires { length io.now.dynamics.items ≤ 8 }
+    ensures { result ≡ work_size io.now }
+{
+    64 + io.dynamics.len() as u32
+}
+
 /// Whether the program with the variables, or the one without, is placed so by a map.
 fn is_placed(alloc: Global, some: bool, map: &Map, want: &Want) -> Result<bool, NoMemory>
     requires { ValidMap map.now }
 {
     let program = program(alloc, some)?;
     let asm = code(alloc, some)?;
-    let is_code = is_valid_asm(&asm, sizes(some), 64) && asm.items.len() < 100;
+    let is_code = is_valid_asm(&asm, sizes(some), work_of(&map.io)) && asm.items.len() < 100;
     let is_placed = is_code && is_wanted(&place(alloc, &program, &asm, map), want);
     Ok(is_placed)
 }
@@ -345,7 +372,7 @@ fn is_far_placed(alloc: Global, map: &Map, want: &Want) -> Result<bool, NoMemory
 {
     let program = far_program(alloc)?;
     let asm = code(alloc, false)?;
-    let is_code = is_valid_asm(&asm, far_sizes(), 64) && asm.items.len() < 100;
+    let is_code = is_valid_asm(&asm, far_sizes(), work_of(&map.io)) && asm.items.len() < 100;
     let is_placed = is_code && is_wanted(&place(alloc, &program, &asm, map), want);
     Ok(is_placed)
 }

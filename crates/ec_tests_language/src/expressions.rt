@@ -239,6 +239,32 @@ static PARTS: [Row; 27] = [
     ("iogroup_map(ADC, ADC)", "36 at 0"),
 ];
 
+/// Dynamic groups.
+static BINDINGS: [Row; 22] = [
+    ("iogroup_map(LINE, ADC)", "void"),
+    ("iogroup_map(LINE, TWI)", "void"),
+    ("{ int ADC = 1; iogroup_map(LINE, ADC); ADC++; }", "fine"),
+    ("{ char LINE = 0; iogroup_map(LINE, TWI); }", "fine"),
+    ("iogroup_acquire(LINE)", "void"),
+    ("iogroup_release(LINE)", "void"),
+    ("iord(DATA)", "unsigned"),
+    ("iowr(DATA, a)", "void"),
+    ("iogroup_map(LINE, (ADC))", "36 at 0"),
+    ("iogroup_map(LINE, SPI)", "36 at 0"),
+    ("iogroup_map(LINE, LINE)", "36 at 0"),
+    ("iogroup_map(LINE, LED)", "36 at 0"),
+    ("iogroup_map(LINE, x)", "36 at 0"),
+    ("iogroup_map(LINE, ADC + 1)", "36 at 0"),
+    ("iogroup_map(LINE, 0)", "36 at 0"),
+    ("iogroup_map(LINE)", "36 at 0"),
+    ("iogroup_map(LINE, ADC, TWI)", "36 at 0"),
+    ("iogroup_map(x, ADC)", "36 at 0"),
+    ("iogroup_acquire(LINE, 1)", "36 at 0"),
+    ("iogroup_release(LINE, ADC)", "36 at 0"),
+    ("iord(LINE)", "36 at 0"),
+    ("a = iogroup_map(LINE, ADC)", "40 at 2"),
+];
+
 /// Locals: initialisers and sizes.
 static LOCALS: [Row; 27] = [
     ("int i = 1", "values: 1"),
@@ -412,6 +438,11 @@ fn assignments(rt: HostRuntime) {
 #[test]
 fn calls_parts_and_ports(rt: HostRuntime) {
     compare(&rt, rt.alloc(), Shown::Statement, &PARTS);
+}
+
+#[test]
+fn bindings(rt: HostRuntime) {
+    compare(&rt, rt.alloc(), Shown::Statement, &BINDINGS);
 }
 
 #[test]

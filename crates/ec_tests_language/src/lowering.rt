@@ -21,7 +21,7 @@ int f(int d, int e);
 int main(void) { ";
 
 /// What stands in `main`, with a function behind it where that is called, but for the last brace; and the result.
-static PROGRAMS: [(&str, i128); 24] = [
+static PROGRAMS: [(&str, i128); 32] = [
     ("return 3 - 5 - 4;", -6),
     ("; { ; } { int b = 7; a = b; } return a;", 7),
     ("int b = 300; a = (char)b; return a;", 44),
@@ -67,6 +67,35 @@ static PROGRAMS: [(&str, i128); 24] = [
         "iogroup_acquire(G); ioxorbuf(B, a = 1, iord(P)); return a;",
         1,
     ),
+    ("iogroup_map(D, U1); return 2;", 2),
+    (
+        "iogroup_map(D, U1); iogroup_acquire(D); iowr(X, 5); iogroup_map(D, U0); iogroup_acquire(D); return iord(X);",
+        77,
+    ),
+    (
+        "iogroup_map(D, U2); iogroup_acquire(D); iowrbuf(Y, 1, 515); ioorbuf(Y, a = 2, 256); return iordbuf(Y, 0) + a;",
+        1030,
+    ),
+    (
+        "iogroup_map(D, U2); iogroup_acquire(D); ioxor(X, 12); iogroup_release(D); return 0;",
+        0,
+    ),
+    (
+        "iogroup_map(D, U1); iogroup_acquire(D); ioand(X, a = 6); iogroup_release(D); return a;",
+        6,
+    ),
+    (
+        "iogroup_map(E, U1); iogroup_map(D, U1); iogroup_acquire(E); iowr(X, iord(Z)); iogroup_release(D); return 1;",
+        1,
+    ),
+    (
+        "f(1, 2); iowr(X, a); return a; } int f(int d, int e) { iogroup_map(D, U2); iogroup_acquire(D); return a = d + e;",
+        3,
+    ),
+    (
+        "while (a < 2) { if (a) iogroup_map(D, U2); else iogroup_map(D, U0); iogroup_acquire(D); iowr(X, a++); } return a;",
+        2,
+    ),
     (
         "int v[3] = {5, 7, 9}; for (int b = 0; b < 3; b++) a += v[b]; return a;",
         21,
@@ -81,7 +110,8 @@ static PROGRAMS: [(&str, i128); 24] = [
     ),
 ];
 
-/// A port of one byte in a group, and three ports of two bytes that follow one another.
+/// A port of one byte in a group, and three ports of two bytes that follow one another; the same of a dynamic group with
+/// three choices, and a port of another one with one choice.
 static MAP: &str = "core = \"small\"
 [region]
 code = [0, 28672]
@@ -98,14 +128,58 @@ name = \"B\"
 address = 0x40
 width = 2
 count = 3
+[[port]]
+name = \"X\"
+address = 3
+width = 1
+group = \"D\"
+[[port]]
+name = \"Y\"
+address = 4
+width = 2
+count = 3
+group = \"D\"
+[[port]]
+name = \"Z\"
+address = 16
+width = 1
+group = \"E\"
+[[group]]
+name = \"U0\"
+acquire = [[0x66, 1]]
+release = [[0x66, 0]]
+[[group]]
+name = \"U1\"
+acquire = [[0x66, 2], [0x68, 3]]
+release = []
+[[group]]
+name = \"U2\"
+acquire = [[0x66, 4]]
+release = [[0x68, 9], [0x66, 0]]
+[[dynamic]]
+name = \"D\"
+choices = [[\"U0\", 0x80], [\"U1\", 0xA0], [\"U2\", 0xC0]]
+[[dynamic]]
+name = \"E\"
+choices = [[\"U1\", 0x60]]
 [[group]]
 name = \"G\"
 acquire = [[0x24, 15], [0x64, 1]]
 release = [[0x24, 0], [0x64, 1]]
 ";
 
-/// What port addresses give: two bytes of the port of one byte, and one of each byte of the second port of two bytes.
-static GIVEN: [(u8, &[u8]); 3] = [(0x25, &[200, 6]), (0x42, &[0x0F]), (0x43, &[0xA5])];
+/// What port addresses give: two bytes of the port of one byte, one of each byte of the second port of two bytes, and
+/// some of the ports of dynamic groups.
+static GIVEN: [(u8, &[u8]); 8] = [
+    (0x25, &[200, 6]),
+    (0x42, &[0x0F]),
+    (0x43, &[0xA5]),
+    (0x70, &[33]),
+    (0x83, &[77]),
+    (0xA3, &[5]),
+    (0xC4, &[4]),
+    (0xC5, &[4]),
+];
 
 fn bytes_of(alloc: Global, bytes: &[u8]) -> Result<Seq<u8>, NoMemory>
     ensures { IfOk result (λ seq. seq.items ≡ bytes.now) }

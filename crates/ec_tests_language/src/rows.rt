@@ -53,9 +53,30 @@ acquire = [[0x7A, 0x80]]
 release = [[0x7A, 0]]
 ";
 
+/// What stands behind it in the map of statements and of runs: a port of one byte in a dynamic group, which can be bound to
+/// two of three groups.
+static DYNAMIC: &str = "[[port]]
+name = \"DATA\"
+address = 3
+width = 1
+group = \"LINE\"
+[[group]]
+name = \"SPI\"
+acquire = [[0x4C, 0x50]]
+release = [[0x4C, 0]]
+[[group]]
+name = \"TWI\"
+acquire = [[0xBC, 0x04]]
+release = [[0xBC, 0]]
+[[dynamic]]
+name = \"LINE\"
+choices = [[\"TWI\", 0xB8], [\"ADC\", 0x76]]
+";
+
 fn map_bytes(alloc: Global) -> Result<Seq<u8>, MapStop> {
     let mut text = Seq::new(alloc);
     text.extend_from_slice(MAP.as_bytes())?;
+    text.extend_from_slice(DYNAMIC.as_bytes())?;
     Ok(text)
 }
 

@@ -14,6 +14,11 @@ const INT: IntegerType = IntegerType {
     bytes: 2,
 };
 
+const BYTE: IntegerType = IntegerType {
+    signed: false,
+    bytes: 1,
+};
+
 const UNSIGNED: IntegerType = IntegerType {
     signed: false,
     bytes: 2,
@@ -42,6 +47,13 @@ struct Leaf {
     value: Told,
 }
 
+/// A byte that was stored to a cell.
+#[derive(Clone, Copy)]
+struct Stored {
+    cell: u8,
+    byte: u8,
+}
+
 #[derive(Drop)]
 struct Stepper<'a> {
     program: &'a IrProgram,
@@ -53,6 +65,8 @@ struct Stepper<'a> {
     base: usize,
     /// The leaves that were written.
     leaves: Vec<Leaf>,
+    /// What was stored to cells, the last at the end.
+    cells: Vec<Stored>,
     callers: Vec<Caller>,
     events: Seq<Event>,
     /// The result of `main`, where it ended.
@@ -251,9 +265,31 @@ impl Stepper<'_> {
         0
     }
 
+    /// What a cell holds, where something was stored there.
+    fn cell(&self, cell: u8) -> Option<u8> {
+        let mut held = None;
+        for stored in &self.cells {
+            if stored.cell == cell {
+                held = Some(stored.byte);
+            }
+        }
+        held
+    }
+
+    fn load_cell(&mut self, to: Temp, cell: u8) -> Option<()> {
+        let byte = self.cell(cell)?;
+        self.put(to, Told::Number(i128::from(byte)))
+    }
+
+    fn store_cell(&mut self, cell: u8, from: Temp) -> Option<()> {
+        match u8::try_from(self.number(from, BYTE)?) {
+            Ok(byte) => self.cells.push(Stored { cell, byte }).ok(),
+            Err(_) => None,
+        }
+    }
+
     /// The first address of a port, or of its element with an index.
-    fn element(&self, address: u8, index: Option<Temp>, width: u8) -> Option<u32> {
-        let first = u32::from(address);
+    fn element(&self, first: u32, index: Option<Temp>, width: u8) -> Option<u32> {
         match index {
             None => Some(first),
             Some(t) => match u32::try_from(self.number(t, UNSIGNED)?) {
@@ -396,7 +432,7 @@ impl Stepper<'_> {
                 index,
                 width,
             } => {
-                let first = self.element(*address, *index, *width)?;
+                let first = self.element(u32::from(*address), *index, *width)?;
                 self.read_port(*to, first, *width)
             }
             Ir::PortOut {
@@ -405,8 +441,33 @@ impl Stepper<'_> {
                 index,
                 width,
             } => {
-                let first = self.element(*address, *index, *width)?;
+                let first = self.element(u32::from(*address), *index, *width)?;
                 self.write_port(*from, first, *width)
+            }
+            op => self.access_cell(op),
+        }
+    }
+
+    /// What an operation on a cell does, or on a port whose address counts from what a cell holds, or another one.
+    fn access_cell(&mut self, op: &Ir) -> Option<()> {
+        match op {
+            Ir::LoadCell(to, cell) => self.load_cell(*to, *cell),
+            Ir::StoreCell(cell, from) => self.store_cell(*cell, *from),
+            Ir::CellPort {
+                read,
+                temp,
+                cell,
+                offset,
+                index,
+                width,
+            } => {
+                let base = u32::from(self.cell(*cell)?);
+                let first = self.element(base.saturating_add(u32::from(*offset)), *index, *width)?;
+                if *read {
+                    self.read_port(*temp, first, *width)
+                } else {
+                    self.write_port(*temp, first, *width)
+                }
             }
             op => self.compute(op),
         }
@@ -474,6 +535,7 @@ pub fn shows(
         values: Vec::new(alloc),
         base: 0,
         leaves: Vec::new(alloc),
+        cells: Vec::new(alloc),
         callers: Vec::new(alloc),
         events: Seq::new(alloc),
         result: None,
