@@ -1,6 +1,6 @@
 -- A number to which 2 ^ k - 1 is added where it is negative, and which is then shifted.
-use Rattle.std.proofs.Common.{◌≡◌, ◌≢◌, ◌⊎◌, inl, inr, ℕ, zero, suc, ◌+◌, ◌-◌, ◌*◌, ◌/◌, ◌%◌, ◌^◌, ◌<◌, ◌≤◌, ⊎_elim, Bool, true, false, refl, sym, ap}
-use Rattle.std.proofs.Common.{◌∙◌, subst, arith, ◌++◌, [], ◌∷◌, bit_and, bit_xor}
+use Rattle.std.proofs.Common.{◌≡◌, ◌≢◌, ◌⊎◌, inl, inr, ℕ, zero, suc, ◌+◌, ◌-◌, ◌*◌, ◌/◌, ◌%◌, ◌^◌, ◌<◌, ◌≤◌, ⊎_elim, true, false, refl, sym, ap}
+use Rattle.std.proofs.Common.{◌∙◌, subst, arith, ◌∷◌, bit_and, bit_xor}
 use Rattle.std.specs.Prelude.{nat_le, if◌then◌else◌}
 use Rattle.std.specs.Int.Bits.{xor_self}
 use Rattle.std.proofs.lemmas.Bool.{cases_lt, cases_eq, le-leb}
@@ -12,9 +12,9 @@ use Rattle.ec_avr.specs.Flags.{byte_sum}
 use Rattle.ec_asm.specs.declared.items.AsmItem.TheVariants.{Plain}
 use Rattle.ec_asm.specs.declared.pieces.Location.TheVariants.{InRegisters}
 use Rattle.ec_asm.specs.View.{View}
-use Rattle.ec_asm.specs.Change.{Env, Own, change}
+use Rattle.ec_asm.specs.Change.{Env, change}
 use Rattle.ec_asm.specs.Items.{block, chain}
-use Rattle.ec_asm.specs.Pieces.{StandsFrom, Outside, value}
+use Rattle.ec_asm.specs.Pieces.{Outside, value}
 use Rattle.ec_asm.specs.PieceLaws.{HoldsNumbers}
 use Rattle.ec_asm.proofs.Bytes.{put_here, put_other}
 use Rattle.ec_asm.proofs.Hoare.{block-append, chain_holds}
@@ -27,14 +27,14 @@ use Rattle.ec_fxcode.specs.ClampLaws.{IsClearOfEnds}
 use Rattle.ec_fxcode.proofs.Alike.{fill}
 use Rattle.ec_fxcode.proofs.Moves.{signs, clear_byte}
 use Rattle.ec_fxcode.proofs.Parts.{IsSign, sign_is}
-use Rattle.ec_fxcode_placed.specs.Counts.{biased_by, biased_byte, bias_code}
+use Rattle.ec_fxcode_placed.specs.Counts.{biased_byte, bias_code}
 use Rattle.ec_fxcode_placed.proofs.Toward.{IsToward}
 use Rattle.ec_fxcode_placed.proofs.Words.{few_bits}
 
 -- ---- numbers
 
 -- what was added to x where it is negative, and what came of it shifted
-biased_is : (N H x m b u c k y : ℕ) → x < N → u < N → c ≤ 1 → N ≡ 2 * H → 2 ^ k ≤ H → 1 ≤ 2 ^ k → IsSign x N m
+pub biased_is : (N H x m b u c k y : ℕ) → x < N → u < N → c ≤ 1 → N ≡ 2 * H → 2 ^ k ≤ H → 1 ≤ 2 ^ k → IsSign x N m
     → (m ≡ 0 → b ≡ 0) → (m ≡ 255 → b ≡ 2 ^ k - 1) → u + c * N ≡ x + b
     → y ≡ (if nat_le N (2 * u) then N - 1 - (N - 1 - u) / 2 ^ k else u / 2 ^ k) → IsToward N x (2 ^ k) y
 biased_is N H x m b u c k y l below bit even fits some sign plus minus sum is =
@@ -243,7 +243,7 @@ two_pow (suc k) = let h = two_pow k in let p = pow-suc 2 k in omega (arith, h, p
 none_of : (k : ℕ) → 0 % 2 ^ k ≡ 0
 none_of k = let e : 0 ≡ 0 * 2 ^ k + 0 = omega arith in ap (λ i. i % 2 ^ k) e ∙ mod-mul-add 0 (2 ^ k) 0 (two_pow k)
 
-after : (u w : View) (r m : ℕ) → HoldsNumbers u → ((j : ℕ) → j < m → w.at (r + j) < 256)
+pub after : (u w : View) (r m : ℕ) → HoldsNumbers u → ((j : ℕ) → j < m → w.at (r + j) < 256)
     → ((j : ℕ) → Outside r m j → w.at j ≡ u.at j) → HoldsNumbers w
 after u w r m h held same j l =
     ⊎_elim (λ (x : j < r). rw (same j (λ q. absurd (omega (arith, q, x)))) (h j l))

@@ -1,8 +1,8 @@
 -- A fixed-point number that was shifted where it stands by a known count.
-use Rattle.std.proofs.Common.{◌≡◌, ◌≢◌, ℕ, zero, suc, ◌+◌, ◌-◌, ◌*◌, ◌/◌, ◌%◌, ◌^◌, ◌<◌, ◌≤◌, ⊎_elim, Bool, true, false, refl, sym, ap, ◌∙◌}
-use Rattle.std.proofs.Common.{subst, arith, pos, ◌*ℤ◌, ◌++◌, [], ◌∷◌}
-use Rattle.std.specs.Prelude.{nat_lt, if◌then◌else◌}
-use Rattle.std.proofs.lemmas.Bool.{cases_eq}
+use Rattle.std.proofs.Common.{◌≡◌, ◌≢◌, ℕ, zero, suc, ◌+◌, ◌-◌, ◌*◌, ◌%◌, ◌^◌, ◌<◌, ◌≤◌, ⊎_elim, Bool, true, false, refl, sym, ap, ◌∙◌}
+use Rattle.std.proofs.Common.{subst, arith, pos, ◌*ℤ◌, ◌++◌, [], ◌∷◌, leb-true}
+use Rattle.std.specs.Prelude.{nat_le, nat_lt, if◌then◌else◌}
+use Rattle.std.proofs.lemmas.Bool.{cases_eq, and_parts}
 use Rattle.std.proofs.lemmas.Bool.Decides.{nat_tests}
 use Rattle.std.proofs.lemmas.List.Sums.{sum_by-append}
 use Rattle.std.proofs.lemmas.Nat.{mul-le, pow_pos}
@@ -11,7 +11,6 @@ use Rattle.ec_fx.specs.declared.numbers.Mode.{Mode}
 use Rattle.ec_fx.specs.Arithmetic.{exact_shift}
 use Rattle.ec_fx.specs.Results.{fit, result_of}
 use Rattle.ec_isa.specs.declared.instructions.Instr.TheVariants.{Ldi, Andi, Eor}
-use Rattle.ec_asm.specs.declared.items.AsmItem.{AsmItem}
 use Rattle.ec_asm.specs.declared.items.AsmItem.TheVariants.{Plain}
 use Rattle.ec_asm.specs.declared.pieces.Location.{Location}
 use Rattle.ec_asm.specs.declared.pieces.Location.TheVariants.{InRegisters, InMemory}
@@ -27,10 +26,8 @@ use Rattle.ec_asm.proofs.Numbers.{value_below}
 use Rattle.ec_asm.proofs.Sum.{value-same}
 use Rattle.ec_select_shifts.specs.declared.shifts.Direction.{Direction}
 use Rattle.ec_select_shifts.specs.declared.shifts.Direction.TheVariants.{Left, Right}
-use Rattle.ec_select_shifts.specs.Shifts.{shifted_by, shift_code, counted_code}
-use Rattle.ec_select_shifts.specs.Laws.{Leads}
+use Rattle.ec_select_shifts.specs.Shifts.{shifted_by, counted_code}
 use Rattle.ec_select_shifts.proofs.Counted.{counted_shifts_are_right, counted_shifts_have_words}
-use Rattle.ec_select_shifts.proofs.Loops.{shifts_are_right}
 use Rattle.ec_fxcode.specs.Clamps.{sign_code}
 use Rattle.ec_fxcode.specs.ClampLaws.{signed_number, HoldsResult, IsClearOfEnds}
 use Rattle.ec_fxcode.proofs.Moves.{clear_byte}
@@ -39,10 +36,11 @@ use Rattle.ec_fxcode_shifts.specs.ShiftLaws.{number_in}
 use Rattle.ec_fxcode_shifts.proofs.Entered.{format_width}
 use Rattle.ec_fxcode_shifts.proofs.Shifted.{div_one}
 use Rattle.ec_fxcode_scales.specs.ScaleLaws.{Brings}
-use Rattle.ec_fxcode_placed.specs.Shifts.{rounded_code, enter_code, half_code, again_code}
-use Rattle.ec_fxcode_placed.specs.Counts.{biased_byte, bias_code, rounded_by_code, takes_loop, turned_by_code, placed_by_code}
+use Rattle.ec_fxcode_placed.specs.Shifts.{rounded_code}
+use Rattle.ec_fxcode_placed.specs.Counts.{biased_byte, bias_code, known_bias_code, takes_known_bias, rounded_by_code, placed_by_code}
 use Rattle.ec_fxcode_placed.specs.ShiftLaws.{PlacedCountsAreRight, PlacedCountsHave}
 use Rattle.ec_fxcode_placed.proofs.Biased.{biases}
+use Rattle.ec_fxcode_placed.proofs.Known.{RunsBiased, known_biases, known_bias_words}
 use Rattle.ec_fxcode_placed.proofs.Toward.{IsToward}
 use Rattle.ec_fxcode_placed.proofs.Loop.{beside_30, rounds}
 use Rattle.ec_fxcode_placed.proofs.Shifted.{toward_holds, plain_holds, left_holds, plain_left_holds}
@@ -91,7 +89,8 @@ bias_words r n k =
 -- ---- the runs
 
 module _ (f : Format) (mode : Mode) (e : Env) (p : Location) (n a k pc end : ℕ) (v : View) (bits : f.bits ≡ 8 * suc n)
-    (st : StandsFrom e p (suc n) a Own) (clear : IsClearOfEnds a (suc n)) (numbers : HoldsNumbers v) (few : k < 128) where
+    (st : StandsFrom e p (suc n) a Own) (clear : IsClearOfEnds a (suc n)) (numbers : HoldsNumbers v) (few : k < 128)
+    (within : k < 8 * suc n) where
   below : value v.at a (suc n) < 256 ^ suc n
   below = let two = st.clear in value_below v.at a (suc n) (λ j l. numbers (a + j) (omega (arith, two)))
 
@@ -120,47 +119,6 @@ module _ (f : Format) (mode : Mode) (e : Env) (p : Location) (n a k pc end : ℕ
         safe = r.safe;
         seen = r.seen;
       }
-
-  -- by the loop
-  as_loop : (s : Direction) (Holds : ℕ → Type 0) → HasAt e (Plain (Ldi 30 k) ∷ shift_code s p (suc n)) pc end
-      → Holds (shifted_by s (suc n) (value v.at a (suc n)) k) → Brings e most pc v end a (suc n) Holds
-  as_loop s Holds stands holds =
-      let v1 = change e (Ldi 30 k) v in
-      let here : v1.at 30 ≡ k = put_here v.at 30 k 30 refl in
-      let two = st.clear in
-      let numbers1 : HoldsNumbers v1 =
-      λ i u. ⊎_elim (λ (q : i ≡ 30). rw (put_here v.at 30 k i q) (omega (arith, few))) (λ (q : i ≢ 30). rw (put_other v.at 30 k i q) (numbers i u))
-      (cases_eq i 30) in
-      let g0 = shifts_are_right s e p n a stands.0 end v1 st (beside_30 a (suc n) clear) numbers1 (rw here few) stands.2 in
-      let g = subst (λ i. Leads e (3 + i * (2 + 4 * suc n)) stands.0 v1 end a (suc n)
-      (shifted_by s (suc n) (value v1.at a (suc n)) i)) here g0 in
-      let same : value v1.at a (suc n) ≡ value v.at a (suc n) =
-      value-same v1.at v.at a (suc n) (λ j m. put_other v.at 30 k (a + j) (clear_byte a (suc n) j clear two m).2) in
-      let take = g.at_most in
-      let w = wider in
-      record {
-        steps = 1 + g.steps;
-        at_most = omega (arith, take, w);
-        last = g.last;
-        goes = goes_on_to e 1 g.steps pc stands.0 end v v1 g.last (one_goes e (Ldi 30 k) pc stands.0 v refl stands.1) g.goes;
-        holds = subst Holds (sym (g.number_is ∙ ap (λ i. shifted_by s (suc n) i k) same)) holds;
-        numbers = g.numbers;
-        same = λ i b c d w o. g.same i b c d o ∙ put_other v.at 30 k i d;
-        inputs = g.inputs;
-        safe = g.safe;
-        seen = g.seen;
-      }
-
-  -- by the one with fewer words
-  turned_by : (s : Direction) (Holds : ℕ → Type 0) → HasAt e (turned_by_code s p (suc n) k) pc end
-      → Holds (shifted_by s (suc n) (value v.at a (suc n)) k) → Brings e most pc v end a (suc n) Holds
-  turned_by s Holds stands holds = by_loop (takes_loop (suc n) k) stands
-    where
-      by_loop : (b : Bool)
-          → HasAt e (if b then Plain (Ldi 30 k) ∷ shift_code s p (suc n) else counted_code s p (suc n) k) pc end
-          → Brings e most pc v end a (suc n) Holds
-      by_loop true u = as_loop s Holds u holds
-      by_loop false u = as_integer s Holds u holds
 
   -- bit by bit
   by_bits : HasAt e (Plain (Ldi 30 k) ∷ rounded_code p (suc n)) pc end
@@ -191,28 +149,37 @@ module _ (f : Format) (mode : Mode) (e : Env) (p : Location) (n a k pc end : ℕ
         seen = g.seen;
       }
 
-  -- with the bias
-  at_once : (r : ℕ) → p ≡ InRegisters r → k < 8 → HasAt e (bias_code r (suc n) k ++ counted_code (Right true) p (suc n) k) pc end
+  -- where a number in registers stands
+  place_of : (r : ℕ) → p ≡ InRegisters r → r ≡ a
+  place_of r is =
+      let x = subst (λ q. StandsFrom e q (suc n) a Own) is st in
+      let y = x.at 0 (omega arith) in
+      omega (arith, y)
+
+  two_of : (r : ℕ) → p ≡ InRegisters r → 2 ≤ r
+  two_of r is = let c = st.clear in let x = place_of r is in omega (arith, c, x)
+
+  clear_of : (r : ℕ) → p ≡ InRegisters r → IsClearOfEnds r (suc n)
+  clear_of r is = subst (λ i. IsClearOfEnds i (suc n)) (sym (place_of r is)) clear
+
+  -- with a bias
+  biased : (r : ℕ) → p ≡ InRegisters r → (mid : ℕ) → RunsBiased e (5 + suc n) pc v mid r (suc n) k
+      → HasAt e (counted_code (Right true) p (suc n) k) mid end
       → Brings e most pc v end a (suc n) (IsToward (256 ^ suc n) (value v.at a (suc n)) (2 ^ k))
-  at_once r is small stands =
-      let place : r ≡ a = (let x = subst (λ q. StandsFrom e q (suc n) a Own) is st in let y = x.at 0 (omega arith) in omega (arith, y)) in
-      let code = bias_code r (suc n) k in
-      let parts = has_parts e code (counted_code (Right true) p (suc n) k) pc end stands in
-      let v1 = block e code v in
-      let two : 2 ≤ r = (let c = st.clear in omega (arith, c, place)) in
-      let b0 = biases e r n k v two (subst (λ i. IsClearOfEnds i (suc n)) (sym place) clear) small numbers in
-      let g = counted_shifts_are_right (Right true) e p n a k parts.0 end v1 st (beside_30 a (suc n) clear) b0.numbers few parts.2 in
+  biased r is mid b stands =
+      let place = place_of r is in
+      let b0 = b.biased in
+      let g = counted_shifts_are_right (Right true) e p n a k mid end b.last st (beside_30 a (suc n) clear) b0.numbers few stands in
       let holds0 = b0.toward (value g.last.at a (suc n))
-      (g.number_is ∙ ap (λ i. shifted_by (Right true) (suc n) (value v1.at i (suc n)) k) (sym place)) in
-      let take1 = bias_steps r (suc n) k in
+      (g.number_is ∙ ap (λ i. shifted_by (Right true) (suc n) (value b.last.at i (suc n)) k) (sym place)) in
+      let take1 = b.at_most in
       let take2 = g.at_most in
       let w = wider in
       record {
-        steps = code_steps code + g.steps;
+        steps = b.steps + g.steps;
         at_most = omega (arith, take1, take2, w);
         last = g.last;
-        goes = goes_on_to e (code_steps code) g.steps pc parts.0 end v v1 g.last
-            (block_goes e code pc parts.0 v (bias_straight r (suc n) k) parts.1) g.goes;
+        goes = goes_on_to e b.steps g.steps pc mid end v b.last g.last b.goes g.goes;
         holds = subst (λ i. IsToward (256 ^ suc n) (value v.at i (suc n)) (2 ^ k) (value g.last.at a (suc n))) place holds0;
         numbers = g.numbers;
         same = λ i b c d z o. g.same i b c d o ∙ b0.same i b c d z (subst (λ q. Outside q (suc n) i) (sym place) o);
@@ -220,6 +187,31 @@ module _ (f : Format) (mode : Mode) (e : Env) (p : Location) (n a k pc end : ℕ
         safe = g.safe ∙ b0.safe;
         seen = g.seen ∙ b0.seen;
       }
+
+  -- that of R31
+  at_once : (r : ℕ) → p ≡ InRegisters r → k < 8 → HasAt e (bias_code r (suc n) k ++ counted_code (Right true) p (suc n) k) pc end
+      → Brings e most pc v end a (suc n) (IsToward (256 ^ suc n) (value v.at a (suc n)) (2 ^ k))
+  at_once r is small stands =
+      let code = bias_code r (suc n) k in
+      let parts = has_parts e code (counted_code (Right true) p (suc n) k) pc end stands in
+      let v1 = block e code v in
+      biased r is parts.0 (record {
+        steps = code_steps code;
+        at_most = bias_steps r (suc n) k;
+        last = v1;
+        goes = block_goes e code pc parts.0 v (bias_straight r (suc n) k) parts.1;
+        biased = biases e r n k v (two_of r is) (clear_of r is) small numbers;
+      }) parts.2
+
+  -- or that of known bytes
+  by_known : (r : ℕ) → p ≡ InRegisters r → 1 ≤ k → HasAt e (known_bias_code r (suc n) k ++ counted_code (Right true) p (suc n) k) pc end
+      → Brings e most pc v end a (suc n) (IsToward (256 ^ suc n) (value v.at a (suc n)) (2 ^ k))
+  by_known r is some stands =
+      let parts = has_parts e (known_bias_code r (suc n) k) (counted_code (Right true) p (suc n) k) pc end stands in
+      let b = known_biases e r n k pc parts.0 v (two_of r is) (clear_of r is) some within numbers parts.1 in
+      let take = b.at_most in
+      biased r is parts.0
+      (record { steps = b.steps; at_most = omega (arith, take); last = b.last; goes = b.goes; biased = b.biased }) parts.2
 
   abbrev Done : (left signed : Bool) → Type 0
   Done left signed =
@@ -229,12 +221,12 @@ module _ (f : Format) (mode : Mode) (e : Env) (p : Location) (n a k pc end : ℕ
 
   to_the_left : (signed : Bool) → mode.saturate ≡ false → Done true signed
   to_the_left true sat s stands =
-      turned_by Left _ stands
+      as_integer Left _ stands
       (subst (λ z. HoldsResult (suc n) (fit f mode z) (value v.at a (suc n) * 2 ^ k % 256 ^ suc n))
       (sym (div_one (signed_number (suc n) (value v.at a (suc n)) *ℤ pos (2 ^ k))))
       (left_holds f mode n (value v.at a (suc n)) (2 ^ k) s bits sat below (pow_pos k)))
   to_the_left false sat s stands =
-      turned_by Left _ stands
+      as_integer Left _ stands
       (subst (λ z. HoldsResult (suc n) (fit f mode z) (value v.at a (suc n) * 2 ^ k % 256 ^ suc n))
       (sym (div_one (pos (value v.at a (suc n)) *ℤ pos (2 ^ k))))
       (plain_left_holds f mode n (value v.at a (suc n)) (2 ^ k) s bits sat))
@@ -249,7 +241,7 @@ module _ (f : Format) (mode : Mode) (e : Env) (p : Location) (n a k pc end : ℕ
       by_place : (q : Location) → p ≡ q → HasAt e (rounded_by_code q (suc n) k) pc end
           → Brings e most pc v end a (suc n) (IsToward (256 ^ suc n) (value v.at a (suc n)) (2 ^ k))
       by_place (InMemory o j) is there = by_bits (subst (λ q. HasAt e (Plain (Ldi 30 k) ∷ rounded_code q (suc n)) pc end) (sym is) there)
-      by_place (InRegisters r) is there = by_count (nat_lt k 8) refl there
+      by_place (InRegisters r) is there = by_bytes (takes_known_bias r k) refl there
         where
           by_count : (b : Bool) → nat_lt k 8 ≡ b
               → HasAt e (if b then bias_code r (suc n) k ++ counted_code (Right true) (InRegisters r) (suc n) k
@@ -259,6 +251,16 @@ module _ (f : Format) (mode : Mode) (e : Env) (p : Location) (n a k pc end : ℕ
               at_once r is (ltb_true k 8 t)
               (subst (λ q. HasAt e (bias_code r (suc n) k ++ counted_code (Right true) q (suc n) k) pc end) (sym is) u)
           by_count false t u = by_bits (subst (λ q. HasAt e (Plain (Ldi 30 k) ∷ rounded_code q (suc n)) pc end) (sym is) u)
+
+          by_bytes : (b : Bool) → takes_known_bias r k ≡ b
+              → HasAt e (if b then known_bias_code r (suc n) k ++ counted_code (Right true) (InRegisters r) (suc n) k
+              else if nat_lt k 8 then bias_code r (suc n) k ++ counted_code (Right true) (InRegisters r) (suc n) k
+              else Plain (Ldi 30 k) ∷ rounded_code (InRegisters r) (suc n)) pc end
+              → Brings e most pc v end a (suc n) (IsToward (256 ^ suc n) (value v.at a (suc n)) (2 ^ k))
+          by_bytes true t u =
+              by_known r is (leb-true 1 k (and_parts (nat_le 16 r) (nat_le 1 k) t).1)
+              (subst (λ q. HasAt e (known_bias_code r (suc n) k ++ counted_code (Right true) q (suc n) k) pc end) (sym is) u)
+          by_bytes false t u = by_count (nat_lt k 8) refl u
 
   to_the_right : (signed : Bool) → Done false signed
   to_the_right true s stands =
@@ -276,7 +278,7 @@ module _ (f : Format) (mode : Mode) (e : Env) (p : Location) (n a k pc end : ℕ
         seen = r.seen;
       }
   to_the_right false s stands =
-      turned_by (Right false) _ stands (plain_holds f mode n (value v.at a (suc n)) (2 ^ k) s bits below (pow_pos k))
+      as_integer (Right false) _ stands (plain_holds f mode n (value v.at a (suc n)) (2 ^ k) s bits below (pow_pos k))
 
   done : (left : Bool) → (left ≡ true → mode.saturate ≡ false) → Done left f.signed
   done true sat = to_the_left f.signed (sat refl)
@@ -286,7 +288,7 @@ pub placed_counts_are_right : PlacedCountsAreRight
 placed_counts_are_right left f mode e p n a k pc end v is bits sat st clear numbers few stands =
     let wide = format_width f (suc n) is bits in
     let most = wide.most in
-    done f mode e p n a k pc end v bits st clear numbers (omega (arith, few, bits, most)) left sat refl stands
+    done f mode e p n a k pc end v bits st clear numbers (omega (arith, few, bits, most)) (omega (arith, few, bits)) left sat refl stands
 
 -- ---- words
 
@@ -295,19 +297,14 @@ rounded_has p n k =
     let a = placed_shifts_have false true p n in
     omega (arith, sum_by-append item_words (Plain (Ldi 30 k) ∷ []) (rounded_code p n), a)
 
-turned_has : (s : Direction) (p : Location) (n k : ℕ) → code_words (shift_code s p n) ≤ 8 + 10 * n
-    → code_words (turned_by_code s p n k) ≤ 12 + 10 * n
-turned_has s p n k few = by_loop (takes_loop n k)
-  where
-    by_loop : (b : Bool) → code_words (if b then Plain (Ldi 30 k) ∷ shift_code s p n else counted_code s p n k) ≤ 12 + 10 * n
-    by_loop true = omega (arith, sum_by-append item_words (Plain (Ldi 30 k) ∷ []) (shift_code s p n), few)
-    by_loop false = let a = counted_shifts_have_words s p n k in omega (arith, a)
+integers_have : (s : Direction) (p : Location) (n k : ℕ) → code_words (counted_code s p n k) ≤ 12 + 10 * n
+integers_have s p n k = let a = counted_shifts_have_words s p n k in omega (arith, a)
 
 pub placed_counts_have : PlacedCountsHave
-placed_counts_have true signed p n k = turned_has Left p n k (placed_shifts_have true signed p n)
-placed_counts_have false false p n k = turned_has (Right false) p n k (placed_shifts_have false false p n)
+placed_counts_have true signed p n k = integers_have Left p n k
+placed_counts_have false false p n k = integers_have (Right false) p n k
 placed_counts_have false true (InMemory o j) n k = let a = rounded_has (InMemory o j) n k in omega (arith, a)
-placed_counts_have false true (InRegisters r) n k = by_count (nat_lt k 8)
+placed_counts_have false true (InRegisters r) n k = by_bytes (takes_known_bias r k)
   where
     by_count : (b : Bool) → code_words (if b then bias_code r n k ++ counted_code (Right true) (InRegisters r) n k
         else Plain (Ldi 30 k) ∷ rounded_code (InRegisters r) n) ≤ 12 + 10 * n
@@ -316,3 +313,12 @@ placed_counts_have false true (InRegisters r) n k = by_count (nat_lt k 8)
         let b = counted_shifts_have_words (Right true) (InRegisters r) n k in
         omega (arith, sum_by-append item_words (bias_code r n k) (counted_code (Right true) (InRegisters r) n k), a, b)
     by_count false = let a = rounded_has (InRegisters r) n k in omega (arith, a)
+
+    by_bytes : (b : Bool) → code_words (if b then known_bias_code r n k ++ counted_code (Right true) (InRegisters r) n k
+        else if nat_lt k 8 then bias_code r n k ++ counted_code (Right true) (InRegisters r) n k
+        else Plain (Ldi 30 k) ∷ rounded_code (InRegisters r) n) ≤ 12 + 10 * n
+    by_bytes true =
+        let a = known_bias_words r n k in
+        let b = counted_shifts_have_words (Right true) (InRegisters r) n k in
+        omega (arith, sum_by-append item_words (known_bias_code r n k) (counted_code (Right true) (InRegisters r) n k), a, b)
+    by_bytes false = by_count (nat_lt k 8)

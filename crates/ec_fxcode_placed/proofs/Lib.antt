@@ -2,6 +2,7 @@
 pub mod Shifted
 pub mod Words
 pub mod Counted
+pub mod Known
 -- For this crate alone.
 mod Biased
 mod Raised

@@ -1,21 +1,21 @@
--- Code that shifts a fixed-point number where it stands by a known count: to the left, and without a sign, as an integer,
--- but by the loop where that has fewer words than a move of whole bytes and a shift of the others by bits;
+-- Code that shifts a fixed-point number where it stands by a known count: to the left, and without a sign, as an integer;
 -- and in two's complement to the right, where 2 ^ k - 1 is added to a negative number before it is shifted by k bits,
 -- which rounds toward zero. R0, R1, R30 and R31 are work registers.
-use Rattle.std.specs.Prelude.{ℕ, zero, suc, ◌+◌, ◌-◌, ◌*◌, ◌/◌, ◌%◌, ◌^◌, nat_le, nat_lt, Bool, true, false, ◌&&◌}
+use Rattle.std.specs.Prelude.{ℕ, zero, suc, ◌+◌, ◌-◌, ◌*◌, ◌^◌, min, nat_le, nat_lt, Bool, true, false, pos, ◌&&◌}
 use Rattle.std.specs.Prelude.{if◌then◌else◌, List, [], ◌∷◌, ◌++◌}
 use Rattle.ec_isa.specs.declared.instructions.Instr.{Instr}
-use Rattle.ec_isa.specs.declared.instructions.Instr.TheVariants.{Add, Adc, Andi, Eor, Ldi}
+use Rattle.ec_isa.specs.declared.instructions.Instr.TheVariants.{Add, Adc, Subi, Sbci, Andi, Eor, Ldi, Sbrs, Rjmp}
 use Rattle.ec_asm.specs.declared.items.AsmItem.{AsmItem}
 use Rattle.ec_asm.specs.declared.items.AsmItem.TheVariants.{Plain}
 use Rattle.ec_asm.specs.declared.pieces.Location.{Location}
 use Rattle.ec_asm.specs.declared.pieces.Location.TheVariants.{InRegisters, InMemory}
 use Rattle.ec_asm.specs.Items.{chain}
-use Rattle.ec_select_shifts.specs.declared.shifts.Direction.{Direction}
 use Rattle.ec_select_shifts.specs.declared.shifts.Direction.TheVariants.{Left, Right}
-use Rattle.ec_select_shifts.specs.Shifts.{shift_code, counted_code}
+use Rattle.ec_select_shifts.specs.Shifts.{counted_code}
 use Rattle.ec_fxcode.specs.Clamps.{sign_code}
 use Rattle.ec_fxcode_placed.specs.Shifts.{rounded_code}
+
+-- ---- the bias in R31
 
 -- R31 is added to the lowest byte, and the carry to each other one, where R0 is 0
 abbrev pub biased_by : (i d : ℕ) → Instr
@@ -30,21 +30,39 @@ abbrev pub bias_code : (r n k : ℕ) → List AsmItem
 bias_code r n k =
     sign_code (InRegisters r) n ++ (Plain (Andi 31 (2 ^ k - 1)) ∷ Plain (Eor 0 0) ∷ chain (biased_byte r) n)
 
--- in registers by fewer than 8 bits, and else bit by bit, by the count in R30
+-- ---- the bias by bytes that are known, in registers from R16 on
+
+-- byte i of 2 ^ k - 1
+abbrev pub mask_byte : (k i : ℕ) → ℕ
+mask_byte k i = 2 ^ min 8 (k - 8 * i) - 1
+
+-- the bytes of 256 ^ n less 2 ^ k - 1 are taken away, which adds it
+abbrev pub known_bias_by : (k i d : ℕ) → Instr
+known_bias_by k zero d = Subi d (256 - mask_byte k zero)
+known_bias_by k (suc i) d = Sbci d (255 - mask_byte k (suc i))
+
+abbrev pub known_bias_byte : (r k i : ℕ) → List AsmItem
+known_bias_byte r k i = Plain (known_bias_by k i (r + i)) ∷ []
+
+-- 2 ^ k - 1 is added to the number in n registers from r on, over which a jump leads where it is not negative
+abbrev pub known_bias_code : (r n k : ℕ) → List AsmItem
+known_bias_code r n k = Plain (Sbrs (r + (n - 1)) 7) ∷ Plain (Rjmp (pos n)) ∷ chain (known_bias_byte r k) n
+
+-- ---- the whole code
+
+-- in registers with the bias first, from R16 on by any count and in the others by fewer than 8 bits, and else bit by bit, by
+-- the count in R30
+abbrev pub takes_known_bias : (r k : ℕ) → Bool
+takes_known_bias r k = nat_le 16 r && nat_le 1 k
+
 abbrev pub rounded_by_code : Location → (n k : ℕ) → List AsmItem
 rounded_by_code (InRegisters r) n k =
-    if nat_lt k 8 then bias_code r n k ++ counted_code (Right true) (InRegisters r) n k
+    if takes_known_bias r k then known_bias_code r n k ++ counted_code (Right true) (InRegisters r) n k
+    else if nat_lt k 8 then bias_code r n k ++ counted_code (Right true) (InRegisters r) n k
     else Plain (Ldi 30 k) ∷ rounded_code (InRegisters r) n
 rounded_by_code (InMemory o j) n k = Plain (Ldi 30 k) ∷ rounded_code (InMemory o j) n
 
--- where the loop has fewer words
-abbrev pub takes_loop : (n k : ℕ) → Bool
-takes_loop n k = nat_le 8 k && nat_lt 4 (k % 8 * (n - k / 8))
-
-abbrev pub turned_by_code : Direction → Location → (n k : ℕ) → List AsmItem
-turned_by_code s p n k = if takes_loop n k then Plain (Ldi 30 k) ∷ shift_code s p n else counted_code s p n k
-
 abbrev pub placed_by_code : (left signed : Bool) → Location → (n k : ℕ) → List AsmItem
-placed_by_code true signed p n k = turned_by_code Left p n k
+placed_by_code true signed p n k = counted_code Left p n k
 placed_by_code false true p n k = rounded_by_code p n k
-placed_by_code false false p n k = turned_by_code (Right false) p n k
+placed_by_code false false p n k = counted_code (Right false) p n k

@@ -4,7 +4,7 @@ ghost use Rattle.ec_runs.specs.Behaviours.{BeginWith};
 ghost use Rattle.ec_asm.specs.Pieces.{HasBytes, HasByte, instruction};
 ghost use Rattle.ec_fxcode_placed.specs.Shifts.{raise_byte, raise_code, half_code, half_words, rounded_code, placed_code};
 ghost use Rattle.ec_fxcode_placed.specs.Counts.{biased_by, biased_byte, bias_code, rounded_by_code, placed_by_code};
-ghost use Rattle.ec_fxcode_placed.specs.Counts.{takes_loop, turned_by_code};
+ghost use Rattle.ec_fxcode_placed.specs.Counts.{mask_byte, known_bias_by, known_bias_byte, known_bias_code, takes_known_bias};
 ghost use Rattle.ec_asm.specs.Items.{chain};
 
 use ec_asm::{AsmItem, Location, Operator, halve};
@@ -206,6 +206,74 @@ fn low_mask(count: u8) -> u8
     (1 << count) - 1
 }
 
+/// Byte `i` of 2 ^ count - 1.
+fn mask_byte(count: u8, i: u8) -> u8
+    requires { i < 32 }
+    ensures { result ≡ mask_byte count i }
+{
+    let bits = count.saturating_sub(8 * i);
+    if bits < 8 { low_mask(bits) } else { 255 }
+}
+
+/// What takes byte `i` of 256 ^ n less 2 ^ count - 1 from a register: the lowest byte takes no borrow.
+fn known_bias_by(count: u8, i: u8, register: u8) -> Instr
+    requires some { 1 ≤ count }
+    requires index { i < 32 }
+    ensures { result ≡ known_bias_by count i register }
+{
+    let mask = mask_byte(count, i);
+    if i == 0 {
+        Instr::Subi {
+            d: register,
+            k: 255 - mask + 1,
+        }
+    } else {
+        Instr::Sbci {
+            d: register,
+            k: 255 - mask,
+        }
+    }
+}
+
+/// Appends code that adds 2 ^ count - 1 to a number in registers from `r` on.
+fn known_bias_bytes(out: &mut Seq<AsmItem>, r: u8, bytes: u8, count: u8) -> Result<(), NoMemory>
+    requires row { r + bytes ≤ 32 }
+    requires some { 1 ≤ count }
+    ensures ok { OnOk result (out.new.items ≡ out.old.items ++ chain (known_bias_byte r count) bytes) }
+    ensures err { OnErr result (BeginWith out.old.items out.new.items) }
+{
+    for i in 0..bytes {
+        out.extend_from_slice(&[AsmItem::Plain(known_bias_by(count, i, r + i))])?;
+    }
+    Ok(())
+}
+
+/// Appends code that adds 2 ^ count - 1 to a number in registers from `r` on where it is negative, and that is passed over
+/// where it is not.
+fn known_bias(out: &mut Seq<AsmItem>, r: u8, bytes: u8, count: u8) -> Result<(), NoMemory>
+    requires row { r + bytes ≤ 32 }
+    requires bytes { 1 ≤ bytes }
+    requires some { 1 ≤ count }
+    ensures ok { OnOk result (out.new.items ≡ out.old.items ++ known_bias_code r bytes count) }
+    ensures err { OnErr result (BeginWith out.old.items out.new.items) }
+{
+    out.extend_from_slice(&[
+        AsmItem::Plain(Instr::Sbrs {
+            r: r + (bytes - 1),
+            b: 7,
+        }),
+        AsmItem::Plain(over(u16::from(bytes))),
+    ])?;
+    known_bias_bytes(out, r, bytes, count)
+}
+
+/// Whether the bias of a number in registers from `r` on is made of bytes that are known.
+fn takes_known_bias(r: u8, count: u8) -> bool
+    ensures { result ≡ takes_known_bias r count }
+{
+    16 <= r && 1 <= count
+}
+
 /// Appends code that shifts a number in two's complement to the right by a known count, and rounds toward zero.
 fn rounded_by(out: &mut Seq<AsmItem>, at: Location, bytes: u8, count: u8) -> Result<(), NoMemory>
     requires at { HasBytes at bytes }
@@ -214,44 +282,21 @@ fn rounded_by(out: &mut Seq<AsmItem>, at: Location, bytes: u8, count: u8) -> Res
     ensures ok { OnOk result (out.new.items ≡ out.old.items ++ rounded_by_code at bytes count) }
     ensures err { OnErr result (BeginWith out.old.items out.new.items) }
 {
+    let right = Direction::Right { signed: true };
     match at {
+        Location::InRegisters(r) if takes_known_bias(r, count) => {
+            known_bias(out, r, bytes, count)?;
+            shift_by(out, right, at, bytes, count)
+        }
         Location::InRegisters(r) if count < 8 => {
             bias(out, r, bytes, count)?;
-            shift_by(out, Direction::Right { signed: true }, at, bytes, count)
+            shift_by(out, right, at, bytes, count)
         }
         _ => {
             out.extend_from_slice(&[AsmItem::Plain(Instr::Ldi { d: 30, k: count })])?;
             rounded(out, at, bytes)
         }
     }
-}
-
-/// Whether the loop has fewer words than a move of whole bytes and a shift of the others by bits.
-fn takes_loop(bytes: u8, count: u8) -> bool
-    ensures { result ≡ takes_loop bytes count }
-{
-    let bits = u16::from(count % 8) * u16::from(bytes.saturating_sub(count / 8));
-    count >= 8 && bits > 4
-}
-
-/// Appends code that shifts a number by a known count, as an integer.
-fn turned_by(
-    out: &mut Seq<AsmItem>,
-    by: Direction,
-    at: Location,
-    bytes: u8,
-    count: u8,
-) -> Result<(), NoMemory>
-    requires at { HasBytes at bytes }
-    requires some { 1 ≤ bytes }
-    ensures ok { OnOk result (out.new.items ≡ out.old.items ++ turned_by_code by at bytes count) }
-    ensures err { OnErr result (BeginWith out.old.items out.new.items) }
-{
-    if takes_loop(bytes, count) {
-        out.extend_from_slice(&[AsmItem::Plain(Instr::Ldi { d: 30, k: count })])?;
-        return shift(out, by, at, bytes);
-    }
-    shift_by(out, by, at, bytes, count)
 }
 
 /// Appends code that shifts a fixed-point number of so many bytes where it stands, by a known count. To the right it
@@ -272,8 +317,8 @@ pub fn shift_in_place_by(
     ensures err { OnErr result (BeginWith out.old.items out.new.items) }
 {
     match (left, signed) {
-        (true, _) => turned_by(out, Direction::Left, at, bytes, count),
+        (true, _) => shift_by(out, Direction::Left, at, bytes, count),
         (false, true) => rounded_by(out, at, bytes, count),
-        (false, false) => turned_by(out, Direction::Right { signed: false }, at, bytes, count),
+        (false, false) => shift_by(out, Direction::Right { signed: false }, at, bytes, count),
     }
 }

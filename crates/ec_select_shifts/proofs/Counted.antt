@@ -1,13 +1,13 @@
 -- Shifts by a known count.
 use Rattle.std.proofs.Common.{◌≡◌, ◌≢◌, ℕ, zero, suc, ◌+◌, ◌-◌, ◌*◌, ◌/◌, ◌%◌, ◌^◌, ◌<◌, ◌≤◌, Bool, true, false, refl, sym, ap, ◌∙◌}
 use Rattle.std.proofs.Common.{List, [], ◌∷◌, ◌++◌, append_assoc, append-nil, leb-true, leb-false, ⊎_elim, subst, arith}
-use Rattle.std.specs.Prelude.{if◌then◌else◌, nat_le, nat_lt}
-use Rattle.std.proofs.lemmas.Bool.{cases_eq, cases_lt, and_parts, le-leb}
+use Rattle.std.specs.Prelude.{if◌then◌else◌, nat_le, nat_lt, ◌==◌}
+use Rattle.std.proofs.lemmas.Bool.{cases_eq, cases_lt, and_parts, eqb-true, le-leb}
 use Rattle.std.proofs.lemmas.Bool.Decides.{nat_tests}
 use Rattle.std.proofs.lemmas.List.Sums.{sum_by-append}
 use Rattle.std.proofs.lemmas.Nat.{mul-le, pow-add, mod_below, div-add-mod', mod-mul-add, div-mul-add, shr_le}
 use native.Mathlib.Nat.{pow-suc, div-div-eq-div-mul}
-use Rattle.ec_isa.specs.declared.instructions.Instr.TheVariants.{Ldi, Mov}
+use Rattle.ec_isa.specs.declared.instructions.Instr.TheVariants.{Ldi, Mov, Eor, Sbc}
 use Rattle.ec_asm.specs.declared.items.AsmItem.{AsmItem}
 use Rattle.ec_asm.specs.declared.items.AsmItem.TheVariants.{Plain}
 use Rattle.ec_asm.specs.declared.pieces.Location.{Location}
@@ -17,19 +17,22 @@ use Rattle.ec_asm.specs.Change.{Env, Own, change}
 use Rattle.ec_asm.specs.Items.{HasAt, all_straight, block, chain, code_steps, code_words, item_words}
 use Rattle.ec_asm.specs.Pieces.{StandsFrom, Outside, value}
 use Rattle.ec_asm.specs.PieceLaws.{HoldsNumbers}
+use Rattle.ec_asm.specs.Takes.{Goes}
 use Rattle.ec_asm.proofs.Bytes.{put_here, put_other}
-use Rattle.ec_asm.proofs.Hoare.{has_parts, block_goes, goes_on_to, one_goes, straight-append, chain_straight, steps-append, steps-chain}
+use Rattle.ec_asm.proofs.Hoare.{has_parts, block-append, block_goes, goes_on_to, one_goes, straight-append, chain_straight, steps-append, steps-chain}
 use Rattle.ec_asm.proofs.ItemWords.{chain_words}
 use Rattle.ec_asm.proofs.Numbers.{value_below, pow_pos as bytes_pos}
 use Rattle.ec_asm.proofs.Sum.{value-same}
 use Rattle.ec_select_shifts.specs.declared.shifts.Direction.{Direction}
 use Rattle.ec_select_shifts.specs.declared.shifts.Direction.TheVariants.{Left, Right}
-use Rattle.ec_select_shifts.specs.Shifts.{shifted_by, turn_code, turn_words, turns_code, bits_code, shift_code}
+use Rattle.ec_select_shifts.specs.Shifts.{shifted_by, turn_code, turn_words, turns_code, most_turn_words, bits_code, shift_code}
 use Rattle.ec_select_shifts.specs.Shifts.{sign_code, filled_byte, moved_byte, moved_code, first_moved, bytes_code, moves_bytes}
+use Rattle.ec_select_shifts.specs.Shifts.{against_code, carried_byte, carry_code, carried_code, takes_carry}
 use Rattle.ec_select_shifts.specs.Laws.{Leads, CountedShiftsAreRight, CountedShiftsHaveWords}
+use Rattle.ec_select_shifts.proofs.Carried.{value_moved, seven}
 use Rattle.ec_select_shifts.proofs.Loops.{shifts_are_right, turn_straight, turn_takes}
 use Rattle.ec_select_shifts.proofs.Moved.{Moves, bytes_move, fill_of, moved_from, first_filled}
-use Rattle.ec_select_shifts.proofs.Once.{once, none, first_turn, turned}
+use Rattle.ec_select_shifts.proofs.Once.{none, first_turn, turned}
 use Rattle.ec_select_shifts.proofs.Words.{turn_has_words, shifts_have_words}
 
 -- the first turn, and the others
@@ -121,7 +124,7 @@ bits_lead : (s : Direction) (e : Env) (p : Location) (n a k pc end : ℕ) (v : V
     → Outside a (suc n) 30 → HoldsNumbers v → k < 128 → HasAt e (bits_code s p (suc n) k) pc end
     → Leads e (4 + k * (2 + 4 * suc n)) pc v end a (suc n) (shifted_by s (suc n) (value v.at a (suc n)) k)
 bits_lead s e p n a k pc end v st far h l stands =
-    by_words (nat_le (k * turn_words s p (suc n)) (turn_words s p (suc n) + 4)) stands
+    by_words (nat_le (k * turn_words s p (suc n)) (most_turn_words s p (suc n))) stands
   where
     by_words : (x : Bool) → HasAt e (if x then turns_code s p (suc n) k else Plain (Ldi 30 k) ∷ shift_code s p (suc n)) pc end
         → Leads e (4 + k * (2 + 4 * suc n)) pc v end a (suc n) (shifted_by s (suc n) (value v.at a (suc n)) k)
@@ -155,13 +158,6 @@ value_parts f a k (suc m) =
     let q : a + (k + m) ≡ a + k + m = omega arith in
     let p : 256 ^ (k + m) ≡ 256 ^ k * 256 ^ m = pow-add 256 k m in
     rw (e, h, q, p) (omega arith)
-
-value_moved : (f g : ℕ → ℕ) (a b n : ℕ) → ((j : ℕ) → j < n → f (a + j) ≡ g (b + j)) → value f a n ≡ value g b n
-value_moved f g a b zero h = refl
-value_moved f g a b (suc n) h =
-    let x = value_moved f g a b n (λ j l. h j (omega arith)) in
-    let y = h n (omega arith) in
-    rw (x, y) refl
 
 zeros : (f : ℕ → ℕ) (a m : ℕ) → ((j : ℕ) → j < m → f (a + j) ≡ 0) → value f a m ≡ 0
 zeros f a zero h = refl
@@ -257,6 +253,11 @@ half_of low top p l k =
 abbrev joined_of : Direction → (m q moved filled : ℕ) → ℕ
 joined_of Left m q moved filled = filled + 256 ^ q * moved
 joined_of (Right signed) m q moved filled = moved + 256 ^ m * filled
+
+together : (s : Direction) (r m q : ℕ) (u : ℕ → ℕ)
+    → value u r (m + q) ≡ joined_of s m q (value u (first_moved s r q) m) (value u (first_filled s r m) q)
+together Left r m q u = let n : m + q ≡ q + m = omega arith in ap (value u r) n ∙ value_parts u r q m
+together (Right signed) r m q u = value_parts u r m q
 
 module _ (e : Env) (r w q : ℕ) (two : 2 ≤ r) (v : View) (numbers : HoldsNumbers v) where
   abbrev m : ℕ
@@ -463,7 +464,7 @@ bytes_lead s e r w q k pc end v two far some small h stands =
       last = t.last;
       goes = goes_on_to e (code_steps code) t.steps pc parts.0 end v v1 t.last
           (block_goes e code pc parts.0 v (moved_straight s r n q) parts.1) t.goes;
-      number_is = together s t.last.at ∙ whole;
+      number_is = together s r m q t.last.at ∙ whole;
       numbers = t.numbers;
       same = λ i b c d o. t.same i b c d (λ l. (let z = o (omega (arith, l, a.0)) in omega (arith, z, a.1))) ∙ g.same i b o;
       inputs = t.inputs ∙ g.inputs;
@@ -487,11 +488,6 @@ bytes_lead s e r w q k pc end v two far some small h stands =
     apart Left j l z = absurd (omega (arith, l, z))
     apart (Right signed) j l z = omega arith
 
-    together : (s : Direction) (u : ℕ → ℕ) → value u r (suc w + q)
-        ≡ joined_of s (suc w) q (value u (first_moved s r q) (suc w)) (value u (first_filled s r (suc w)) q)
-    together Left u = let n : suc w + q ≡ q + suc w = omega arith in ap (value u r) n ∙ value_parts u r q (suc w)
-    together (Right signed) u = value_parts u r (suc w) q
-
     bound : (q k m c t : ℕ) → c ≤ 3 + (m + q) → t ≤ 4 + k * (2 + 4 * m) → 1 ≤ q → c + t ≤ 4 + (8 * q + k) * (2 + 4 * (m + q))
     bound q k m c t x y some =
         let u : k * (2 + 4 * m) ≤ k * (2 + 4 * (m + q)) = mul-le k (2 + 4 * m) k (2 + 4 * (m + q)) (omega arith) (omega arith) in
@@ -499,9 +495,103 @@ bytes_lead s e r w q k pc end v two far some small h stands =
         mul-le 8 (2 + 4 * (m + q)) (8 * q) (2 + 4 * (m + q)) (omega (arith, some)) (omega arith) in
         omega (arith, x, y, u, z)
 
+-- ---- by whole bytes and seven bits
+
+against_straight : (s : Direction) (r q m : ℕ) → all_straight (against_code s r q m) ≡ true
+against_straight Left r q m = turn_straight (Right false) (InRegisters r) m
+against_straight (Right signed) r q m = turn_straight Left (InRegisters (r + q)) m
+
+against_steps : (s : Direction) (r q m : ℕ) → code_steps (against_code s r q m) ≤ 4 * m
+against_steps Left r q m = let t = turn_takes (Right false) (InRegisters r) m in omega (arith, t)
+against_steps (Right signed) r q m = let t = turn_takes Left (InRegisters (r + q)) m in omega (arith, t)
+
+against_words : (s : Direction) (r q m : ℕ) → code_words (against_code s r q m) ≡ 1 * m
+against_words Left r q m = turn_has_words (Right false) (InRegisters r) m
+against_words (Right signed) r q m = turn_has_words Left (InRegisters (r + q)) m
+
+-- a byte that moves, or is filled, has one word
+record IsOne (code : List AsmItem) : Type 0 where
+  straight : all_straight code ≡ true
+  steps : code_steps code ≡ 1
+  words : code_words code ≡ 1
+
+one_of : (b : Bool) (d t : ℕ) → IsOne (if b then Plain (Mov d t) ∷ [] else Plain (Eor d d) ∷ [])
+one_of true d t = record { straight = refl; steps = refl; words = refl }
+one_of false d t = record { straight = refl; steps = refl; words = refl }
+
+carried_one : (s : Direction) (r n q i : ℕ) → IsOne (carried_byte s r n q i)
+carried_one Left r n q i = one_of (nat_le q (n - 1 - i)) (r + (n - 1 - i)) (r + (n - 1 - i - q))
+carried_one (Right false) r n q i = one_of (nat_lt (q + i) n) (r + i) (r + (q + i))
+carried_one (Right true) r n q i = by (nat_lt (q + i) n)
+  where
+    by : (b : Bool) → IsOne (if b then Plain (Mov (r + i) (r + (q + i))) ∷ [] else Plain (Sbc (r + i) (r + i)) ∷ [])
+    by true = record { straight = refl; steps = refl; words = refl }
+    by false = record { straight = refl; steps = refl; words = refl }
+
+record IsFew (code : List AsmItem) : Type 0 where
+  straight : all_straight code ≡ true
+  steps : code_steps code ≤ 1
+  words : code_words code ≤ 1
+
+carry_few : (s : Direction) (r q m : ℕ) → IsFew (carry_code s r q m)
+carry_few Left r q m = record { straight = refl; steps = omega arith; words = omega arith }
+carry_few (Right true) r q m = record { straight = refl; steps = omega arith; words = omega arith }
+carry_few (Right false) r q m = record { straight = refl; steps = omega arith; words = omega arith }
+
+carried_lead : (s : Direction) (e : Env) (r w q pc end : ℕ) (v : View) → 2 ≤ r → HoldsNumbers v
+    → HasAt e (against_code s r q (suc w) ++ (chain (carried_byte s r (suc w + q) (suc q)) (suc w + q) ++ carry_code s r q (suc w))) pc end
+    → Leads e (4 + (8 * q + 7) * (2 + 4 * (suc w + q))) pc v end r (suc w + q)
+    (shifted_by s (suc w + q) (value v.at r (suc w + q)) (8 * q + 7))
+carried_lead s e r w q pc end v two h stands =
+    let m = suc w in
+    let n = m + q in
+    let first = against_code s r q m in
+    let bytes = chain (carried_byte s r n (suc q)) n in
+    let last = carry_code s r q m in
+    let code = first ++ (bytes ++ last) in
+    let straight = straight-append first (bytes ++ last) (against_straight s r q m)
+    (straight-append bytes last (chain_straight (carried_byte s r n (suc q)) n (λ i. (carried_one s r n (suc q) i).straight))
+    (carry_few s r q m).straight) in
+    let u = block e last (block e bytes (block e first v)) in
+    let is : block e code v ≡ u = block-append e first (bytes ++ last) v ∙ block-append e bytes last (block e first v) in
+    let g = seven s e r w q v two h in
+    let f = value u.at (first_filled s r m) q in
+    let whole = shifted_whole e r w q two v h s 7 (value u.at (first_moved s r q) m) f g.number_is
+    (λ o. zeros u.at (first_filled s r m) q (λ j l. g.filled j l ∙ o))
+    (λ o. ones u.at (first_filled s r m) q (λ j l. g.filled j l ∙ o)) in
+    let take1 = against_steps s r q m in
+    let take2 = steps-chain (carried_byte s r n (suc q)) n 1 (λ i. (carried_one s r n (suc q) i).steps) in
+    let take3 = (carry_few s r q m).steps in
+    let take : code_steps code ≤ 4 * m + n + 1 = omega (
+      arith,
+      steps-append first (bytes ++ last),
+      steps-append bytes last,
+      take1,
+      take2,
+      take3,
+    ) in
+    record {
+      steps = code_steps code;
+      at_most = bound q m (code_steps code) take;
+      last = u;
+      goes = subst (λ i. Goes e (code_steps code) pc v end i) is (block_goes e code pc end v straight stands);
+      number_is = together s r m q u.at ∙ whole;
+      numbers = g.numbers;
+      same = λ i b c d o. g.same i b c o;
+      inputs = g.inputs;
+      safe = g.safe;
+      seen = g.seen;
+    }
+  where
+    bound : (q m c : ℕ) → c ≤ 4 * m + (m + q) + 1 → c ≤ 4 + (8 * q + 7) * (2 + 4 * (m + q))
+    bound q m c x =
+        let z : 7 * (2 + 4 * (m + q)) ≤ (8 * q + 7) * (2 + 4 * (m + q)) =
+        mul-le 7 (2 + 4 * (m + q)) (8 * q + 7) (2 + 4 * (m + q)) (omega arith) (omega arith) in
+        omega (arith, x, z)
+
 pub counted_shifts_are_right : CountedShiftsAreRight
 counted_shifts_are_right s e (InMemory o j) n a k pc end v st far h l stands = bits_lead s e (InMemory o j) n a k pc end v st far h l stands
-counted_shifts_are_right s e (InRegisters r) n a k pc end v st far h l stands = by_bytes (moves_bytes (suc n) k) refl stands
+counted_shifts_are_right s e (InRegisters r) n a k pc end v st far h l stands = by_carry (takes_carry (suc n) k) refl stands
   where
     same : r ≡ a
     same = let x = st.at 0 (omega arith) in omega (arith, x)
@@ -534,6 +624,29 @@ counted_shifts_are_right s e (InRegisters r) n a k pc end v st far h l stands = 
         (subst (λ i. Leads e (4 + (8 * (k / 8) + k % 8) * (2 + 4 * i)) pc v end r i (shifted_by s i (value v.at r i) (8 * (k / 8) + k % 8)))
         (sym all) g))
 
+    by_carry : (b : Bool) → takes_carry (suc n) k ≡ b
+        → HasAt e (if b then carried_code s r (suc n) (k / 8)
+        else if moves_bytes (suc n) k then bytes_code s r (suc n) (k / 8) (k % 8)
+        else bits_code s (InRegisters r) (suc n) k) pc end
+        → Leads e (4 + k * (2 + 4 * suc n)) pc v end a (suc n) (shifted_by s (suc n) (value v.at a (suc n)) k)
+    by_carry false t stands = by_bytes (moves_bytes (suc n) k) refl stands
+    by_carry true t stands =
+        let q = k / 8 in
+        let parts = and_parts (nat_lt q (suc n)) (k % 8 == 7) t in
+        let few : q < suc n = ltb_true q (suc n) parts.0 in
+        let seven_left : k % 8 ≡ 7 = eqb-true (k % 8) 7 parts.1 in
+        let w = n - q in
+        let m : suc n - q ≡ suc w = omega (arith, few) in
+        let all : suc n ≡ suc w + q = omega (arith, few) in
+        let bits : 8 * q + 7 ≡ k = omega (arith, seven_left) in
+        let stand : HasAt e (against_code s r q (suc w) ++ (chain (carried_byte s r (suc n) (suc q)) (suc n) ++ carry_code s r q (suc w))) pc end =
+        subst (λ i. HasAt e (against_code s r q i ++ (chain (carried_byte s r (suc n) (suc q)) (suc n) ++ carry_code s r q i)) pc end) m stands in
+        let g = carried_lead s e r w q pc end v two h
+        (subst (λ i. HasAt e (against_code s r q (suc w) ++ (chain (carried_byte s r i (suc q)) i ++ carry_code s r q (suc w))) pc end) all stand) in
+        subst (λ i. Leads e (4 + k * (2 + 4 * suc n)) pc v end i (suc n) (shifted_by s (suc n) (value v.at i (suc n)) k)) same
+        (subst (λ i. Leads e (4 + i * (2 + 4 * suc n)) pc v end r (suc n) (shifted_by s (suc n) (value v.at r (suc n)) i)) bits
+        (subst (λ i. Leads e (4 + (8 * q + 7) * (2 + 4 * i)) pc v end r i (shifted_by s i (value v.at r i) (8 * q + 7))) (sym all) g))
+
 -- ---- words
 
 turns_have : (s : Direction) (p : Location) (n k : ℕ) → code_words (turns_code s p n k) ≡ k * turn_words s p n
@@ -543,24 +656,34 @@ turns_have s p n (suc k) =
     let z = turn_has_words s p n in
     omega (arith, sum_by-append item_words (turns_code s p n k) (turn_code s p n), x, z)
 
-few_words : (s : Direction) (p : Location) (n : ℕ) → turn_words s p n ≤ 7 * n
-few_words s (InRegisters r) n = omega arith
-few_words Left (InMemory o k) n = omega arith
-few_words (Right signed) (InMemory o k) n = omega arith
-
-bits_have : (s : Direction) (p : Location) (n k : ℕ) → code_words (bits_code s p n k) ≤ turn_words s p n + 4
-bits_have s p n k = by_words (nat_le (k * turn_words s p n) (turn_words s p n + 4)) refl
+bits_have : (s : Direction) (p : Location) (n k : ℕ) → code_words (bits_code s p n k) ≤ most_turn_words s p n
+bits_have s p n k = by_words (nat_le (k * turn_words s p n) (most_turn_words s p n)) refl
   where
-    by_words : (x : Bool) → nat_le (k * turn_words s p n) (turn_words s p n + 4) ≡ x
-        → code_words (if x then turns_code s p n k else Plain (Ldi 30 k) ∷ shift_code s p n) ≤ turn_words s p n + 4
+    loop_within : (s : Direction) (p : Location) → turn_words s p n + 4 ≤ most_turn_words s p n
+    loop_within s (InRegisters r) = omega arith
+    loop_within s (InMemory o j) = omega arith
+
+    by_words : (x : Bool) → nat_le (k * turn_words s p n) (most_turn_words s p n) ≡ x
+        → code_words (if x then turns_code s p n k else Plain (Ldi 30 k) ∷ shift_code s p n) ≤ most_turn_words s p n
     by_words true q =
-        let l : k * turn_words s p n ≤ turn_words s p n + 4 = leb-true (k * turn_words s p n) (turn_words s p n + 4) q in
+        let l : k * turn_words s p n ≤ most_turn_words s p n = leb-true (k * turn_words s p n) (most_turn_words s p n) q in
         let w = turns_have s p n k in
         omega (arith, w, l)
     by_words false q =
         let w = shifts_have_words s p n in
         let both = sum_by-append item_words (Plain (Ldi 30 k) ∷ []) (shift_code s p n) in
-        omega (arith, w, both)
+        let l = loop_within s p in
+        omega (arith, w, both, l)
+
+-- of no bytes there are no turns
+few_bits_have : (s : Direction) (p : Location) (n k : ℕ) → code_words (bits_code s p n k) ≤ 7 * n + 4
+few_bits_have Left (InMemory o j) n k = let b = bits_have Left (InMemory o j) n k in omega (arith, b)
+few_bits_have (Right signed) (InMemory o j) n k = let b = bits_have (Right signed) (InMemory o j) n k in omega (arith, b)
+few_bits_have s (InRegisters r) (suc n) k = let b = bits_have s (InRegisters r) (suc n) k in omega (arith, b)
+few_bits_have s (InRegisters r) zero k =
+    let none : nat_le (k * 0) 8 ≡ true = le-leb (k * 0) 8 (omega arith) in
+    let w = turns_have s (InRegisters r) zero k in
+    rw none (omega (arith, w))
 
 moved_have : (s : Direction) (r n q : ℕ) → code_words (moved_code s r n q) ≤ 3 + n
 moved_have s r n q =
@@ -586,21 +709,32 @@ moved_have s r n q =
     one Left i = by (nat_le q (n - 1 - i)) Left (r + (n - 1 - i)) (r + (n - 1 - i - q))
     one (Right signed) i = by (nat_lt (q + i) n) (Right signed) (r + i) (r + (q + i))
 
+carried_have : (s : Direction) (r n q : ℕ) → code_words (carried_code s r n q) ≤ 2 * n + 1
+carried_have s r n q =
+    let first = against_code s r q (n - q) in
+    let bytes = chain (carried_byte s r n (suc q)) n in
+    let last = carry_code s r q (n - q) in
+    let a = against_words s r q (n - q) in
+    let b = chain_words (carried_byte s r n (suc q)) n 1 (λ i. (carried_one s r n (suc q) i).words) in
+    let c = (carry_few s r q (n - q)).words in
+    omega (arith, sum_by-append item_words first (bytes ++ last), sum_by-append item_words bytes last, a, b, c)
+
 pub counted_shifts_have_words : CountedShiftsHaveWords
-counted_shifts_have_words s (InMemory o j) n k =
-    let w = bits_have s (InMemory o j) n k in
-    let f = few_words s (InMemory o j) n in
-    omega (arith, w, f)
-counted_shifts_have_words s (InRegisters r) n k = by_bytes (moves_bytes n k)
+counted_shifts_have_words s (InMemory o j) n k = let b = few_bits_have s (InMemory o j) n k in omega (arith, b)
+counted_shifts_have_words s (InRegisters r) n k = by_carry (takes_carry n k)
   where
     by_bytes : (b : Bool)
         → code_words (if b then bytes_code s r n (k / 8) (k % 8) else bits_code s (InRegisters r) n k) ≤ 7 * n + 7
-    by_bytes false =
-        let w = bits_have s (InRegisters r) n k in
-        let f = few_words s (InRegisters r) n in
-        omega (arith, w, f)
+    by_bytes false = let b = few_bits_have s (InRegisters r) n k in omega (arith, b)
     by_bytes true =
         let first = first_moved s r (k / 8) in
         let a = moved_have s r n (k / 8) in
         let b = bits_have s (InRegisters first) (n - k / 8) (k % 8) in
-        omega (arith, sum_by-append item_words (moved_code s r n (k / 8)) (bits_code s (InRegisters first) (n - k / 8) (k % 8)), a, b)
+        let c = few_bits_have s (InRegisters first) (n - k / 8) (k % 8) in
+        omega (arith, sum_by-append item_words (moved_code s r n (k / 8)) (bits_code s (InRegisters first) (n - k / 8) (k % 8)), a, b, c)
+
+    by_carry : (b : Bool) → code_words (if b then carried_code s r n (k / 8)
+        else if moves_bytes n k then bytes_code s r n (k / 8) (k % 8)
+        else bits_code s (InRegisters r) n k) ≤ 7 * n + 7
+    by_carry true = let a = carried_have s r n (k / 8) in omega (arith, a)
+    by_carry false = by_bytes (moves_bytes n k)

@@ -6,3 +6,4 @@ pub mod Counted
 -- For this crate alone.
 mod Halves
 mod Moved
+mod Carried

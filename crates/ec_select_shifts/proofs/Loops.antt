@@ -1,10 +1,8 @@
 -- The loop of a shift.
-use Rattle.std.proofs.Common.{◌≡◌, ◌≢◌, ℕ, zero, suc, ◌+◌, ◌-◌, ◌*◌, ◌/◌, ◌%◌, ◌^◌, ◌<◌, ◌≤◌, Bool, true, false, pos, negsuc, ◌==◌, refl}
+use Rattle.std.proofs.Common.{◌≡◌, ◌≢◌, ℕ, zero, suc, ◌+◌, ◌-◌, ◌*◌, ◌/◌, ◌%◌, ◌^◌, ◌<◌, ◌≤◌, true, negsuc, refl}
 use Rattle.std.proofs.Common.{sym, ap, ◌∙◌, subst, arith, Some, ⊎_elim}
-use Rattle.std.specs.Prelude.{if◌then◌else◌}
 use Rattle.std.proofs.lemmas.Bool.{cases_eq}
-use Rattle.ec_isa.specs.declared.instructions.Instr.TheVariants.{Rjmp, Dec, Brbc}
-use Rattle.ec_avr.specs.Effects.{relative}
+use Rattle.ec_isa.specs.declared.instructions.Instr.TheVariants.{Dec, Brbc}
 use Rattle.ec_asm.specs.declared.pieces.Location.{Location}
 use Rattle.ec_asm.specs.declared.pieces.Operator.TheVariants.{Sum}
 use Rattle.ec_asm.specs.View.{View}
@@ -23,7 +21,7 @@ use Rattle.ec_asm.proofs.Results.{pieces_are_straight, pieces_take}
 use Rattle.ec_asm.proofs.Sum.{value-same}
 use Rattle.ec_select_shifts.specs.declared.shifts.Direction.{Direction}
 use Rattle.ec_select_shifts.specs.declared.shifts.Direction.TheVariants.{Left, Right}
-use Rattle.ec_select_shifts.specs.Shifts.{shifted_by, turn_code, turn_words, jump_code, end_code}
+use Rattle.ec_select_shifts.specs.Shifts.{shifted_by, turn_code, turn_words, end_code}
 use Rattle.ec_select_shifts.specs.Laws.{Leads, ShiftsAreRight}
 use Rattle.ec_select_shifts.proofs.Once.{once, none, first_turn, turned}
 use Rattle.ec_select_shifts.proofs.Words.{turn_has_words}

@@ -1,19 +1,17 @@
 -- Bytes of a number that move by whole bytes.
-use Rattle.std.proofs.Common.{◌≡◌, ◌≢◌, ℕ, zero, suc, ◌+◌, ◌-◌, ◌*◌, ◌/◌, ◌<◌, ◌≤◌, ⊎_elim, Bool, true, false, refl, ap, ◌∙◌, subst, arith}
+use Rattle.std.proofs.Common.{◌≡◌, ◌≢◌, ℕ, suc, ◌+◌, ◌-◌, ◌*◌, ◌/◌, ◌<◌, ◌≤◌, ⊎_elim, Bool, true, false, refl, ap, ◌∙◌, subst, arith}
 use Rattle.std.proofs.Common.{[], ◌∷◌, bit_xor, leb-true}
 use Rattle.std.specs.Prelude.{nat_le, nat_lt, if◌then◌else◌}
 use Rattle.std.specs.Int.Bits.{xor_self}
 use Rattle.std.proofs.lemmas.Bool.{cases_eq, cases_lt}
 use Rattle.std.proofs.lemmas.Bool.Decides.{nat_tests}
-use Rattle.ec_isa.specs.declared.instructions.Instr.TheVariants.{Mov, Eor, Add, Sbc}
+use Rattle.ec_isa.specs.declared.instructions.Instr.TheVariants.{Mov, Eor, Add}
 use Rattle.ec_avr.specs.Flags.{byte_sum, byte_difference}
-use Rattle.ec_asm.specs.declared.items.AsmItem.{AsmItem}
 use Rattle.ec_asm.specs.declared.items.AsmItem.TheVariants.{Plain}
 use Rattle.ec_asm.specs.View.{View}
 use Rattle.ec_asm.specs.Change.{Env, set, change}
 use Rattle.ec_asm.specs.Items.{block, chain}
 use Rattle.ec_asm.specs.Pieces.{Outside}
-use Rattle.ec_asm.specs.PieceLaws.{HoldsNumbers}
 use Rattle.ec_asm.proofs.Bytes.{put_here, put_other}
 use Rattle.ec_asm.proofs.Hoare.{block-append, chain_holds}
 use Rattle.ec_select_shifts.specs.declared.shifts.Direction.{Direction}
@@ -22,14 +20,14 @@ use Rattle.ec_select_shifts.specs.Shifts.{sign_code, filled_byte, raised_byte, l
 
 -- ---- one register
 
-record Puts (v w : View) (d x : ℕ) : Type 0 where
-  here : w.at d ≡ x
-  same : (k : ℕ) → k ≢ d → w.at k ≡ v.at k
-  inputs : w.inputs ≡ v.inputs
-  safe : w.safe ≡ v.safe
-  seen : w.seen ≡ v.seen
+pub record Puts (v w : View) (d x : ℕ) : Type 0 where
+  pub here : w.at d ≡ x
+  pub same : (k : ℕ) → k ≢ d → w.at k ≡ v.at k
+  pub inputs : w.inputs ≡ v.inputs
+  pub safe : w.safe ≡ v.safe
+  pub seen : w.seen ≡ v.seen
 
-moves : (e : Env) (d r : ℕ) (v : View) → Puts v (block e (Plain (Mov d r) ∷ []) v) d (v.at r)
+pub moves : (e : Env) (d r : ℕ) (v : View) → Puts v (block e (Plain (Mov d r) ∷ []) v) d (v.at r)
 moves e d r v = record {
   here = put_here v.at d (v.at r) d refl;
   same = λ k q. put_other v.at d (v.at r) k q;
@@ -99,16 +97,16 @@ signs (Right true) e r n v l =
 -- ---- byte by byte
 
 -- i bytes of the number in registers from r on, from its byte f on, have become these
-record MovesTo (v0 : View) (r f i : ℕ) (byte : ℕ → ℕ) (v : View) : Type 0 where
-  there : (j : ℕ) → f ≤ j → j < f + i → v.at (r + j) ≡ byte j
-  work : v.at 0 ≡ v0.at 0
-  rest : (k : ℕ) → k ≢ 0 → Outside (r + f) i k → v.at k ≡ v0.at k
-  inputs : v.inputs ≡ v0.inputs
-  safe : v.safe ≡ v0.safe
-  seen : v.seen ≡ v0.seen
+pub record MovesTo (v0 : View) (r f i : ℕ) (byte : ℕ → ℕ) (v : View) : Type 0 where
+  pub there : (j : ℕ) → f ≤ j → j < f + i → v.at (r + j) ≡ byte j
+  pub work : v.at 0 ≡ v0.at 0
+  pub rest : (k : ℕ) → k ≢ 0 → Outside (r + f) i k → v.at k ≡ v0.at k
+  pub inputs : v.inputs ≡ v0.inputs
+  pub safe : v.safe ≡ v0.safe
+  pub seen : v.seen ≡ v0.seen
 
 -- the next byte, above them or below them
-next : (v0 v w : View) (r f g i : ℕ) (byte : ℕ → ℕ) (j : ℕ) → 2 ≤ r → f ≤ g → g + i ≤ f + 1 + i
+pub next : (v0 v w : View) (r f g i : ℕ) (byte : ℕ → ℕ) (j : ℕ) → 2 ≤ r → f ≤ g → g + i ≤ f + 1 + i
     → ((k : ℕ) → f ≤ k → k < f + suc i → k ≢ j → (g ≤ k) × (k < g + i)) → f ≤ j → j < f + suc i
     → MovesTo v0 r g i byte v → Puts v w (r + j) (byte j) → MovesTo v0 r f (suc i) byte w
 next v0 v w r f g i byte j two below above others from to h p = record {
@@ -194,7 +192,7 @@ pub record Moves (s : Direction) (r m q : ℕ) (v w : View) : Type 0 where
   pub safe : w.safe ≡ v.safe
   pub seen : w.seen ≡ v.seen
 
-start : (v : View) (r f : ℕ) (byte : ℕ → ℕ) → MovesTo v r f 0 byte v
+pub start : (v : View) (r f : ℕ) (byte : ℕ → ℕ) → MovesTo v r f 0 byte v
 start v r f byte = record {
   there = λ j x y. absurd (omega arith);
   work = refl;

@@ -1,13 +1,12 @@
 -- One turn of a shift, and many.
-use Rattle.std.proofs.Common.{◌≡◌, ◌≢◌, ℕ, zero, suc, ◌+◌, ◌-◌, ◌*◌, ◌/◌, ◌%◌, ◌^◌, ◌<◌, ◌≤◌, ⊎_elim, Bool, true, false, refl, sym, ap, ◌∙◌}
-use Rattle.std.proofs.Common.{subst, arith, leb-true, leb-false}
+use Rattle.std.proofs.Common.{◌≡◌, ℕ, zero, suc, ◌+◌, ◌-◌, ◌*◌, ◌/◌, ◌%◌, ◌^◌, ◌<◌, ◌≤◌, ⊎_elim, Bool, true, false, sym, ap, ◌∙◌}
+use Rattle.std.proofs.Common.{arith, leb-true, leb-false}
 use Rattle.std.specs.Prelude.{nat_le, if◌then◌else◌}
 use Rattle.std.proofs.lemmas.Bool.{cases_Bool, cases_lt, le-leb}
 use Rattle.std.proofs.lemmas.Bool.Decides.{nat_tests}
-use Rattle.std.proofs.lemmas.Nat.{mod_below, div-add-mod', mod-mul-add, mul-le, shr-shr}
+use Rattle.std.proofs.lemmas.Nat.{div-add-mod', mod-mul-add, mul-le, shr-shr}
 use native.Mathlib.Nat.{pow-suc}
 use Rattle.ec_asm.specs.declared.pieces.Location.{Location}
-use Rattle.ec_asm.specs.declared.pieces.Operator.TheVariants.{Sum}
 use Rattle.ec_asm.specs.View.{View}
 use Rattle.ec_asm.specs.Change.{Env, Own}
 use Rattle.ec_asm.specs.Items.{block}

@@ -1,7 +1,7 @@
 -- A number of several bytes shifted by the count in R30: the code, and what it makes of the number.
-use Rattle.std.specs.Prelude.{ℕ, ◌+◌, ◌-◌, ◌*◌, ◌/◌, ◌%◌, ◌^◌, nat_le, nat_lt, Bool, true, false, ◌&&◌, if◌then◌else◌, pos, negsuc}
-use Rattle.std.specs.Prelude.{List, [], ◌∷◌, ◌++◌}
-use Rattle.ec_isa.specs.declared.instructions.Instr.TheVariants.{Rjmp, Dec, Brbc, Ldi, Mov, Eor, Add, Sbc}
+use Rattle.std.specs.Prelude.{ℕ, suc, ◌+◌, ◌-◌, ◌*◌, ◌/◌, ◌%◌, ◌^◌, ◌==◌, nat_le, nat_lt, Bool, true, false, ◌&&◌, if◌then◌else◌}
+use Rattle.std.specs.Prelude.{pos, negsuc, List, [], ◌∷◌, ◌++◌}
+use Rattle.ec_isa.specs.declared.instructions.Instr.TheVariants.{Rjmp, Dec, Brbc, Ldi, Mov, Eor, Add, Adc, Sbc, Ror}
 use Rattle.ec_asm.specs.declared.items.AsmItem.{AsmItem}
 use Rattle.ec_asm.specs.declared.items.AsmItem.TheVariants.{Plain}
 use Rattle.ec_asm.specs.declared.pieces.Location.{Location}
@@ -51,10 +51,15 @@ shift_code s p n = jump_code s p n ++ (turn_code s p n ++ end_code s p n)
 abbrev pub turns_code : Direction → Location → (n k : ℕ) → List AsmItem
 turns_code s p n k = chain (λ i. turn_code s p n) k
 
--- these where they have no more words than the loop, and else the loop with the count in R30
+-- how many words they may have: as many as the loop, and in registers, where a turn is short, twice as many
+abbrev pub most_turn_words : Direction → Location → ℕ → ℕ
+most_turn_words s (InRegisters r) n = 2 * (turn_words s (InRegisters r) n + 4)
+most_turn_words s (InMemory o k) n = turn_words s (InMemory o k) n + 4
+
+-- these where they have no more words than that, and else the loop with the count in R30
 abbrev pub bits_code : Direction → Location → (n k : ℕ) → List AsmItem
 bits_code s p n k =
-    if nat_le (k * turn_words s p n) (turn_words s p n + 4) then turns_code s p n k else Plain (Ldi 30 k) ∷ shift_code s p n
+    if nat_le (k * turn_words s p n) (most_turn_words s p n) then turns_code s p n k else Plain (Ldi 30 k) ∷ shift_code s p n
 
 -- ---- by whole bytes, in registers from r on
 
@@ -93,13 +98,44 @@ first_moved (Right signed) r q = r
 abbrev pub bytes_code : Direction → (r n q k : ℕ) → List AsmItem
 bytes_code s r n q k = moved_code s r n q ++ bits_code s (InRegisters (first_moved s r q)) (n - q) k
 
+-- ---- by whole bytes and seven bits, in registers from r on
+
+-- the bytes that move go one bit the other way, and the bit that leaves them is the carry
+abbrev pub against_code : Direction → (r q m : ℕ) → List AsmItem
+against_code Left r q m = turn_code (Right false) (InRegisters r) m
+against_code (Right signed) r q m = turn_code Left (InRegisters (r + q)) m
+
+-- byte i of n comes q bytes further, and the carry stays: a byte into which none moves has it in all its bits where the sign
+-- comes in, and is else 0
+abbrev pub carried_byte : Direction → (r n q i : ℕ) → List AsmItem
+carried_byte Left r n q i = moved_byte Left r n q i
+carried_byte (Right false) r n q i = moved_byte (Right false) r n q i
+carried_byte (Right true) r n q i =
+    if nat_lt (q + i) n then Plain (Mov (r + i) (r + (q + i))) ∷ [] else Plain (Sbc (r + i) (r + i)) ∷ []
+
+-- the carry comes into the byte beside those that have moved
+abbrev pub carry_code : Direction → (r q m : ℕ) → List AsmItem
+carry_code Left r q m = Plain (Ror (r + q)) ∷ []
+carry_code (Right false) r q m = Plain (Adc (r + (m - 1)) (r + (m - 1))) ∷ []
+carry_code (Right true) r q m = []
+
+-- by q bytes and seven bits: one bit the other way, and one byte more
+abbrev pub carried_code : Direction → (r n q : ℕ) → List AsmItem
+carried_code s r n q = against_code s r q (n - q) ++ (chain (carried_byte s r n (suc q)) n ++ carry_code s r q (n - q))
+
 -- ---- the whole code
 
 -- whether a shift moves some whole bytes of n, and not all of them
 abbrev pub moves_bytes : (n k : ℕ) → Bool
 moves_bytes n k = nat_le 8 k && nat_lt (k / 8) n
 
+-- whether it leaves some bytes of n, and moves them by seven bits
+abbrev pub takes_carry : (n k : ℕ) → Bool
+takes_carry n k = nat_lt (k / 8) n && k % 8 == 7
+
 abbrev pub counted_code : Direction → Location → (n k : ℕ) → List AsmItem
 counted_code s (InRegisters r) n k =
-    if moves_bytes n k then bytes_code s r n (k / 8) (k % 8) else bits_code s (InRegisters r) n k
+    if takes_carry n k then carried_code s r n (k / 8)
+    else if moves_bytes n k then bytes_code s r n (k / 8) (k % 8)
+    else bits_code s (InRegisters r) n k
 counted_code s (InMemory o j) n k = bits_code s (InMemory o j) n k

@@ -1,10 +1,12 @@
 //! Shifts by a count that is known when the code runs.
-ghost use Rattle.std.specs.Prelude.{◌≡◌, ◌+◌, ◌++◌, ◌<◌, ◌≤◌, ◌^◌, pos, negsuc, OnOk, OnErr};
+ghost use Rattle.std.specs.Prelude.{◌≡◌, ◌+◌, ◌-◌, ◌++◌, ◌<◌, ◌≤◌, ◌^◌, pos, negsuc, OnOk, OnErr};
 ghost use Rattle.ec_runs.specs.Behaviours.{BeginWith};
+ghost use Rattle.ec_asm.specs.Items.{chain};
 ghost use Rattle.ec_asm.specs.Pieces.{HasBytes};
 ghost use Rattle.ec_select_shifts.specs.Shifts.{turn_code, turn_words, jump_code, end_code, shift_code};
-ghost use Rattle.ec_select_shifts.specs.Shifts.{turns_code, bits_code, filled_byte, raised_byte, lowered_byte};
+ghost use Rattle.ec_select_shifts.specs.Shifts.{turns_code, most_turn_words, bits_code, filled_byte, raised_byte, lowered_byte};
 ghost use Rattle.ec_select_shifts.specs.Shifts.{sign_code, moved_byte, moved_code, moves_bytes, counted_code};
+ghost use Rattle.ec_select_shifts.specs.Shifts.{against_code, carried_byte, carry_code, carried_code, takes_carry, bytes_code};
 
 use ec_asm::{AsmItem, Location, Operator, halve, operate};
 use ec_isa::Instr;
@@ -100,8 +102,19 @@ fn turns(
     Ok(())
 }
 
-/// Appends code that shifts a number of so many bytes by so many bits: turns one after another where these have no more
-/// words than the loop, and else the loop. Where memory runs out, a part of the code is appended.
+/// How many words turns one after another may have: as many as the loop, and in registers twice as many.
+fn most_turn_words(by: Direction, at: Location, bytes: u8) -> u32
+    ensures { result ≡ most_turn_words by at bytes }
+{
+    let words = u32::from(turn_words(by, at, bytes)) + 4;
+    match at {
+        Location::InRegisters(_) => 2 * words,
+        Location::InMemory { .. } => words,
+    }
+}
+
+/// Appends code that shifts a number of so many bytes by so many bits: turns one after another where these have few
+/// words, and else the loop. Where memory runs out, a part of the code is appended.
 fn bits(
     out: &mut Seq<AsmItem>,
     by: Direction,
@@ -114,7 +127,7 @@ fn bits(
     ensures err { OnErr result (BeginWith out.old.items out.new.items) }
 {
     let words = u32::from(turn_words(by, at, bytes));
-    if u32::from(count) * words <= words + 4 {
+    if u32::from(count) * words <= most_turn_words(by, at, bytes) {
         return turns(out, by, at, bytes, count);
     }
     out.extend_from_slice(&[AsmItem::Plain(Instr::Ldi { d: 30, k: count })])?;
@@ -158,7 +171,7 @@ fn lower(
 ) -> Result<(), NoMemory>
     requires row { r + bytes ≤ 32 }
     requires index { j < bytes }
-    requires some { skipped < bytes }
+    requires some { skipped ≤ bytes }
     ensures ok { OnOk result (out.new.items ≡ out.old.items ++ lowered_byte signed r bytes skipped j) }
     ensures err { OnErr result (BeginWith out.old.items out.new.items) }
 {
@@ -200,7 +213,7 @@ fn move_byte(
 ) -> Result<(), NoMemory>
     requires row { r + bytes ≤ 32 }
     requires index { i < bytes }
-    requires some { skipped < bytes }
+    requires some { skipped ≤ bytes }
     ensures ok { OnOk result (out.new.items ≡ out.old.items ++ moved_byte by r bytes skipped i) }
     ensures err { OnErr result (BeginWith out.old.items out.new.items) }
 {
@@ -230,6 +243,151 @@ fn move_bytes(
     Ok(())
 }
 
+/// Appends code that shifts the bytes that move by one bit the other way. The bit that leaves them is the carry.
+fn turn_back(
+    out: &mut Seq<AsmItem>,
+    by: Direction,
+    r: u8,
+    skipped: u8,
+    moved: u8,
+) -> Result<(), NoMemory>
+    requires { r + skipped + moved ≤ 32 }
+    ensures ok { OnOk result (out.new.items ≡ out.old.items ++ against_code by r skipped moved) }
+    ensures err { OnErr result (BeginWith out.old.items out.new.items) }
+{
+    match by {
+        Direction::Left => turn(
+            out,
+            Direction::Right { signed: false },
+            Location::InRegisters(r),
+            moved,
+        ),
+        Direction::Right { .. } => {
+            turn(
+                out,
+                Direction::Left,
+                Location::InRegisters(r + skipped),
+                moved,
+            )
+        }
+    }
+}
+
+/// Appends code that moves one byte of so many by so many, and keeps the carry. A byte into which none moves has the carry in
+/// all its bits where the sign comes in, and is else 0.
+fn carry_byte(
+    out: &mut Seq<AsmItem>,
+    by: Direction,
+    r: u8,
+    bytes: u8,
+    skipped: u8,
+    i: u8,
+) -> Result<(), NoMemory>
+    requires row { r + bytes ≤ 32 }
+    requires index { i < bytes }
+    requires some { skipped ≤ bytes }
+    ensures ok { OnOk result (out.new.items ≡ out.old.items ++ carried_byte by r bytes skipped i) }
+    ensures err { OnErr result (BeginWith out.old.items out.new.items) }
+{
+    match by {
+        Direction::Right { signed: true } if skipped + i >= bytes => {
+            out.extend_from_slice(&[AsmItem::Plain(Instr::Sbc { d: r + i, r: r + i })])
+        }
+        _ => move_byte(out, by, r, bytes, skipped, i),
+    }
+}
+
+/// Appends code that takes the carry into the byte beside those that have moved.
+fn carry(
+    out: &mut Seq<AsmItem>,
+    by: Direction,
+    r: u8,
+    skipped: u8,
+    moved: u8,
+) -> Result<(), NoMemory>
+    requires row { r + skipped + moved ≤ 32 }
+    requires some { 1 ≤ moved }
+    ensures ok { OnOk result (out.new.items ≡ out.old.items ++ carry_code by r skipped moved) }
+    ensures err { OnErr result (BeginWith out.old.items out.new.items) }
+{
+    let top = r + (moved - 1);
+    match by {
+        Direction::Left => {
+            out.extend_from_slice(&[AsmItem::Plain(Instr::Ror { d: r + skipped })])
+        }
+        Direction::Right { signed: false } => {
+            out.extend_from_slice(&[AsmItem::Plain(Instr::Adc { d: top, r: top })])
+        }
+        Direction::Right { signed: true } => Ok(()),
+    }
+}
+
+/// Appends code that moves the bytes of a number by so many, and keeps the carry.
+fn carry_bytes(
+    out: &mut Seq<AsmItem>,
+    by: Direction,
+    r: u8,
+    bytes: u8,
+    skipped: u8,
+) -> Result<(), NoMemory>
+    requires row { r + bytes ≤ 32 }
+    requires some { skipped ≤ bytes }
+    ensures ok { OnOk result (out.new.items ≡ out.old.items ++ chain (carried_byte by r bytes skipped) bytes) }
+    ensures err { OnErr result (BeginWith out.old.items out.new.items) }
+{
+    for i in 0..bytes {
+        carry_byte(out, by, r, bytes, skipped, i)?;
+    }
+    Ok(())
+}
+
+/// Appends code that shifts a number by so many whole bytes and seven bits: one bit the other way, and a byte more.
+fn carried(
+    out: &mut Seq<AsmItem>,
+    by: Direction,
+    r: u8,
+    bytes: u8,
+    skipped: u8,
+) -> Result<(), NoMemory>
+    requires row { r + bytes ≤ 32 }
+    requires some { skipped < bytes }
+    ensures ok { OnOk result (out.new.items ≡ out.old.items ++ carried_code by r bytes skipped) }
+    ensures err { OnErr result (BeginWith out.old.items out.new.items) }
+{
+    let moved = bytes - skipped;
+    turn_back(out, by, r, skipped, moved)?;
+    carry_bytes(out, by, r, bytes, skipped + 1)?;
+    carry(out, by, r, skipped, moved)
+}
+
+/// Appends code that shifts a number by so many whole bytes, and those that have moved by so many bits.
+fn bytes_and_bits(
+    out: &mut Seq<AsmItem>,
+    by: Direction,
+    r: u8,
+    bytes: u8,
+    skipped: u8,
+    count: u8,
+) -> Result<(), NoMemory>
+    requires row { r + bytes ≤ 32 }
+    requires some { skipped < bytes }
+    ensures ok { OnOk result (out.new.items ≡ out.old.items ++ bytes_code by r bytes skipped count) }
+    ensures err { OnErr result (BeginWith out.old.items out.new.items) }
+{
+    move_bytes(out, by, r, bytes, skipped)?;
+    let first = match by {
+        Direction::Left => r + skipped,
+        Direction::Right { .. } => r,
+    };
+    bits(
+        out,
+        by,
+        Location::InRegisters(first),
+        bytes - skipped,
+        count,
+    )
+}
+
 /// Whether a shift moves some whole bytes of a number, and not all of them.
 fn moves_bytes(bytes: u8, count: u8) -> bool
     ensures { result ≡ moves_bytes bytes count }
@@ -237,8 +395,15 @@ fn moves_bytes(bytes: u8, count: u8) -> bool
     8 <= count && count / 8 < bytes
 }
 
-/// Appends code that shifts a number of so many bytes by a known count. In registers whole bytes are moved first. Where
-/// memory runs out, a part of the code is appended.
+/// Whether a shift leaves some bytes of a number, and moves them by seven bits.
+fn takes_carry(bytes: u8, count: u8) -> bool
+    ensures { result ≡ takes_carry bytes count }
+{
+    count / 8 < bytes && count % 8 == 7
+}
+
+/// Appends code that shifts a number of so many bytes by a known count. In registers whole bytes are moved first, or one more
+/// where seven bits are left. Where memory runs out, a part of the code is appended.
 pub fn shift_by(
     out: &mut Seq<AsmItem>,
     by: Direction,
@@ -251,20 +416,11 @@ pub fn shift_by(
     ensures err { OnErr result (BeginWith out.old.items out.new.items) }
 {
     match at {
+        Location::InRegisters(r) if takes_carry(bytes, count) => {
+            carried(out, by, r, bytes, count / 8)
+        }
         Location::InRegisters(r) if moves_bytes(bytes, count) => {
-            let skipped = count / 8;
-            move_bytes(out, by, r, bytes, skipped)?;
-            let first = match by {
-                Direction::Left => r + skipped,
-                Direction::Right { .. } => r,
-            };
-            bits(
-                out,
-                by,
-                Location::InRegisters(first),
-                bytes - skipped,
-                count % 8,
-            )
+            bytes_and_bits(out, by, r, bytes, count / 8, count % 8)
         }
         _ => bits(out, by, at, bytes, count),
     }

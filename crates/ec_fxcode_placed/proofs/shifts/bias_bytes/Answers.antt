@@ -1,4 +1,4 @@
-use Rattle.std.proofs.Common.{◌≡◌, ◌+◌, ◌++◌, suc, sym, ap, ◌∙◌, arith, append_assoc}
+use Rattle.std.proofs.Common.{◌≡◌, ◌+◌, ◌++◌, suc, ap, ◌∙◌, arith, append_assoc}
 use Rattle.ec_asm.specs.Items.{chain}
 use Rattle.ec_fxcode_placed.specs.Counts.{biased_byte}
 use Rattle.ec_fxcode_placed.proofs.shifts.bias_bytes.Goals as goal
