@@ -20,7 +20,7 @@ use Rattle.ec_ir.specs.declared.operations.Temp.{Temp}
 use Rattle.ec_ir.specs.Temporaries.{Content, bits, points, Held, Temps, low_bytes, number_of_bytes, content_of, value_of_type}
 use Rattle.ec_ir_known.specs.declared.known.KnownNumber.{KnownNumber}
 use Rattle.ec_ir_known.specs.Known.{Known, of_bytes, is_integer_size, brought, converted, operand_number, known_as, is_any}
-use Rattle.ec_ir_known.specs.Known.{is_byte_of, byte_in, byte_left, keeps_bytes}
+use Rattle.ec_ir_known.specs.Known.{is_byte_of, byte_in, byte_left, byte_where, is_wide, keeps_bytes}
 use Rattle.ec_ir_known.specs.Laws.{are_bits}
 use Rattle.ec_ir_known.proofs.Places.{known_number, holding, IsSo, Knows, number_so, byte_so, byte_left_so}
 
@@ -36,14 +36,14 @@ wrapped_is s b n =
     let low = λ (p : ℕ). unsigned_abs (int_rem_euclid n (pos p)) in
     ap (λ (p : ℕ). if s && nat_le p (2 * low p) then pos (low p) -ℤ pos p else pos (low p)) (sym (powers b))
 
-abbrev of_type : Bool → ℕ → IntegerType
+abbrev pub of_type : Bool → ℕ → IntegerType
 of_type s b = record { signed = s; bytes = b }
 
 abbrev fact : ℕ → Option ℤ → KnownNumber
 fact bytes number = record { bytes = bytes; number = number }
 
 -- a number of two or four bytes that is below 256 is itself
-wrapped_byte : (r : Bool) (m low : ℕ) → (m ≡ 2) ⊎ (m ≡ 4) → low < 256 → wrapped (of_type r m) (pos low) ≡ pos low
+pub wrapped_byte : (r : Bool) (m low : ℕ) → (m ≡ 2) ⊎ (m ≡ 4) → low < 256 → wrapped (of_type r m) (pos low) ≡ pos low
 wrapped_byte r m low (inl q) l = rw q (two r)
   where
     rest : low % 65536 ≡ low
@@ -67,8 +67,32 @@ wrapped_byte r m low (inr q) l = rw q (four r)
     four true = rw (rest, small) refl
     four false = rw rest refl
 
-low_of_byte : (b low : ℕ) → low < 256 → low_bytes b (pos low) < 256
+pub low_of_byte : (b low : ℕ) → low < 256 → low_bytes b (pos low) < 256
 low_of_byte b low l = let m : low % 256 ^ b ≤ low = omega arith in omega (arith, m, l)
+
+-- so are the bytes of one, of a type of more bytes than one, or of one byte without a sign
+pub wide_bytes : (s : Bool) (b low : ℕ) → (b ≡ 2) ⊎ (b ≡ 4) → low < 256 → number_of_bytes s b low ≡ pos low
+wide_bytes s b low (inl q) l = rw q (two s)
+  where
+    small : nat_le 65536 (2 * low) ≡ false
+    small = grind (arith, nat_tests, l)
+
+    two : (s : Bool) → number_of_bytes s 2 low ≡ pos low
+    two true = rw small refl
+    two false = refl
+wide_bytes s b low (inr q) l = rw q (four s)
+  where
+    small : nat_le 4294967296 (2 * low) ≡ false
+    small = grind (arith, nat_tests, l)
+
+    four : (s : Bool) → number_of_bytes s 4 low ≡ pos low
+    four true = rw small refl
+    four false = refl
+
+pub are_wide : (b : ℕ) → is_wide b ≡ true → (b ≡ 2) ⊎ (b ≡ 4)
+are_wide b t =
+    ⊎_elim (λ (x : (b == 2) ≡ true). inl (eqb-true b 2 x)) (λ (x : (b == 4) ≡ true). inr (eqb-true b 4 x))
+    (or_cases (b == 2) (b == 4) t)
 
 -- what stands where a number is known
 content_there : (bytes : ℕ) (n : ℤ) (h : Held) → IsSo (known_number bytes n) (Some h) → h.content ≡ bits (low_bytes bytes n)
@@ -115,40 +139,38 @@ is_operand a s b known n q = by_size (a.bytes == b) refl q
     by_size false l q = let no : None ≡ Some n = q in absurd cc
 
 -- or a number below 256
-is_byte_operand : (a : Temp) (known : Known) → is_byte_of 1 (known a.at) ≡ true → known a.at ≡ Some (fact 1 None)
+is_byte_operand : (a : Temp) (known : Known) → is_byte_of a.bytes (known a.at) ≡ true → known a.at ≡ Some (fact a.bytes None)
 is_byte_operand a known q = by_known (known a.at) refl q
   where
-    by_known : (o : Option KnownNumber) → known a.at ≡ o → is_byte_of 1 o ≡ true → known a.at ≡ Some (fact 1 None)
+    by_known : (o : Option KnownNumber) → known a.at ≡ o → is_byte_of a.bytes o ≡ true → known a.at ≡ Some (fact a.bytes None)
     by_known None i q = absurd cc
     by_known (Some j) i q = by_number j.number refl
       where
-        p : ((j.bytes == 1) ≡ true) × (is_any j.number ≡ true)
-        p = and_parts (j.bytes == 1) (is_any j.number) q
+        p : ((j.bytes == a.bytes) ≡ true) × (is_any j.number ≡ true)
+        p = and_parts (j.bytes == a.bytes) (is_any j.number) q
 
-        by_number : (o : Option ℤ) → j.number ≡ o → known a.at ≡ Some (fact 1 None)
+        by_number : (o : Option ℤ) → j.number ≡ o → known a.at ≡ Some (fact a.bytes None)
         by_number None e =
-            i ∙ ap Some (ap (λ (x : ℕ). fact x j.number) (eqb-true j.bytes 1 p.0) ∙ ap (λ (x : Option ℤ). fact 1 x) e)
+            i ∙ ap Some (ap (λ (x : ℕ). fact x j.number) (eqb-true j.bytes a.bytes p.0) ∙ ap (λ (x : Option ℤ). fact a.bytes x) e)
         by_number (Some n) e = let no : is_any (Some n) ≡ true = subst (λ (x : Option ℤ). is_any x ≡ true) e p.1 in absurd cc
 
-record AreKept (r : Bool) (m : ℕ) (s : Bool) (b : ℕ) : Type 0 where
+-- bytes below 256 are the same in both types
+record AreKept (m : ℕ) (s : Bool) (b : ℕ) : Type 0 where
   more : (m ≡ 2) ⊎ (m ≡ 4)
-  unsigned : s ≡ false
-  one : b ≡ 1
+  same : (low : ℕ) → low < 256 → number_of_bytes s b low ≡ pos low
 
-are_kept : (r : Bool) (m : ℕ) (s : Bool) (b : ℕ) → keeps_bytes (of_type r m) (of_type s b) ≡ true → AreKept r m s b
+are_kept : (r : Bool) (m : ℕ) (s : Bool) (b : ℕ) → keeps_bytes (of_type r m) (of_type s b) ≡ true → AreKept m s b
 are_kept r m s b q =
-    let p = and_parts (m == 2 || m == 4) (not s && b == 1) q in
-    let u = and_parts (not s) (b == 1) p.1 in
-    record { more = sizes p.0; unsigned = none s u.0; one = eqb-true b 1 u.1 }
+    let p = and_parts (is_wide m) (is_wide b || (not s && b == 1)) q in
+    record { more = are_wide m p.0; same = λ low l. by_type low l (or_cases (is_wide b) (not s && b == 1) p.1) }
   where
-    sizes : (m == 2 || m == 4) ≡ true → (m ≡ 2) ⊎ (m ≡ 4)
-    sizes t =
-        ⊎_elim (λ (x : (m == 2) ≡ true). inl (eqb-true m 2 x)) (λ (x : (m == 4) ≡ true). inr (eqb-true m 4 x))
-        (or_cases (m == 2) (m == 4) t)
+    unsigned : (x : Bool) → not x ≡ true → (low : ℕ) → number_of_bytes x b low ≡ pos low
+    unsigned true t low = absurd cc
+    unsigned false t low = refl
 
-    none : (x : Bool) → not x ≡ true → x ≡ false
-    none true t = absurd cc
-    none false t = refl
+    by_type : (low : ℕ) → low < 256 → (is_wide b ≡ true) ⊎ ((not s && b == 1) ≡ true) → number_of_bytes s b low ≡ pos low
+    by_type low l (inl w) = wide_bytes s b low (are_wide b w) l
+    by_type low l (inr w) = unsigned s (and_parts (not s) (b == 1) w).0 low
 
 -- what a conversion leaves
 module _ (program : PlainProgram) (to a : Temp) (mode : Mode) (known : Known) (temps : Temps) (h : Held) (x v : Value) (s1 : State)
@@ -183,39 +205,40 @@ module _ (program : PlainProgram) (to a : Temp) (mode : Mode) (known : Known) (t
       (subst (λ (y : Value). IsSo (known_number to.bytes w1) (Some (holding to.bytes (content_of to.bytes y)))) value
       (number_so to.bytes w1))
 
-  kept_left : (r : Bool) (m : ℕ) → (m ≡ 2) ⊎ (m ≡ 4) → value_of_type program (integer false 1) h.content ≡ Ok x
-      → conversion_result (integer r m) mode (operand_of program (integer false 1) x s1) ≡ Ok v
-      → known a.at ≡ Some (fact 1 None) → byte_in to ≡ Some k → Left
-  kept_left r m more e f q g = by_content h.content refl
+  kept_left : (r : Bool) (m : ℕ) (s : Bool) (b : ℕ) → AreKept m s b → value_of_type program (integer s b) h.content ≡ Ok x
+      → conversion_result (integer r m) mode (operand_of program (integer s b) x s1) ≡ Ok v
+      → known a.at ≡ Some (fact a.bytes None) → byte_in to ≡ Some k → Left
+  kept_left r m s b kept e f q g = by_content h.content refl
     where
       by_content : (c : Content) → h.content ≡ c → Left
       by_content (bits low) c =
-          let below = byte_there 1 low h (so_there (fact 1 None) q) c in
-          let seen : value_of_type program (integer false 1) h.content ≡ Ok (Number (pos low)) =
-          ap (value_of_type program (integer false 1)) c in
+          let below = byte_there a.bytes low h (so_there (fact a.bytes None) q) c in
+          let seen : value_of_type program (integer s b) h.content ≡ Ok (Number (pos low)) =
+          ap (value_of_type program (integer s b)) c ∙ ap (λ (n : ℤ). Ok (Number n)) (kept.same low below) in
           let both : Ok (Number (pos low)) ≡ Ok x = sym seen ∙ e in
           let is : Number (pos low) ≡ x = cc in
-          let done : conversion_result (integer r m) mode (operand_of program (integer false 1) x s1)
+          let done : conversion_result (integer r m) mode (operand_of program (integer s b) x s1)
           ≡ Ok (Number (wrapped (of_type r m) (pos low))) =
-          ap (λ (y : Value). conversion_result (integer r m) mode (operand_of program (integer false 1) y s1)) (sym is) in
+          ap (λ (y : Value). conversion_result (integer r m) mode (operand_of program (integer s b) y s1)) (sym is) in
           let left : Ok (Number (wrapped (of_type r m) (pos low))) ≡ Ok v = sym done ∙ f in
           let value : Number (wrapped (of_type r m) (pos low)) ≡ v = cc in
-          let number : v ≡ Number (pos low) = sym value ∙ ap Number (wrapped_byte r m low more below) in
+          let number : v ≡ Number (pos low) = sym value ∙ ap Number (wrapped_byte r m low kept.more below) in
           let all : Some (fact to.bytes None) ≡ Some k = g in
           let fact_is : fact to.bytes None ≡ k = cc in
           subst (λ (y : KnownNumber). IsSo y (Some (holding to.bytes (content_of to.bytes v)))) fact_is
           (subst (λ (y : Value). IsSo (fact to.bytes None) (Some (holding to.bytes (content_of to.bytes y)))) (sym number)
           (byte_so to.bytes (low_bytes to.bytes (pos low)) (low_of_byte to.bytes low below)))
       by_content (points p) c =
-          let none = ap (value_of_type program (integer false 1)) (sym c) ∙ e in absurd cc
+          let none = ap (value_of_type program (integer s b)) (sym c) ∙ e in absurd cc
 
   integer_left : (r : Bool) (m : ℕ) (s : Bool) (b : ℕ) → value_of_type program (integer s b) h.content ≡ Ok x
       → conversion_result (integer r m) mode (operand_of program (integer s b) x s1) ≡ Ok v
-      → converted to (integer r m) (integer s b) (operand_number known a (integer s b)) (is_byte_of 1 (known a.at)) ≡ Some k → Left
+      → converted to (integer r m) (integer s b) (operand_number known a (integer s b)) (is_byte_of a.bytes (known a.at)) ≡ Some k
+      → Left
   integer_left r m s b e f g =
-      by_operand (operand_number known a (integer s b)) refl (is_byte_of 1 (known a.at)) refl g
+      by_operand (operand_number known a (integer s b)) refl (is_byte_of a.bytes (known a.at)) refl g
     where
-      by_operand : (o : Option ℤ) → operand_number known a (integer s b) ≡ o → (y : Bool) → is_byte_of 1 (known a.at) ≡ y
+      by_operand : (o : Option ℤ) → operand_number known a (integer s b) ≡ o → (y : Bool) → is_byte_of a.bytes (known a.at) ≡ y
           → converted to (integer r m) (integer s b) o y ≡ Some k → Left
       by_operand (Some n) q y w g = by_sizes (is_integer_size m && is_integer_size b) g
         where
@@ -224,20 +247,14 @@ module _ (program : PlainProgram) (to a : Temp) (mode : Mode) (known : Known) (t
           by_sizes false g = byte_left_so to v k g
       by_operand None q true w g = by_keeping (keeps_bytes (of_type r m) (of_type s b)) refl g
         where
-          by_keeping : (t : Bool) → keeps_bytes (of_type r m) (of_type s b) ≡ t → (if t then byte_in to else byte_left to) ≡ Some k → Left
-          by_keeping true t g =
-              let kept = are_kept r m s b t in
-              let ty : integer s b ≡ integer false 1 =
-              ap (λ (z : Bool). integer z b) kept.unsigned ∙ ap (λ (z : ℕ). integer false z) kept.one in
-              kept_left r m kept.more (subst (λ (z : PlainType). value_of_type program z h.content ≡ Ok x) ty e)
-              (subst (λ (z : PlainType). conversion_result (integer r m) mode (operand_of program z x s1) ≡ Ok v) ty f)
-              (is_byte_operand a known w) g
+          by_keeping : (t : Bool) → keeps_bytes (of_type r m) (of_type s b) ≡ t → byte_where to t ≡ Some k → Left
+          by_keeping true t g = kept_left r m s b (are_kept r m s b t) e f (is_byte_operand a known w) g
           by_keeping false t g = byte_left_so to v k g
       by_operand None q false w g = byte_left_so to v k g
 
   pub conversion_left : (ty aty : PlainType) → value_of_type program aty h.content ≡ Ok x
       → conversion_result ty mode (operand_of program aty x s1) ≡ Ok v
-      → converted to ty aty (operand_number known a aty) (is_byte_of 1 (known a.at)) ≡ Some k
+      → converted to ty aty (operand_number known a aty) (is_byte_of a.bytes (known a.at)) ≡ Some k
       → IsSo k (Some (holding to.bytes (content_of to.bytes v)))
   conversion_left (integer r m) (integer s b) e f q = integer_left r m s b e f q
   conversion_left (integer r m) void e f q = byte_left_so to v k q

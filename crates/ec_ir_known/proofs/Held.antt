@@ -10,7 +10,7 @@ use Rattle.ec_core.specs.declared.values.Value.{Value}
 use Rattle.ec_core.specs.declared.values.Value.TheVariants.{Number, Pointer}
 use Rattle.ec_core.specs.Accesses.{referent_of, operand_of, read}
 use Rattle.ec_core.specs.Operators.{unary_result, binary_result, conversion_result}
-use Rattle.ec_core.specs.Plain.{PlainProgram}
+use Rattle.ec_core.specs.Plain.{PlainType, PlainProgram}
 use Rattle.ec_core.specs.Pointers.{moved}
 use Rattle.ec_core.specs.State.{Inputs, State, worked, with_choice, chosen, Outcome, got, more, undefined, next, given}
 use Rattle.ec_ir.specs.declared.operations.Temp.{Temp}
@@ -29,7 +29,9 @@ use Rattle.ec_ir.specs.Temporaries.{Content, bits, low_bytes, Held, Temps, no_te
 use Rattle.ec_ir.specs.Temporaries.{with_content, with_temp, read_held, held}
 use Rattle.ec_ir_known.specs.declared.known.KnownNumber.{KnownNumber}
 use Rattle.ec_ir_known.specs.Known.{Known, is_set, known_after, known_at, operand_number, converted, byte_left, is_byte_of}
+use Rattle.ec_ir_known.specs.Known.{byte_where, leaves_byte, is_low}
 use Rattle.ec_ir_known.specs.Laws.{are_held, checked_from, checked, KnownNumbersAreHeld}
+use Rattle.ec_ir_known.proofs.Combined.{binary_left}
 use Rattle.ec_ir_known.proofs.Converted.{conversion_left}
 use Rattle.ec_ir_known.proofs.Places.{IsSo, Knows, all_held, knows_result, knows_cleared, Stands, next_stands, holding}
 use Rattle.ec_ir_known.proofs.Places.{known_next, all_left, nothing_first, found, known_number, number_so, byte_left_so}
@@ -186,6 +188,18 @@ module _ (functions : List PlainIrFunction) (program : PlainProgram) (inputs : I
       leaves : (t : Temp) (v : Value) → Knows (λ at. if at == t.at then byte_left t else here at) (with_temp t v temps)
       leaves t v = knows_result t (byte_left t) (content_of t.bytes v) here temps (byte_left_so t v) good.knows
 
+    -- the value of a type that a temporary holds
+    typed_same : (ty : PlainType) (t : Temp) (temps : Temps) (s : State) (f g : Value → State → Outcome Value)
+        → ((h : Held) (x : Value) → temps t.at ≡ Some h → value_of_type program ty h.content ≡ Ok x → f x s ≡ g x s)
+        → next (held_as program ty t temps s) f ≡ next (held_as program ty t temps s) g
+    typed_same ty t temps s f g k =
+        let read = λ (c : Content) (s1 : State). given (value_of_type program ty c) s1 in
+        let reads = λ (f : Value → State → Outcome Value) (c : Content) (s1 : State). next (read c s1) f in
+        let same : next (held t temps s) (reads f) ≡ next (held t temps s) (reads g) =
+        held_same t temps s (reads f) (reads g)
+        (λ h q. given_same (value_of_type program ty h.content) s f g (λ x r. k h x q r)) in
+        next_next (held t temps s) read f ∙ same ∙ sym (next_next (held t temps s) read g)
+
     perform_same : (i : PlainIr) (on to_on : Mach → Outcome Value) (code : List PlainIr) (stack : List Frame) (rest : List PlainIr)
         (temps : Temps) (s : State) → Good code (i ∷ rest) stack temps
         → ((m : Mach) → Knows (known_at code rest) m.temps → on m ≡ to_on m)
@@ -234,12 +248,17 @@ module _ (functions : List PlainIrFunction) (program : PlainProgram) (inputs : I
         (λ x s1. goes_on on to_on code stack i rest temps g h temps s1 g.knows)
     perform_same (binary_op op ty mode to a aty b bty) on to_on code stack rest temps s g h =
         let i = binary_op op ty mode to a aty b bty in
-        next_same (held_as program aty a temps s) _ _
-        (λ x s1. next_same (held_as program bty b temps s1) _ _
-        (λ y s2. next_same
-        (given (binary_result op ty mode (operand_of program aty x s2) (operand_of program bty y s2)) s2) _ _
-        (λ v s3. stays_on on to_on code stack i rest temps g h (with_temp to v temps) s3
-        (leaves on to_on code stack i rest temps g h to v))))
+        let known = known_at code (i ∷ rest) in
+        let ends = λ (f : Mach → Outcome Value) (v : Value) (s3 : State). f (machine (with_temp to v temps) s3) in
+        let operates = λ (f : Mach → Outcome Value) (x y : Value) (s2 : State).
+        next (given (binary_result op ty mode (operand_of program aty x s2) (operand_of program bty y s2)) s2) (ends f) in
+        let takes = λ (f : Mach → Outcome Value) (x : Value) (s1 : State). next (held_as program bty b temps s1) (operates f x) in
+        typed_same aty a temps s (takes on) (takes to_on)
+        (λ o x q e. typed_same bty b temps s (operates on x) (operates to_on x)
+        (λ u y r f. given_same (binary_result op ty mode (operand_of program aty x s) (operand_of program bty y s)) s (ends on) (ends to_on)
+        (λ v w. stays_on on to_on code stack i rest temps g h (with_temp to v temps) s
+        (knows_result to (byte_where to (leaves_byte op ty (is_low known a aty) (is_low known b bty))) (content_of to.bytes v) known temps
+        (λ k z. binary_left program to a b mode known temps o u x y v s k g.knows q r op ty aty bty e f w z) g.knows))))
     perform_same (unary_op op ty mode to a) on to_on code stack rest temps s g h =
         let i = unary_op op ty mode to a in
         next_same (held_as program ty a temps s) _ _
@@ -259,7 +278,8 @@ module _ (functions : List PlainIrFunction) (program : PlainProgram) (inputs : I
         (λ o q. given_same (value_of_type program aty o.content) s (brings on) (brings to_on)
         (λ x r. given_same (conversion_result ty mode (operand_of program aty x s)) s (ends on) (ends to_on)
         (λ v w. stays_on on to_on code stack i rest temps g h (with_temp to v temps) s
-        (knows_result to (converted to ty aty (operand_number known a aty) (is_byte_of 1 (known a.at))) (content_of to.bytes v) known temps
+        (knows_result to (converted to ty aty (operand_number known a aty) (is_byte_of a.bytes (known a.at))) (content_of to.bytes v)
+        known temps
         (λ k z. conversion_left program to a mode known temps o x v s k g.knows q ty aty r w z) g.knows)))) in
         next_next (held a temps s) read (brings on) ∙ same ∙ sym (next_next (held a temps s) read (brings to_on))
     perform_same (label l) on to_on code stack rest temps s g h =

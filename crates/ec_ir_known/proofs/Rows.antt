@@ -2,7 +2,7 @@
 use Rattle.std.proofs.Common.{◌≡◌, ℕ, zero, suc, ◌+◌, ◌<◌, Bool, true, false, List, []}
 use Rattle.std.proofs.Common.{◌∷◌, Option, Some, None}
 use Rattle.std.proofs.Common.{refl, sym, ap, ◌∙◌, arith, length, map, drop, get_or, replicate}
-use Rattle.std.specs.Prelude.{◌==◌, nat_lt, ◌&&◌, if◌then◌else◌, ℤ}
+use Rattle.std.specs.Prelude.{◌==◌, nat_lt, ◌&&◌, if◌then◌else◌, ℤ, pos}
 use Rattle.std.proofs.lemmas.List.{drop_more, get_or-map, length-map}
 use Rattle.ec_core.specs.Plain.{PlainType, void, integer, fixed, pointer, array, struct}
 use Rattle.ec_ir.specs.declared.operations.Temp.{Temp}
@@ -12,7 +12,8 @@ use Rattle.ec_ir.specs.Operations.{call_function, return_from, port_in, port_out
 use Rattle.ec_ir_known.specs.declared.known.KnownNumber.{KnownNumber}
 use Rattle.ec_ir_known.specs.declared.known.RightNumber.{RightNumber}
 use Rattle.ec_ir_known.specs.Known.{Known, is_set, of_bytes, converted, operand_number, known_after, right_number, right_of}
-use Rattle.ec_ir_known.specs.Known.{is_byte_of, byte_left, number_in}
+use Rattle.ec_ir_known.specs.Known.{is_byte_of, byte_left, number_in, byte_where, leaves_byte, is_low, is_wide_type, is_below}
+use Rattle.ec_ir_known.specs.Known.{fits_byte}
 use Rattle.ec_ir_known.specs.Known.{known_at, known_of, numbers_from, numbers_left, right_numbers, HaveResultPlaces}
 use Rattle.ec_ir_known.proofs.Places.{Stands, known_next, next_stands, nothing_first, all_left}
 
@@ -51,6 +52,12 @@ operand_same a b t (pointer space const to) h = refl
 operand_same a b t (array of len) h = refl
 operand_same a b t (struct index) h = refl
 
+low_same : (a b : Known) (t : Temp) (ty : PlainType) → AreSame a b → is_low a t ty ≡ is_low b t ty
+low_same a b t ty h = ap (λ (x : Option KnownNumber). is_wide_type ty && is_below t.bytes x) (h t.at)
+
+fits_same : (a b : Known) (t : Temp) → AreSame a b → fits_byte a t ≡ fits_byte b t
+fits_same a b t h = ap (λ (x : Bool). nat_lt 1 t.bytes && x) (byte_same a b t t.bytes h)
+
 pub after_same : (i : PlainIr) (a b : Known) → AreSame a b → AreSame (known_after i a) (known_after i b)
 after_same (label l) a b h place = refl
 after_same (constant t n) a b h place = set_same (Some t) _ _ a b refl h place
@@ -64,14 +71,17 @@ after_same (load_object t o offset) a b h place =
     set_same (Some t) (byte_left t) (byte_left t) a b refl h place
 after_same (store_object o offset t) a b h place = h place
 after_same (binary_op op ty mode to c aty d bty) a b h place =
-    set_same (Some to) (byte_left to) (byte_left to) a b refl h place
+    set_same (Some to) (byte_where to (leaves_byte op ty (is_low a c aty) (is_low a d bty)))
+    (byte_where to (leaves_byte op ty (is_low b c aty) (is_low b d bty))) a b
+    (ap (λ (x : Bool). byte_where to (leaves_byte op ty x (is_low a d bty))) (low_same a b c aty h)
+    ∙ ap (λ (x : Bool). byte_where to (leaves_byte op ty (is_low b c aty) x)) (low_same a b d bty h)) h place
 after_same (unary_op op ty mode to c) a b h place =
     set_same (Some to) (byte_left to) (byte_left to) a b refl h place
 after_same (conversion to ty mode c aty) a b h place =
-    set_same (Some to) (converted to ty aty (operand_number a c aty) (is_byte_of 1 (a c.at)))
-    (converted to ty aty (operand_number b c aty) (is_byte_of 1 (b c.at))) a b
-    (ap (λ (x : Option ℤ). converted to ty aty x (is_byte_of 1 (a c.at))) (operand_same a b c aty h)
-    ∙ ap (λ (x : Bool). converted to ty aty (operand_number b c aty) x) (byte_same a b c 1 h)) h place
+    set_same (Some to) (converted to ty aty (operand_number a c aty) (is_byte_of c.bytes (a c.at)))
+    (converted to ty aty (operand_number b c aty) (is_byte_of c.bytes (b c.at))) a b
+    (ap (λ (x : Option ℤ). converted to ty aty x (is_byte_of c.bytes (a c.at))) (operand_same a b c aty h)
+    ∙ ap (λ (x : Bool). converted to ty aty (operand_number b c aty) x) (byte_same a b c c.bytes h)) h place
 after_same (jump l) a b h place = h place
 after_same (branch_zero t l) a b h place = h place
 after_same (call_function f to) a b h place = set_same to None None a b refl h place
@@ -88,8 +98,8 @@ after_same (cell_port false from cell offset index width) a b h place = h place
 
 right_same : (i : PlainIr) (a b : Known) → AreSame a b → right_number a i ≡ right_number b i
 right_same (binary_op op ty mode to c aty d bty) a b h =
-    ap (λ (x : Bool). right_of (nat_lt 1 c.bytes && x) (number_in a d)) (byte_same a b c c.bytes h)
-    ∙ ap (λ (x : Option KnownNumber). right_of (nat_lt 1 c.bytes && is_byte_of c.bytes (b c.at)) (of_bytes d.bytes x)) (h d.at)
+    ap (λ (x : Bool). right_of x (number_in a d)) (fits_same a b c h)
+    ∙ ap (λ (x : Option KnownNumber). right_of (fits_byte b c) (of_bytes d.bytes x)) (h d.at)
 right_same (label l) a b h = refl
 right_same (constant t n) a b h = refl
 right_same (copy to from) a b h = refl
@@ -102,7 +112,7 @@ right_same (store_object o offset t) a b h = refl
 right_same (unary_op op ty mode to c) a b h = refl
 right_same (conversion to ty mode c aty) a b h = refl
 right_same (jump l) a b h = refl
-right_same (branch_zero t l) a b h = refl
+right_same (branch_zero t l) a b h = ap (λ (x : Bool). right_of x (Some (pos 0))) (fits_same a b t h)
 right_same (call_function f to) a b h = refl
 right_same (return_from from) a b h = refl
 right_same (port_in to port index width) a b h = refl

@@ -1,16 +1,20 @@
 -- What is known of temporaries where an operation stands. A temporary is known to hold a number where, of the operations
 -- before it, the last one that sets its place is a constant, or a conversion of an integer that was known there, and
--- no label stands between. It is known to hold a number below 256 where that operation leaves one byte, or brings an
--- unsigned byte to an integer type of more bytes.
+-- no label stands between. It is known to hold a number below 256 where that operation leaves one byte, is a comparison,
+-- brings an unsigned byte or a number below 256 to an integer type of more bytes, or is an AND with such a number, an OR
+-- or an exclusive OR of two, or a shift of one to the right.
 use Rattle.std.specs.Prelude.{ℕ, ◌-◌, ◌<◌, ◌==◌, nat_lt, Bool, true, false, not, ◌&&◌, ◌||◌, if◌then◌else◌, ℤ, pos, int_lt, ⊤}
 use Rattle.std.specs.Prelude.{List, [], ◌∷◌, reverse, take, length, get_or, Option, Some, None}
 use Rattle.std.specs.List.{AllByRecursion}
 use Rattle.ec_core.specs.declared.arithmetic_types.IntegerType.{IntegerType}
+use Rattle.ec_core.specs.declared.expressions.BinOp.{BinOp}
+use Rattle.ec_core.specs.declared.expressions.BinOp.TheVariants.{Shr, And, Or, Xor}
+use Rattle.ec_core.specs.ArithmeticValues.{is_comparison}
 use Rattle.ec_core.specs.Integers.{wrapped}
 use Rattle.ec_core.specs.Plain.{PlainType, integer}
 use Rattle.ec_ir.specs.declared.operations.Temp.{Temp}
 use Rattle.ec_ir.specs.Operations.{PlainIr, constant, copy, address, field, load_at, load_object}
-use Rattle.ec_ir.specs.Operations.{binary_op, unary_op, conversion, label}
+use Rattle.ec_ir.specs.Operations.{binary_op, unary_op, conversion, label, branch_zero}
 use Rattle.ec_ir.specs.Operations.{call_function, port_in, load_cell, cell_port}
 use Rattle.ec_ir_known.specs.declared.known.KnownNumber.{KnownNumber}
 use Rattle.ec_ir_known.specs.declared.known.RightNumber.{RightNumber}
@@ -77,12 +81,50 @@ byte_in t = Some (record { bytes = t.bytes; number = None })
 abbrev pub byte_left : Temp → Option KnownNumber
 byte_left t = if t.bytes == 1 then byte_in t else None
 
--- an integer type of more bytes than an unsigned one has room for
+-- an integer type of more bytes than one, which has room for them
+abbrev pub is_wide : (bytes : ℕ) → Bool
+is_wide bytes = bytes == 2 || bytes == 4
+
+-- numbers below 256 of one type are the same in the other
 abbrev pub keeps_bytes : (ty from : IntegerType) → Bool
-keeps_bytes ty from = (ty.bytes == 2 || ty.bytes == 4) && (not from.signed && from.bytes == 1)
+keeps_bytes ty from = is_wide ty.bytes && (is_wide from.bytes || (not from.signed && from.bytes == 1))
 
 abbrev pub is_byte : ℤ → Bool
 is_byte n = not (int_lt n (pos 0)) && int_lt n (pos 256)
+
+-- any number below 256, or one that is
+abbrev pub is_small : Option ℤ → Bool
+is_small None = true
+is_small (Some n) = is_byte n
+
+-- so many bytes are known to be below 256
+abbrev pub is_below : (bytes : ℕ) → Option KnownNumber → Bool
+is_below bytes None = false
+is_below bytes (Some k) = k.bytes == bytes && is_small k.number
+
+abbrev pub is_wide_type : PlainType → Bool
+is_wide_type (integer signed bytes) = is_wide bytes
+is_wide_type ty = false
+
+-- an operand of such a type is known to be below 256
+abbrev pub is_low : Known → Temp → PlainType → Bool
+is_low known t ty = is_wide_type ty && is_below t.bytes (known t.at)
+
+-- a result of such a type is below 256 where operands are: that of AND where one is, those of OR and of exclusive OR where
+-- both are, and that of a shift to the right where the first one is
+abbrev pub is_low_result : BinOp → (left right : Bool) → Bool
+is_low_result And left right = left || right
+is_low_result Or left right = left && right
+is_low_result Xor left right = left && right
+is_low_result Shr left right = left
+is_low_result op left right = false
+
+-- a truth value is 0 or 1
+abbrev pub leaves_byte : BinOp → PlainType → (left right : Bool) → Bool
+leaves_byte op ty left right = is_comparison op || (is_wide_type ty && is_low_result op left right)
+
+abbrev pub byte_where : Temp → Bool → Option KnownNumber
+byte_where t byte = if byte then byte_in t else byte_left t
 
 -- ---- what operations leave
 
@@ -98,7 +140,7 @@ integer_of ty = None
 abbrev pub converted_by : Temp → Option IntegerType → Option IntegerType → Option ℤ → (byte : Bool) → Option KnownNumber
 converted_by to (Some ty) (Some from) (Some n) byte =
     if is_integer_size ty.bytes && is_integer_size from.bytes then known_as to (brought ty from n) else byte_left to
-converted_by to (Some ty) (Some from) None true = if keeps_bytes ty from then byte_in to else byte_left to
+converted_by to (Some ty) (Some from) None true = byte_where to (keeps_bytes ty from)
 converted_by to ty from n byte = byte_left to
 
 abbrev pub converted : Temp → PlainType → PlainType → Option ℤ → (byte : Bool) → Option KnownNumber
@@ -113,10 +155,11 @@ operand_number known t ty = None
 abbrev pub number_left : PlainIr → Known → Option KnownNumber
 number_left (constant t n) known = known_as t n
 number_left (conversion to ty mode a aty) known =
-    converted to ty aty (operand_number known a aty) (is_byte_of 1 (known a.at))
+    converted to ty aty (operand_number known a aty) (is_byte_of a.bytes (known a.at))
 number_left (load_at to ptr space) known = byte_left to
 number_left (load_object t o offset) known = byte_left t
-number_left (binary_op op ty mode to a aty b bty) known = byte_left to
+number_left (binary_op op ty mode to a aty b bty) known =
+    byte_where to (leaves_byte op ty (is_low known a aty) (is_low known b bty))
 number_left (unary_op op ty mode to a) known = byte_left to
 number_left (port_in to port index width) known = byte_left to
 number_left (load_cell to cell) known = byte_left to
@@ -143,11 +186,15 @@ abbrev pub right_of : (byte : Bool) → Option ℤ → Option RightNumber
 right_of byte None = None
 right_of byte (Some n) = Some (record { number = n; in_byte = byte && is_byte n })
 
+-- more bytes than one are known to be below 256
+abbrev pub fits_byte : Known → Temp → Bool
+fits_byte known t = nat_lt 1 t.bytes && is_byte_of t.bytes (known t.at)
+
 -- the number that the second operand of a binary operator is known to hold. It is in a byte where the first operand, of
--- more bytes, is known to be below 256, and so is the number
+-- more bytes, is known to be below 256, and so is the number. A branch tests against 0
 abbrev pub right_number : Known → PlainIr → Option RightNumber
-right_number known (binary_op op ty mode to a aty b bty) =
-    right_of (nat_lt 1 a.bytes && is_byte_of a.bytes (known a.at)) (number_in known b)
+right_number known (binary_op op ty mode to a aty b bty) = right_of (fits_byte known a) (number_in known b)
+right_number known (branch_zero t l) = right_of (fits_byte known t) (Some (pos 0))
 right_number known i = None
 
 -- for each of the operations that are left

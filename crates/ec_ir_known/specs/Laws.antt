@@ -13,12 +13,12 @@ use Rattle.ec_ir.specs.Temporaries.{Content, bits, points, Held, Temps, low_byte
 use Rattle.ec_ir_known.specs.declared.known.KnownNumber.{KnownNumber}
 use Rattle.ec_ir_known.specs.Known.{Known, known_at}
 
--- the bytes of a known number, or of one below 256; a pointer is none
+-- the bytes of a known number, or of one below 256; a pointer is none, but in one byte
 abbrev pub are_bits : (number : Option ℤ) → (bytes : ℕ) → Content → Bool
 are_bits (Some n) bytes (bits low) = low == low_bytes bytes n
 are_bits (Some n) bytes (points p) = false
 are_bits None bytes (bits low) = nat_lt low 256
-are_bits None bytes (points p) = true
+are_bits None bytes (points p) = bytes == 1
 
 -- a place holds what it is known to hold
 abbrev pub is_held : Option KnownNumber → Option Held → Bool

@@ -7,11 +7,12 @@ ghost use Rattle.ec_core.specs.Plain.{plain_type};
 ghost use Rattle.ec_ir.specs.Operations.{plain_ir};
 ghost use Rattle.ec_ir_known.specs.Known.{known_of, number_in, is_integer_size, brought, converted, operand_number};
 ghost use Rattle.ec_ir_known.specs.Known.{converted_by, integer_of, numbers_from, keeps_bytes, byte_left, is_byte};
-ghost use Rattle.ec_ir_known.specs.Known.{is_byte_of, right_of};
+ghost use Rattle.ec_ir_known.specs.Known.{is_byte_of, right_of, is_wide, is_small, is_below, is_low, is_low_result};
+ghost use Rattle.ec_ir_known.specs.Known.{is_wide_type, leaves_byte, byte_where, fits_byte};
 ghost use Rattle.ec_ir_known.specs.Known.{is_set, result_of, number_left, known_after, right_number, right_numbers};
 ghost use Rattle.ec_ir_known.specs.Known.{HasResultPlace, HaveResultPlaces};
 
-use ec_core::{CType, IntegerType};
+use ec_core::{BinOp, CType, IntegerType, is_comparison};
 use ec_ir::{Ir, Temp};
 use ec_space::{NoMemory, Seq};
 use std::alloc::Global;
@@ -101,19 +102,35 @@ fn known_as(
     }
 }
 
-/// Whether an integer type has more bytes than another one, which is that of an unsigned byte.
+/// Whether an integer type of so many bytes has more than one.
+fn is_wide(bytes: u8) -> bool
+    ensures { result ≡ is_wide bytes }
+{
+    bytes == 2 || bytes == 4
+}
+
+/// Whether a type is an integer type of more bytes than one.
+fn is_wide_type(ty: &CType) -> bool
+    ensures { result ≡ is_wide_type (plain_type ty.now) }
+{
+    match ty {
+        CType::Int { bytes, .. } => is_wide(*bytes),
+        _ => false,
+    }
+}
+
+/// Whether numbers below 256 of one integer type are the same in the other.
 fn keeps_bytes(ty: IntegerType, from: IntegerType) -> bool
     ensures { result ≡ keeps_bytes ty from }
 {
-    (ty.bytes == 2 || ty.bytes == 4) && (!from.signed && from.bytes == 1)
+    is_wide(ty.bytes) && (is_wide(from.bytes) || (!from.signed && from.bytes == 1))
 }
 
-/// What is known of a temporary, which gets a number of an integer type from one of another integer type that may be
-/// known to be below 256.
-fn byte_as(to: Temp, ty: IntegerType, from: IntegerType, byte: bool) -> Option<KnownNumber>
-    ensures { result ≡ converted_by to (Some ty) (Some from) None byte }
+/// What is known of a temporary that gets a number below 256, or of which this is not known.
+fn byte_where(to: Temp, byte: bool) -> Option<KnownNumber>
+    ensures { result ≡ byte_where to byte }
 {
-    if byte && keeps_bytes(ty, from) {
+    if byte {
         Some(KnownNumber {
             bytes: to.bytes,
             number: None,
@@ -123,11 +140,48 @@ fn byte_as(to: Temp, ty: IntegerType, from: IntegerType, byte: bool) -> Option<K
     }
 }
 
+/// What is known of a temporary, which gets a number of an integer type from one of another integer type that may be
+/// known to be below 256.
+fn byte_as(to: Temp, ty: IntegerType, from: IntegerType, byte: bool) -> Option<KnownNumber>
+    ensures { result ≡ converted_by to (Some ty) (Some from) None byte }
+{
+    byte_where(to, byte && keeps_bytes(ty, from))
+}
+
 /// Whether a number is below 256, and not below 0.
 fn is_byte(n: i128) -> bool
     ensures { result ≡ is_byte n }
 {
     !(n < 0) && n < 256
+}
+
+/// Whether any number below 256 is meant, or one that is.
+fn is_small(number: Option<i128>) -> bool
+    ensures { result ≡ is_small number }
+{
+    match number {
+        None => true,
+        Some(n) => is_byte(n),
+    }
+}
+
+/// Whether a result of an integer type with more bytes than one is below 256, where operands are.
+fn is_low_result(op: BinOp, left: bool, right: bool) -> bool
+    ensures { result ≡ is_low_result op left right }
+{
+    match op {
+        BinOp::And => left || right,
+        BinOp::Or | BinOp::Xor => left && right,
+        BinOp::Shr => left,
+        _ => false,
+    }
+}
+
+/// Whether a binary operator leaves a number below 256, where operands are.
+fn leaves_byte(op: BinOp, ty: &CType, left: bool, right: bool) -> bool
+    ensures { result ≡ leaves_byte op (plain_type ty.now) left right }
+{
+    is_comparison(op) || (is_wide_type(ty) && is_low_result(op, left, right))
 }
 
 /// An integer type with so many bytes.
@@ -237,6 +291,30 @@ impl KnownNumbers {
         }
     }
 
+    /// Whether so many bytes of a place are known to be below 256.
+    fn is_below(&self, at: u16, bytes: u8) -> bool
+        ensures { result ≡ is_below bytes (known_of self.now at) }
+    {
+        match self.row.get(usize::from(at)) {
+            Some(Some(k)) => k.bytes == bytes && is_small(k.number),
+            _ => false,
+        }
+    }
+
+    /// Whether an operand of an integer type with more bytes than one is known to be below 256.
+    fn is_low(&self, t: Temp, ty: &CType) -> bool
+        ensures { result ≡ is_low (known_of self.now) t (plain_type ty.now) }
+    {
+        is_wide_type(ty) && self.is_below(t.at, t.bytes)
+    }
+
+    /// Whether a temporary of more bytes than one is known to be below 256.
+    fn fits_byte(&self, t: Temp) -> bool
+        ensures { result ≡ fits_byte (known_of self.now) t }
+    {
+        1 < t.bytes && self.is_byte(t.at, t.bytes)
+    }
+
     /// The number of an integer operand, whose temporary has as many bytes as its type.
     fn operand(&self, t: Temp, ty: &CType) -> Option<i128>
         ensures { result ≡ operand_number (known_of self.now) t (plain_type ty.now) }
@@ -258,11 +336,23 @@ impl KnownNumbers {
             }),
             Ir::Conv { to, ty, a, aty, .. } => {
                 let number = self.operand(*a, aty);
-                converted(*to, ty, aty, number, self.is_byte(a.at, 1))
+                converted(*to, ty, aty, number, self.is_byte(a.at, a.bytes))
+            }
+            Ir::Bin {
+                op,
+                ty,
+                to,
+                a,
+                aty,
+                b,
+                bty,
+                ..
+            } => {
+                let (left, right) = (self.is_low(*a, aty), self.is_low(*b, bty));
+                byte_where(*to, leaves_byte(*op, ty, left, right))
             }
             Ir::LoadObj(to, _, _)
             | Ir::Load { to, .. }
-            | Ir::Bin { to, .. }
             | Ir::Un { to, .. }
             | Ir::PortIn { to, .. }
             | Ir::LoadCell(to, _)
@@ -293,15 +383,13 @@ impl KnownNumbers {
         }
     }
 
-    /// The number that the second operand of a binary operator is known to hold.
+    /// The number that the second operand of a binary operator is known to hold; a branch tests against 0.
     pub fn right(&self, i: &Ir) -> Option<RightNumber>
         ensures { result ≡ right_number (known_of self.now) (plain_ir i.now) }
     {
         match i {
-            Ir::Bin { a, b, .. } => {
-                let byte = 1 < a.bytes && self.is_byte(a.at, a.bytes);
-                right_of(byte, self.number(*b))
-            }
+            Ir::Bin { a, b, .. } => right_of(self.fits_byte(*a), self.number(*b)),
+            Ir::BranchZero(t, _) => right_of(self.fits_byte(*t), Some(0)),
             _ => None,
         }
     }
@@ -346,7 +434,8 @@ fn push_numbers(
     Ok(())
 }
 
-/// For each operation of a function the number that the second operand of a binary operator is known to hold.
+/// For each operation of a function the number that the second operand of a binary operator is known to hold, and 0 for
+/// that which a branch tests against.
 ///
 /// The operations set places below `slots` alone.
 #[tactic(auto, using(crate::proofs::Rows::all_numbers))]
