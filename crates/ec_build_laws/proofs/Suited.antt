@@ -55,7 +55,7 @@ use Rattle.ec_lower_code.specs.Code.{place_behind, operand_temp, access_code, pa
 use Rattle.ec_lower_code.specs.Code.{option_code, expr_labels}
 use Rattle.ec_lower_code.specs.Code.{optional_labels, option_stmt_labels, stmt_labels, expr_code, node_code, place_code}
 use Rattle.ec_lower_code.specs.Code.{args_code, init_code}
-use Rattle.ec_lower_code.specs.Code.{test_code, last_code, leaves_of_object, stmt_code, kind_code, option_stmt_code}
+use Rattle.ec_lower_code.specs.Code.{test_code, entry_code, last_code, leaves_of_object, stmt_code, kind_code, option_stmt_code}
 use Rattle.ec_lower_code.specs.Code.{stmts_code}
 use Rattle.ec_lower_code.specs.Code.{stepping_code, unread_code, Branch, where_zero, where_not, branch_to, opposite, zero_label}
 use Rattle.ec_lower_code.specs.Code.{other_label, and_end, or_end, branch_code, body_returns, end_of, end_code, lowered_function, lowered}
@@ -500,10 +500,14 @@ module _ (program : PlainProgram) (table : IoTable) (f : ℕ) where
       ∷ init_code program (plain_table table) ls o es (l + expr_labels e) rest) v.0
       (few_of e v.0, init_suit ls o es (l + expr_labels e) rest v.1 r)
 
-  test_suit : (c : Option PlainExpr) (out l : ℕ) (rest : List PlainIr) → ValidCondition program table f c → AllSuited rest
-      → AllSuited (test_code program (plain_table table) c out l rest)
-  test_suit None out l rest v r = r
-  test_suit (Some c) out l rest v r = branch_suit c l 0 (where_zero out) rest v.0 r
+  test_suit : (c : Option PlainExpr) (l : ℕ) (rest : List PlainIr) → ValidCondition program table f c → AllSuited rest
+      → AllSuited (test_code program (plain_table table) c l rest)
+  test_suit None l rest v r = (tt, (tt, r))
+  test_suit (Some c) l rest v r = branch_suit c (l + 5) 0 (where_not (l + 3) (l + 4)) (label (l + 1) ∷ rest) v.0 (tt, r)
+
+  entry_suit : (c : Option PlainExpr) (l : ℕ) (rest : List PlainIr) → AllSuited rest → AllSuited (entry_code c l rest)
+  entry_suit None l rest r = r
+  entry_suit (Some c) l rest r = (tt, r)
 
   last_suit : (e : Option PlainExpr) (l : ℕ) (rest : List PlainIr) → ValidOptional program table f e → AllSuited rest
       → AllSuited (last_code program (plain_table table) e l rest)
@@ -524,45 +528,32 @@ module _ (program : PlainProgram) (table : IoTable) (f : ℕ) where
       kind_suit (block ss) k l out on rest v r = stmts_suit ss k l out on rest v r
       kind_suit (declare o es) k l out on rest v r = init_suit (leaves_of_object program o) o es l rest v.1 r
       kind_suit (branch c a no_stmt) k l out on rest v r =
-          test_suit (Some c) l (l + 2) (stmt_code program (plain_table table) a (l + 2 + expr_labels c) out on (label l ∷ rest)) v.0
+          branch_suit c (l + 2) 0 (where_zero l)
+          (stmt_code program (plain_table table) a (l + 2 + expr_labels c) out on (label l ∷ rest)) v.0.0
           (stmt_suit a k (l + 2 + expr_labels c) out on (label l ∷ rest) v.1 (tt, r))
       kind_suit (branch c a (a_stmt b)) k l out on rest v r =
           let q : List PlainIr = jump (l + 1) ∷ label l
           ∷ stmt_code program (plain_table table) b (l + 2 + expr_labels c + stmt_labels a) out on (label (l + 1) ∷ rest) in
-          test_suit (Some c) l (l + 2) (stmt_code program (plain_table table) a (l + 2 + expr_labels c) out on q) v.0
+          branch_suit c (l + 2) 0 (where_zero l) (stmt_code program (plain_table table) a (l + 2 + expr_labels c) out on q) v.0.0
           (stmt_suit a k (l + 2 + expr_labels c) out on q v.1
           (tt, (tt, stmt_suit b k (l + 2 + expr_labels c + stmt_labels a) out on (label (l + 1) ∷ rest) v.2 (tt, r))))
       kind_suit (while_loop c a) k l out on rest v r =
-          let q : List PlainIr = label (l + 2) ∷ jump l ∷ label (l + 1) ∷ rest in
-          let b : List PlainIr = label (l + 3) ∷ stmt_code program (plain_table table) a (l + 4 + expr_labels c) (l + 1) (l + 2) q in (
-            tt,
-            test_suit (Some c) (l + 1) (l + 4) b v.0
-                (tt, stmt_suit a true (l + 4 + expr_labels c) (l + 1) (l + 2) q v.1 (tt, (tt, (tt, r)))),
-          )
+          let q : List PlainIr = label (l + 2) ∷ label l ∷ test_code program (plain_table table) (Some c) l rest in
+          (tt, (tt, stmt_suit a true (l + 5 + expr_labels c) (l + 1) (l + 2) q v.1 (tt, (tt, test_suit (Some c) l rest v.0 r))))
       kind_suit (do_loop a c) k l out on rest v r =
-          let q : List PlainIr = label (l + 2) ∷ jump l ∷ label (l + 1) ∷ rest in
-          let b : List PlainIr = label (l + 3) ∷ stmt_code program (plain_table table) a (l + 4 + expr_labels c) (l + 1) (l + 2) q in (
-            tt,
-            (
-              tt,
-              test_suit (Some c) (l + 1) (l + 4) b v.1
-                  (tt, stmt_suit a true (l + 4 + expr_labels c) (l + 1) (l + 2) q v.0 (tt, (tt, (tt, r)))),
-            ),
-          )
+          let q : List PlainIr = label (l + 2) ∷ label l ∷ test_code program (plain_table table) (Some c) l rest in
+          (tt, stmt_suit a true (l + 5 + expr_labels c) (l + 1) (l + 2) q v.0 (tt, (tt, test_suit (Some c) l rest v.1 r)))
       kind_suit (for_loop first c last a) k l0 out on rest v r =
           let l = l0 + option_stmt_labels first in
-          let e : List PlainIr = jump l ∷ label (l + 1) ∷ rest in
-          let q : List PlainIr = label (l + 2) ∷ last_code program (plain_table table) last (l + 4 + optional_labels c) e in
+          let e : List PlainIr = label l ∷ test_code program (plain_table table) c l rest in
+          let q : List PlainIr = label (l + 2) ∷ last_code program (plain_table table) last (l + 5 + optional_labels c) e in
           let b : List PlainIr = label (l + 3)
-          ∷ stmt_code program (plain_table table) a (l + 4 + optional_labels c + optional_labels last) (l + 1) (l + 2) q in
-          option_suit first k l0 out on (label l ∷ test_code program (plain_table table) c (l + 1) (l + 4) b) v.0 (
+          ∷ stmt_code program (plain_table table) a (l + 5 + optional_labels c + optional_labels last) (l + 1) (l + 2) q in
+          option_suit first k l0 out on (entry_code c l b) v.0 (entry_suit c l b (
             tt,
-            test_suit c (l + 1) (l + 4) b v.1 (
-              tt,
-              stmt_suit a true (l + 4 + optional_labels c + optional_labels last) (l + 1) (l + 2) q v.3
-                  (tt, last_suit last (l + 4 + optional_labels c) e v.2 (tt, (tt, r))),
-            ),
-          )
+            stmt_suit a true (l + 5 + optional_labels c + optional_labels last) (l + 1) (l + 2) q v.3
+                (tt, last_suit last (l + 5 + optional_labels c) e v.2 (tt, test_suit c l rest v.1 r)),
+          ))
       kind_suit break_loop k l out on rest v r = (tt, r)
       kind_suit continue_loop k l out on rest v r = (tt, r)
       kind_suit (return_value None) k l out on rest v r = (omega arith, r)

@@ -53,10 +53,11 @@ exact_code Add b = in_line (1 + 17 * b)
 exact_code Sub b = in_line (1 + 17 * b)
 exact_code op b = in_line (19 + 5 * b)
 
+-- a further use of an operator on other fixed-point operands is a call, or a shift by a known number
 abbrev pub binary_code : BinOp → (exact on_fixed on_pointers : Bool) → ℕ → Code
 binary_code op exact on_fixed on_pointers b =
     if exact then exact_code op b
-    else (if on_fixed then callable (operation_words b) (4 + 12 * b)
+    else (if on_fixed then callable (operation_words b) (12 + 14 * b)
     else (if on_pointers then in_line (64 + 5 * b) else integer_code op b))
 
 abbrev pub unary_code : (on_fixed : Bool) → ℕ → Code

@@ -76,6 +76,17 @@ pub fn sum(a: u32, b: u32) -> Result<u32, NoMemory>
     }
 }
 
+/// The first `count` members.
+fn first_of(members: &[Member], count: usize) -> &[Member]
+    ensures { result.now ≡ take count members.now }
+{
+    if count < members.len() {
+        &members[..count]
+    } else {
+        members
+    }
+}
+
 /// The bytes of the first members.
 fn members_size(program: &Program, members: &[Member], count: usize) -> Result<u32, NoMemory>
     requires layouts { IsLaidOut (plain_program program.now) }
@@ -85,17 +96,12 @@ fn members_size(program: &Program, members: &[Member], count: usize) -> Result<u
         ≡ (members_layout (struct_layouts (map plain_struct program.now.structs.items))
         (take count (map plain_member members.now))).size) }
 {
-    if count == 0 {
-        return Ok(0);
+    let first = first_of(members, count);
+    let mut bytes = 0;
+    for member in first {
+        bytes = sum(bytes, size_of(&program.structs, &member.ty))?;
     }
-    match members {
-        [] => Ok(0),
-        [first, rest @ ..] => {
-            let bytes = size_of(&program.structs, &first.ty);
-            let more = members_size(program, rest, count - 1)?;
-            sum(bytes, more)
-        }
-    }
+    Ok(bytes)
 }
 
 /// Where the member with a number begins in a type, in bytes.

@@ -4,11 +4,11 @@ ghost use Rattle.std.specs.Option.{option_copied};
 ghost use Rattle.ec_core.specs.Plain.{branch, for_loop, return_value, no_stmt, a_stmt, plain_expr, plain_exprs, plain_stmt, plain_stmts};
 ghost use Rattle.ec_core.specs.Plain.{plain_program};
 ghost use Rattle.ec_core.specs.PortTable.{plain_table};
-ghost use Rattle.ec_ir.specs.Operations.{label, jump};
+ghost use Rattle.ec_ir.specs.Operations.{label};
 ghost use Rattle.ec_lower.specs.Emits.{Emits, IsLaidOut};
 ghost use Rattle.ec_lower_code.specs.Code.{expr_labels, exprs_labels, optional_labels, stmt_labels};
 ghost use Rattle.ec_lower_code.specs.Code.{stmts_labels, kind_labels, leaves_of_object, init_code, test_code, last_code};
-ghost use Rattle.ec_lower_code.specs.Code.{loop_code, stmt_code, kind_code, stmts_code, temp};
+ghost use Rattle.ec_lower_code.specs.Code.{entry_code, loop_code, stmt_code, kind_code, stmts_code, temp};
 ghost use Rattle.ec_core.specs.Layout.{plain_leaf};
 
 use crate::branches::Branch;
@@ -117,25 +117,28 @@ fn lower_return(
     }
 }
 
-/// Those of a condition that may be absent; where it is 0 they jump to `out`.
+/// Those of the test of a loop with the labels `l`, for the test, to `l + 4`: they lead to the body where it holds.
 fn lower_test(
     code: &mut Seq<Ir>,
     alloc: Global,
     program: &Program,
     io: &IoTable,
     c: Option<&Expr>,
-    out: u64,
     l: u64,
-) -> Result<u64, NoMemory>
+) -> Result<(), NoMemory>
     requires { IsLaidOut (plain_program program.now) }
-    ensures next { IfOk result (λ m. m ≡ l + optional_labels (option_map plain_expr (option_copied c.entry))) }
-    ensures code { OnOk result (Emits code.old.items code.new.items
+    ensures { OnOk result (Emits code.old.items code.new.items
         (test_code (plain_program program.now) (plain_table io.now) (option_map plain_expr
-        (option_copied c.entry)) out l)) }
+        (option_copied c.entry)) l)) }
 {
+    let k = behind(l, 5)?;
     match c {
-        None => Ok(l),
-        Some(c) => lower_branch(code, alloc, program, io, c, l, 0, Branch::WhereZero(out)),
+        None => put_turn(code, l + 3, l + 1),
+        Some(c) => {
+            let to = Branch::WhereNot(l + 3, l + 4);
+            lower_branch(code, alloc, program, io, c, k, 0, to)?;
+            put(code, Ir::Label(l + 1))
+        }
     }
 }
 
@@ -162,27 +165,15 @@ fn lower_last(
     }
 }
 
-/// Those of a loop before its body, with the labels `l`, for the test, to `l + 3`.
-fn begin_loop(
-    code: &mut Seq<Ir>,
-    alloc: Global,
-    program: &Program,
-    io: &IoTable,
-    c: Option<&Expr>,
-    l: u64,
-) -> Result<u64, NoMemory>
-    requires { IsLaidOut (plain_program program.now) }
-    ensures next { IfOk result (λ m. m ≡ l + 4 + optional_labels (option_map plain_expr (option_copied c.entry))) }
-    ensures code { OnOk result (Emits code.old.items code.new.items (λ rest. label l
-        ∷ test_code (plain_program program.now) (plain_table io.now) (option_map plain_expr (option_copied c.entry))
-        (l + 1) (l + 4)
-        (label (l + 3) ∷ rest))) }
+/// Those of a loop before its turns: one with a condition begins with its test, at the label `l`.
+fn begin_loop(code: &mut Seq<Ir>, c: Option<&Expr>, l: u64) -> Result<(), NoMemory>
+    ensures { OnOk result (Emits code.old.items code.new.items
+        (entry_code (option_map plain_expr (option_copied c.entry)) l)) }
 {
-    let k = behind(l, 4)?;
-    put(code, Ir::Label(l))?;
-    let m = lower_test(code, alloc, program, io, c, l + 1, k)?;
-    put(code, Ir::Label(l + 3))?;
-    Ok(m)
+    match c {
+        None => Ok(()),
+        Some(_) => put(code, Ir::Jump(l)),
+    }
 }
 
 /// Those of a loop behind its body; the labels of the last part begin at `k`.
@@ -191,20 +182,22 @@ fn end_loop(
     alloc: Global,
     program: &Program,
     io: &IoTable,
+    c: Option<&Expr>,
     last: Option<&Expr>,
     l: u64,
     k: u64,
 ) -> Result<(), NoMemory>
     requires { IsLaidOut (plain_program program.now) }
-    ensures { OnOk result (Emits code.old.items code.new.items (λ rest. label (l + 2)
-        ∷ last_code (plain_program program.now) (plain_table io.now) (option_map plain_expr
-        (option_copied last.entry)) k
-        (jump l ∷ label (l + 1) ∷ rest))) }
+    ensures { OnOk result (Emits code.old.items code.new.items (λ rest. let program = plain_program program.now in
+        let table = plain_table io.now in
+        label (l + 2) ∷ last_code program table (option_map plain_expr (option_copied last.entry)) k
+        (label l ∷ test_code program table (option_map plain_expr (option_copied c.entry)) l rest))) }
 {
     let on = continue_label(l)?;
     put(code, Ir::Label(on))?;
     lower_last(code, alloc, program, io, last, k)?;
-    put_turn(code, l, l + 1)
+    put(code, Ir::Label(l))?;
+    lower_test(code, alloc, program, io, c, l)
 }
 
 // ---- statements
@@ -245,7 +238,7 @@ pub fn lower_stmt(
             Some(b) => lower_if_else(code, alloc, program, io, c, a, b, l, out, on),
         },
         StmtKind::While(c, body) => lower_loop(code, alloc, program, io, Some(c), None, body, l),
-        StmtKind::DoWhile(body, c) => lower_do(code, alloc, program, io, c, body, l),
+        StmtKind::DoWhile(body, c) => lower_turns(code, alloc, program, io, Some(c), None, body, l),
         StmtKind::For(first, c, last, body) => match first {
             None => lower_loop(code, alloc, program, io, c.as_ref(), last.as_ref(), body, l),
             Some(first) => lower_for(
@@ -354,31 +347,7 @@ fn lower_if_else(
     Ok(m)
 }
 
-/// Those of a `do`.
-#[cycle(lower)]
-fn lower_do(
-    code: &mut Seq<Ir>,
-    alloc: Global,
-    program: &Program,
-    io: &IoTable,
-    c: &Expr,
-    body: &Stmt,
-    l: u64,
-) -> Result<u64, NoMemory>
-    requires { IsLaidOut (plain_program program.now) }
-    ensures next { IfOk result (λ m. m ≡ l + 4 + expr_labels (plain_expr c.now) + stmt_labels (plain_stmt body.now)) }
-    ensures code { OnOk result (Emits code.old.items code.new.items (λ rest. jump (l + 3)
-        ∷ loop_code (plain_program program.now) (plain_table io.now) (Some (plain_expr c.now)) None l
-        (stmt_code (plain_program program.now) (plain_table io.now) (plain_stmt body.now) (l + 4 + expr_labels
-        (plain_expr c.now)) (l + 1)
-        (l + 2)) rest)) }
-{
-    let first = behind(l, 3)?;
-    put(code, Ir::Jump(first))?;
-    lower_loop(code, alloc, program, io, Some(c), None, body, l)
-}
-
-/// Those of a loop.
+/// Those of a loop that begins with its test, where it has one.
 #[cycle(lower)]
 fn lower_loop(
     code: &mut Seq<Ir>,
@@ -391,21 +360,50 @@ fn lower_loop(
     l: u64,
 ) -> Result<u64, NoMemory>
     requires { IsLaidOut (plain_program program.now) }
-    ensures next { IfOk result (λ m. m ≡ l + 4 + optional_labels (option_map plain_expr (option_copied c.entry))
+    ensures next { IfOk result (λ m. m ≡ l + 5 + optional_labels (option_map plain_expr (option_copied c.entry))
+        + optional_labels (option_map plain_expr (option_copied last.entry)) + stmt_labels (plain_stmt body.now)) }
+    ensures code { OnOk result (Emits code.old.items code.new.items (λ rest. let program = plain_program program.now in
+        let table = plain_table io.now in
+        let c = option_map plain_expr (option_copied c.entry) in
+        let last = option_map plain_expr (option_copied last.entry) in
+        entry_code c l (loop_code program table c last l (stmt_code program table (plain_stmt body.now)
+        (l + 5 + optional_labels c + optional_labels last) (l + 1) (l + 2)) rest))) }
+{
+    begin_loop(code, c, l)?;
+    lower_turns(code, alloc, program, io, c, last, body, l)
+}
+
+/// Those of a loop from its body on.
+#[cycle(lower)]
+fn lower_turns(
+    code: &mut Seq<Ir>,
+    alloc: Global,
+    program: &Program,
+    io: &IoTable,
+    c: Option<&Expr>,
+    last: Option<&Expr>,
+    body: &Stmt,
+    l: u64,
+) -> Result<u64, NoMemory>
+    requires { IsLaidOut (plain_program program.now) }
+    ensures next { IfOk result (λ m. m ≡ l + 5 + optional_labels (option_map plain_expr (option_copied c.entry))
         + optional_labels (option_map plain_expr (option_copied last.entry)) + stmt_labels (plain_stmt body.now)) }
     ensures code { OnOk result (Emits code.old.items code.new.items (let program = plain_program program.now in
         let table = plain_table io.now in
         let c = option_map plain_expr (option_copied c.entry) in
         let last = option_map plain_expr (option_copied last.entry) in
         loop_code program table c last l (stmt_code program table (plain_stmt body.now)
-        (l + 4 + optional_labels c + optional_labels last) (l + 1) (l + 2)))) }
+        (l + 5 + optional_labels c + optional_labels last) (l + 1) (l + 2)))) }
 {
-    let k = begin_loop(code, alloc, program, io, c, l)?;
+    let own = behind(l, 5)?;
+    let test = optional_labels(c)?;
+    let k = behind(own, test)?;
     let count = optional_labels(last)?;
     let first = behind(k, count)?;
     let on = continue_label(l)?;
+    put(code, Ir::Label(l + 3))?;
     let m = lower_stmt(code, alloc, program, io, body, first, l + 1, on)?;
-    end_loop(code, alloc, program, io, last, l, k)?;
+    end_loop(code, alloc, program, io, c, last, l, k)?;
     Ok(m)
 }
 

@@ -27,7 +27,7 @@ use Rattle.ec_lower_code.specs.Code.{params_of, offset_of, site, port_operator, 
 use Rattle.ec_lower_code.specs.Code.{operand_temp, access_code, pairs_code, group_code, bind_code, base_test, choices_code}
 use Rattle.ec_lower_code.specs.Code.{option_code, expr_labels}
 use Rattle.ec_lower_code.specs.Code.{optional_labels, option_stmt_labels, expr_code, node_code, place_code, args_code}
-use Rattle.ec_lower_code.specs.Code.{init_code, test_code, last_code, leaves_of_object, loop_code, stmt_code, kind_code}
+use Rattle.ec_lower_code.specs.Code.{init_code, test_code, entry_code, last_code, leaves_of_object, loop_code, stmt_code, kind_code}
 use Rattle.ec_lower_code.specs.Code.{option_stmt_code, stmts_code}
 use Rattle.ec_lower_code.specs.Code.{stepping_code, unread_code}
 use Rattle.ec_lower_code.specs.Code.{temp, Branch, where_zero, where_not, branch_to, opposite, and_end, or_end, branch_code}
@@ -232,10 +232,16 @@ module _ (program : PlainProgram) (table : PlainTable) (code : List PlainIr) whe
   init_behind (leaf ∷ ls) o last_expr l rest h = h
   init_behind (leaf ∷ ls) o (next_expr e es) l rest h = init_behind ls o es _ rest (behind code _ _ (expr_behind e l 0 _ h))
 
-  pub test_behind : (c : Option PlainExpr) (out l : ℕ) (rest : List PlainIr) → Stands code (test_code program table c out l rest)
+  -- the end of a loop behind its test, and what stands behind what it begins with
+  pub test_behind : (c : Option PlainExpr) (l : ℕ) (rest : List PlainIr) → Stands code (test_code program table c l rest)
+      → Stands code (label (l + 1) ∷ rest)
+  test_behind None l rest h = behind code _ _ h
+  test_behind (Some c) l rest h = branch_behind c (l + 5) 0 _ _ h
+
+  pub entry_behind : (c : Option PlainExpr) (l : ℕ) (rest : List PlainIr) → Stands code (entry_code c l rest)
       → Stands code rest
-  test_behind None out l rest h = h
-  test_behind (Some c) out l rest h = branch_behind c l 0 _ rest h
+  entry_behind None l rest h = h
+  entry_behind (Some c) l rest h = behind code _ _ h
 
   pub last_behind : (e : Option PlainExpr) (l : ℕ) (rest : List PlainIr) → Stands code (last_code program table e l rest) → Stands code rest
   last_behind None l rest h = h
@@ -245,8 +251,8 @@ module _ (program : PlainProgram) (table : PlainTable) (code : List PlainIr) whe
       → ((q : List PlainIr) → Stands code (body q) → Stands code q) → Stands code (loop_code program table c last l body rest)
       → Stands code rest
   loop_behind c last l body rest f h =
-      behind code _ rest (behind code _ _ (last_behind last _ _
-      (behind code _ _ (f _ (behind code _ _ (test_behind c _ _ _ (behind code _ _ h)))))))
+      behind code _ rest (test_behind c l rest (behind code _ _ (last_behind last _ _
+      (behind code _ _ (f _ (behind code _ _ h))))))
 
   mutual
     pub stmt_behind : (a : PlainStmt) (l out on : ℕ) (rest : List PlainIr) → Stands code (stmt_code program table a l out on rest)
@@ -264,14 +270,15 @@ module _ (program : PlainProgram) (table : PlainTable) (code : List PlainIr) whe
     kind_behind (branch c a (a_stmt b)) l out on rest h = behind code _ rest
         (stmt_behind b _ out on _ (behind code _ _ (behind code _ _
         (stmt_behind a _ out on _ (branch_behind c (l + 2) 0 _ _ h)))))
-    kind_behind (while_loop c a) l out on rest h = loop_behind (Some c) None l (λ q. stmt_code program table a (l + 4 + expr_labels c)
-        (l + 1) (l + 2) q) rest (λ q g. stmt_behind a (l + 4 + expr_labels c) (l + 1) (l + 2) q g) h
-    kind_behind (do_loop a c) l out on rest h = loop_behind (Some c) None l (λ q. stmt_code program table a (l + 4 + expr_labels c) (l + 1)
-        (l + 2) q) rest (λ q g. stmt_behind a (l + 4 + expr_labels c) (l + 1) (l + 2) q g) (behind code _ _ h)
+    kind_behind (while_loop c a) l out on rest h = loop_behind (Some c) None l (λ q. stmt_code program table a (l + 5 + expr_labels c)
+        (l + 1) (l + 2) q) rest (λ q g. stmt_behind a (l + 5 + expr_labels c) (l + 1) (l + 2) q g) (behind code _ _ h)
+    kind_behind (do_loop a c) l out on rest h = loop_behind (Some c) None l (λ q. stmt_code program table a (l + 5 + expr_labels c) (l + 1)
+        (l + 2) q) rest (λ q g. stmt_behind a (l + 5 + expr_labels c) (l + 1) (l + 2) q g) h
     kind_behind (for_loop first c last a) l out on rest h =
         let m = l + option_stmt_labels first in
-        loop_behind c last m (λ q. stmt_code program table a (m + 4 + optional_labels c + optional_labels last) (m + 1) (m + 2) q) rest
-        (λ q g. stmt_behind a (m + 4 + optional_labels c + optional_labels last) (m + 1) (m + 2) q g) (option_behind first l out on _ h)
+        loop_behind c last m (λ q. stmt_code program table a (m + 5 + optional_labels c + optional_labels last) (m + 1) (m + 2) q) rest
+        (λ q g. stmt_behind a (m + 5 + optional_labels c + optional_labels last) (m + 1) (m + 2) q g)
+        (entry_behind c m _ (option_behind first l out on _ h))
     kind_behind break_loop l out on rest h = behind code _ rest h
     kind_behind continue_loop l out on rest h = behind code _ rest h
     kind_behind (return_value None) l out on rest h = behind code _ rest h

@@ -390,7 +390,7 @@ module _ (wd : World) (depth : ℕ) (callee : Callee wd depth) (g : ℕ) (f : Pl
       finishes d body_code m q (not (body_returns f.body)) (λ e. end_is (body_returns f.body) e)
       (effect_of (set wd) (calls_to wd depth) wd.n f.body s)
       (body_ends (set wd) (calls_to wd depth) wd.n wd.program wd.io g f.returns f.body s function_is.body)
-      (stmt_runs wd inside returns_to f.body false 1 0 0 (d + 40) (label 0 ∷ q) q q
+      (stmt_runs wd inside returns_to f.body false 1 0 0 (d + 40) (label 0 ∷ q) q q (omega arith)
       (run_parts wd.program wd.io wd.valid g f is (inr other.1)) function_is.body all end end s m h st)
 
 -- ---- calls

@@ -63,8 +63,8 @@ use Rattle.ec_lower_code.proofs.Numeric.{IsNumeric}
 use Rattle.ec_lower_code.proofs.Callees.{IsOther, CallsOfExpr, CallsOfExprs, CallsOfNode, CallsOfPlace, CallsOfOption}
 use Rattle.ec_lower_code.proofs.Behind.{expr_behind, node_behind, unread_behind, branch_behind, place_behind, operand_behind}
 use Rattle.ec_lower_code.proofs.Ops.{to_rest, Below, HasValue, HasTest, IsSite, IsSpace, StandsAt, site_kept, field_runs}
-use Rattle.ec_lower_code.proofs.Ops.{copy_runs, null_runs, address_runs, constant_runs, label_comes, jumps, branch_on}
-use Rattle.ec_lower_code.proofs.Ops.{branch_off, unary_runs, conversion_runs, binary_runs, binary_above, test_runs}
+use Rattle.ec_lower_code.proofs.Ops.{copy_runs, null_runs, address_runs, constant_runs, label_comes, jumps, past_zero}
+use Rattle.ec_lower_code.proofs.Ops.{at_zero, unary_runs, conversion_runs, binary_runs, binary_above, test_runs}
 use Rattle.ec_lower_code.proofs.Ops.{read_runs, write_runs}
 use Rattle.ec_lower_code.proofs.Pays.{simple_pays, unary_pays, binary_pays, conversion_pays, not_pays, and_pays, choice_pays}
 use Rattle.ec_lower_code.proofs.Pays.{branch_cost, branch_most, not_leads, both_lead}
@@ -78,7 +78,7 @@ use Rattle.ec_lower_code.proofs.Tables.{port_operated, group_pairs}
 use Rattle.ec_lower_code.proofs.Scene.{World, ports, homes, set, calls_to, spot, law, apart, AreHeld, Scene}
 use Rattle.ec_lower_code.proofs.Shown.{shown, held_of, Match, Stopped}
 use Rattle.ec_lower_code.proofs.Steps.{Target, at, Stands, behind, Spot, around, here, Comes, Runs, stays, after, fewer, strengthened}
-use Rattle.ec_lower_code.proofs.Steps.{bind, onward, credited, spent_on, less, execs, comes_on}
+use Rattle.ec_lower_code.proofs.Steps.{bind, onward, credited, spent_on, less, execs, comes_on, Passes, passes_on, passes_come}
 
 -- ---- types
 
@@ -475,7 +475,7 @@ module _ (wd : World) (sc : Scene wd) where
     pub state : IsTypedState wd.program s
     pub comes : (s1 : State) (e : ℕ) → ((x : ℕ) → Match (homes wd) (ports wd) (around W) (d + x) s u
         → Match (homes wd) (ports wd) (around W) (e + w + x) s1 u)
-        → (v : Mach) × Match (homes wd) (ports wd) (around W) e s1 v × Below W t b v × Comes W (here W p) u (at (here W to)) v
+        → (v : Mach) × Match (homes wd) (ports wd) (around W) e s1 v × Below W t b v × Passes W (here W p) u (at (here W to)) v
 
   -- what the operations of a condition do, up to the branch that decides
   abbrev pub Branches : ℕ → List PlainIr → Mach → Branch → (away rest : List PlainIr) → (t d w : ℕ) → Temps → Outcome Bool → Type 0
@@ -485,10 +485,17 @@ module _ (wd : World) (sc : Scene wd) where
   Branches n p m to away rest t d w b (undefined point s) = ⊤
 
   -- over the branch, within what is here
+  pub leads_past : (t d e w : ℕ) (b : Temps) (to : List PlainIr) (s : State) (p : List PlainIr) (u : Mach) → e + w ≤ d
+      → Leads t d w b to s p u
+      → (v : Mach) × Match (homes wd) (ports wd) (around W) e s v × Below W t b v × Passes W (here W p) u (at (here W to)) v
+  leads_past t d e w b to s p u le h = h.comes s e (λ x k. less (homes wd) (ports wd) (d + x) (e + w + x) s u (omega (arith, le)) k)
+
   pub leads_on : (t d e w : ℕ) (b : Temps) (to : List PlainIr) (s : State) (p : List PlainIr) (u : Mach) → e + w ≤ d
       → Leads t d w b to s p u
       → (v : Mach) × Match (homes wd) (ports wd) (around W) e s v × Below W t b v × Comes W (here W p) u (at (here W to)) v
-  leads_on t d e w b to s p u le h = h.comes s e (λ x k. less (homes wd) (ports wd) (d + x) (e + w + x) s u (omega (arith, le)) k)
+  leads_on t d e w b to s p u le h =
+      let g = leads_past t d e w b to s p u le h in
+      (g.0, g.1, g.2, passes_come W (here W p) u (at (here W to)) g.0 g.3)
 
   -- what is here pays for the branch, or for a part of it
   less_leads : (t d y v w : ℕ) (b : Temps) (to : List PlainIr) (s : State) (p : List PlainIr) (u : Mach) → v ≤ w + y
@@ -510,7 +517,7 @@ module _ (wd : World) (sc : Scene wd) where
     state = h.state;
     comes = λ s1 e k.
         let g = h.comes s1 e k in
-        (g.0, g.1, g.2, comes_on W (here W p) (here W (label l ∷ to)) u g.0 g.0 (at (here W to)) g.3 (label_comes W l to g.0));
+        (g.0, g.1, g.2, passes_on W (here W p) (here W (label l ∷ to)) u g.0 g.0 (at (here W to)) g.3 (label_comes W l to g.0));
   }
 
   opposite_leads : (to : Branch) (l : ℕ) (h : Bool) (t d w : ℕ) (b : Temps) (away rest : List PlainIr) (s : State) (p : List PlainIr)
@@ -564,7 +571,7 @@ module _ (wd : World) (sc : Scene wd) where
           spent_on (homes wd) (ports wd) (e + branch_zero_words (scalar_size ty) + 0) e i u.temps s1 u (omega arith)
               (k 0 (less (homes wd) (ports wd) d (d + 0) s u (omega arith) r.test.match)),
           r.test.same,
-          branch_on W ty t to rest u r.test.tested r.test.value r.test.zero,
+          past_zero W ty t to rest u r.test.tested r.test.value r.test.zero,
         );
       }
   tested_leads (where_zero to) ty t d b false s u away rest stands f r =
@@ -577,7 +584,7 @@ module _ (wd : World) (sc : Scene wd) where
           spent_on (homes wd) (ports wd) (e + branch_zero_words (scalar_size ty) + 0) e i u.temps s1 u (omega arith)
               (k 0 (less (homes wd) (ports wd) d (d + 0) s u (omega arith) r.test.match)),
           r.test.same,
-          branch_off W ty t to rest away u r.test.tested f r.test.value r.test.zero,
+          at_zero W ty t to rest away u r.test.tested f r.test.value r.test.zero,
         );
       }
   tested_leads (where_not to past) ty t d b true s u away rest stands f r =
@@ -593,8 +600,8 @@ module _ (wd : World) (sc : Scene wd) where
               (spent_on (homes wd) (ports wd) (e + (branch_zero_words (scalar_size ty) + 5) + 0) (e + 5) i u.temps s1 u (omega arith)
               (k 0 (less (homes wd) (ports wd) d (d + 0) s u (omega arith) r.test.match))),
           r.test.same,
-          comes_on W (here W (i ∷ jump to ∷ label past ∷ rest)) (here W (jump to ∷ label past ∷ rest)) u u1 u2 (at (here W away))
-              (branch_on W ty t past (jump to ∷ label past ∷ rest) u r.test.tested r.test.value r.test.zero)
+          passes_on W (here W (i ∷ jump to ∷ label past ∷ rest)) (here W (jump to ∷ label past ∷ rest)) u u1 u2 (at (here W away))
+              (past_zero W ty t past (jump to ∷ label past ∷ rest) u r.test.tested r.test.value r.test.zero)
               (jumps W to (label past ∷ rest) away u1 f),
         );
       }
@@ -609,7 +616,7 @@ module _ (wd : World) (sc : Scene wd) where
           spent_on (homes wd) (ports wd) (e + (branch_zero_words (scalar_size ty) + 5) + 0) e i u.temps s1 u (omega arith)
               (k 0 (less (homes wd) (ports wd) d (d + 0) s u (omega arith) r.test.match)),
           r.test.same,
-          branch_off W ty t past (jump to ∷ label past ∷ rest) rest u r.test.tested other r.test.value r.test.zero,
+          at_zero W ty t past (jump to ∷ label past ∷ rest) rest u r.test.tested other r.test.value r.test.zero,
         );
       }
 

@@ -39,7 +39,7 @@ use Rattle.ec_lower_code.specs.Code.{offset_of, site, place_code, params_of, par
 use Rattle.ec_lower_code.specs.Code.{place_behind, operand_temp, access_code, pairs_code, group_code, bind_code, choices_code}
 use Rattle.ec_lower_code.specs.Code.{option_labels}
 use Rattle.ec_lower_code.specs.Code.{option_code, expr_labels, optional_labels, option_stmt_labels, stmt_labels, expr_code}
-use Rattle.ec_lower_code.specs.Code.{node_code, args_code, init_code, test_code, last_code, leaves_of_object, stmt_code}
+use Rattle.ec_lower_code.specs.Code.{node_code, args_code, init_code, test_code, entry_code, last_code, leaves_of_object, stmt_code}
 use Rattle.ec_lower_code.specs.Code.{kind_code, option_stmt_code, stmts_code, body_returns, end_of, end_code}
 use Rattle.ec_lower_code.specs.Code.{function_code, lowered_function, lowered}
 use Rattle.ec_lower_code.specs.Code.{stepping_code, unread_code}
@@ -346,11 +346,15 @@ module _ (program : PlainProgram) (table : IoTable) (f : ℕ) where
       let x = expr_fits e l 0 q v.0 in let y = init_fits ls o es (l + expr_labels e) rest v.1 in
       let z = simple_pays (scalar_size (type_of_expr e)) 1 in omega (arith, x, y, z)
 
-  test_fits : (c : Option PlainExpr) (out l : ℕ) (rest : List PlainIr) → ValidCondition program table f c
-      → code_words (test_code program (plain_table table) c out l rest) ≤ 30 + optional_weight (plain_table table) c + code_words rest
-  test_fits None out l rest v = omega arith
-  test_fits (Some c) out l rest v = let x = branch_fits c l 0 (where_zero out) rest v.0 in
+  test_fits : (c : Option PlainExpr) (l : ℕ) (rest : List PlainIr) → ValidCondition program table f c
+      → code_words (test_code program (plain_table table) c l rest) ≤ 35 + optional_weight (plain_table table) c + code_words rest
+  test_fits None l rest v = omega arith
+  test_fits (Some c) l rest v = let x = branch_fits c (l + 5) 0 (where_not (l + 3) (l + 4)) (label (l + 1) ∷ rest) v.0 in
       let y = (scalar_bytes (type_of_expr c) v.1).1 in omega (arith, x, y)
+
+  entry_fits : (c : Option PlainExpr) (l : ℕ) (rest : List PlainIr) → code_words (entry_code c l rest) ≤ 5 + code_words rest
+  entry_fits None l rest = omega arith
+  entry_fits (Some c) l rest = omega arith
 
   last_fits : (e : Option PlainExpr) (l : ℕ) (rest : List PlainIr) → ValidOptional program table f e
       → code_words (last_code program (plain_table table) e l rest) ≤ optional_weight (plain_table table) e + code_words rest
@@ -370,34 +374,35 @@ module _ (program : PlainProgram) (table : IoTable) (f : ℕ) where
       kind_fits (block ss) k l out on rest v = stmts_fits ss k l out on rest v
       kind_fits (declare o es) k l out on rest v = init_fits (leaves_of_object program o) o es l rest v.1
       kind_fits (branch c a no_stmt) k l out on rest v =
-          let x = test_fits (Some c) l (l + 2) (stmt_code program (plain_table table) a (l + 2 + expr_labels c) out on (label l ∷ rest))
-          v.0 in let y = stmt_fits a k (l + 2 + expr_labels c) out on (label l ∷ rest) v.1 in omega (arith, x, y)
+          let x = branch_fits c (l + 2) 0 (where_zero l) (stmt_code program (plain_table table) a (l + 2 + expr_labels c) out on
+          (label l ∷ rest)) v.0.0 in let s = (scalar_bytes (type_of_expr c) v.0.1).1 in
+          let y = stmt_fits a k (l + 2 + expr_labels c) out on (label l ∷ rest) v.1 in omega (arith, x, s, y)
       kind_fits (branch c a (a_stmt b)) k l out on rest v =
           let q : List PlainIr = jump (l + 1) ∷ label l ∷ stmt_code program (plain_table table) b (l + 2 + expr_labels c + stmt_labels a)
           out on (label (l + 1) ∷ rest) in
-          let x = test_fits (Some c) l (l + 2) (stmt_code program (plain_table table) a (l + 2 + expr_labels c) out on q) v.0 in
+          let x = branch_fits c (l + 2) 0 (where_zero l) (stmt_code program (plain_table table) a (l + 2 + expr_labels c) out on q) v.0.0
+          in let s = (scalar_bytes (type_of_expr c) v.0.1).1 in
           let y = stmt_fits a k (l + 2 + expr_labels c) out on q v.1 in let u = stmt_fits b k (l + 2 + expr_labels c + stmt_labels a)
-          out on (label (l + 1) ∷ rest) v.2 in omega (arith, x, y, u)
+          out on (label (l + 1) ∷ rest) v.2 in omega (arith, x, s, y, u)
       kind_fits (while_loop c a) k l out on rest v =
-          let q : List PlainIr = label (l + 2) ∷ jump l ∷ label (l + 1) ∷ rest in
-          let b : List PlainIr = label (l + 3) ∷ stmt_code program (plain_table table) a (l + 4 + expr_labels c) (l + 1) (l + 2) q in
-          let x = test_fits (Some c) (l + 1) (l + 4) b v.0 in let y = stmt_fits a true (l + 4 + expr_labels c) (l + 1) (l + 2) q v.1 in
+          let q : List PlainIr = label (l + 2) ∷ label l ∷ test_code program (plain_table table) (Some c) l rest in
+          let x = test_fits (Some c) l rest v.0 in let y = stmt_fits a true (l + 5 + expr_labels c) (l + 1) (l + 2) q v.1 in
           omega (arith, x, y)
       kind_fits (do_loop a c) k l out on rest v =
-          let q : List PlainIr = label (l + 2) ∷ jump l ∷ label (l + 1) ∷ rest in
-          let b : List PlainIr = label (l + 3) ∷ stmt_code program (plain_table table) a (l + 4 + expr_labels c) (l + 1) (l + 2) q in
-          let x = test_fits (Some c) (l + 1) (l + 4) b v.1 in let y = stmt_fits a true (l + 4 + expr_labels c) (l + 1) (l + 2) q v.0 in
+          let q : List PlainIr = label (l + 2) ∷ label l ∷ test_code program (plain_table table) (Some c) l rest in
+          let x = test_fits (Some c) l rest v.1 in let y = stmt_fits a true (l + 5 + expr_labels c) (l + 1) (l + 2) q v.0 in
           omega (arith, x, y)
       kind_fits (for_loop first c last a) k l0 out on rest v =
           let l = l0 + option_stmt_labels first in
-          let e : List PlainIr = jump l ∷ label (l + 1) ∷ rest in
-          let q : List PlainIr = label (l + 2) ∷ last_code program (plain_table table) last (l + 4 + optional_labels c) e in
-          let b : List PlainIr = label (l + 3) ∷ stmt_code program (plain_table table) a (l + 4 + optional_labels c + optional_labels last)
+          let e : List PlainIr = label l ∷ test_code program (plain_table table) c l rest in
+          let q : List PlainIr = label (l + 2) ∷ last_code program (plain_table table) last (l + 5 + optional_labels c) e in
+          let b : List PlainIr = label (l + 3) ∷ stmt_code program (plain_table table) a (l + 5 + optional_labels c + optional_labels last)
           (l + 1) (l + 2) q in
-          let g = option_fits first k l0 out on (label l ∷ test_code program (plain_table table) c (l + 1) (l + 4) b) v.0 in
-          let x = test_fits c (l + 1) (l + 4) b v.1 in
-          let y = stmt_fits a true (l + 4 + optional_labels c + optional_labels last) (l + 1) (l + 2) q v.3 in
-          let u = last_fits last (l + 4 + optional_labels c) e v.2 in omega (arith, g, x, y, u)
+          let g = option_fits first k l0 out on (entry_code c l b) v.0 in
+          let i = entry_fits c l b in
+          let x = test_fits c l rest v.1 in
+          let y = stmt_fits a true (l + 5 + optional_labels c + optional_labels last) (l + 1) (l + 2) q v.3 in
+          let u = last_fits last (l + 5 + optional_labels c) e v.2 in omega (arith, g, i, x, y, u)
       kind_fits break_loop k l out on rest v = omega arith
       kind_fits continue_loop k l out on rest v = omega arith
       kind_fits (return_value None) k l out on rest v = omega arith

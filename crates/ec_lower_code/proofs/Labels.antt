@@ -37,8 +37,8 @@ use Rattle.ec_lower_code.specs.Code.{read_from, write_to, place_behind, operand_
 use Rattle.ec_lower_code.specs.Code.{choices_code, option_labels}
 use Rattle.ec_lower_code.specs.Code.{option_code, expr_labels, node_labels, exprs_labels, optional_labels, stmt_labels}
 use Rattle.ec_lower_code.specs.Code.{kind_labels, option_stmt_labels, stmts_labels, expr_code, node_code, args_code, init_code}
-use Rattle.ec_lower_code.specs.Code.{test_code, last_code, leaves_of_object, stmt_code, kind_code, option_stmt_code, stmts_code}
-use Rattle.ec_lower_code.specs.Code.{body_returns, end_of, end_code, function_code}
+use Rattle.ec_lower_code.specs.Code.{test_code, entry_code, last_code, leaves_of_object, stmt_code, kind_code, option_stmt_code}
+use Rattle.ec_lower_code.specs.Code.{stmts_code, body_returns, end_of, end_code, function_code}
 use Rattle.ec_lower_code.specs.Code.{stepping_code, unread_code}
 use Rattle.ec_lower_code.specs.Code.{Branch, where_zero, where_not, branch_to, opposite, zero_label, other_label, and_end}
 use Rattle.ec_lower_code.specs.Code.{or_end, branch_code}
@@ -97,6 +97,11 @@ four_labels l j =
     let a : is_at (l + 1 + 1) j ≡ is_at (l + 2) j = ap (λ m. is_at m j) (omega arith) in
     let b : is_at (l + 1 + 1 + 1) j ≡ is_at (l + 3) j = ap (λ m. is_at m j) (omega arith) in
     omega (arith, a, b)
+
+five_labels : (l j : ℕ) → among 5 l j ≡ is_at l j + is_at (l + 1) j + is_at (l + 2) j + is_at (l + 3) j + is_at (l + 4) j
+five_labels l j =
+    let a = four_labels l j in let b = among_two 4 1 l j in let c : among 1 (l + 4) j ≡ is_at (l + 4) j = omega arith in
+    omega (arith, a, b, c)
 
 -- ---- labels that stand once are found
 
@@ -472,10 +477,15 @@ module _ (program : PlainProgram) (table : PlainTable) (few : HaveFewChoices tab
       (l + expr_labels e) rest) in let y = init_counts j ls o es (l + expr_labels e) rest in let z = among_two (expr_labels e)
       (exprs_labels es) l j in omega (arith, x, y, z)
 
-  test_counts : (j : ℕ) (c : Option PlainExpr) (out l : ℕ) (rest : List PlainIr) → count j (test_code program table c out l rest) ≤ among
-      (optional_labels c) l j + count j rest
-  test_counts j None out l rest = omega arith
-  test_counts j (Some c) out l rest = let x = branch_counts j c l 0 (where_zero out) rest in omega (arith, x)
+  test_counts : (j : ℕ) (c : Option PlainExpr) (l : ℕ) (rest : List PlainIr) → count j (test_code program table c l rest) ≤ is_at
+      (l + 1) j + is_at (l + 4) j + among (optional_labels c) (l + 5) j + count j rest
+  test_counts j None l rest = omega arith
+  test_counts j (Some c) l rest =
+      let x = branch_counts j c (l + 5) 0 (where_not (l + 3) (l + 4)) (label (l + 1) ∷ rest) in omega (arith, x)
+
+  entry_counts : (j : ℕ) (c : Option PlainExpr) (l : ℕ) (rest : List PlainIr) → count j (entry_code c l rest) ≡ count j rest
+  entry_counts j None l rest = refl
+  entry_counts j (Some c) l rest = refl
 
   last_counts : (j : ℕ) (e : Option PlainExpr) (l : ℕ) (rest : List PlainIr) → count j (last_code program table e l rest) ≤ among
       (optional_labels e) l j + count j rest
@@ -505,28 +515,29 @@ module _ (program : PlainProgram) (table : PlainTable) (few : HaveFewChoices tab
         let u = stmt_counts j b (l + 2 + expr_labels c + stmt_labels a) out on (label (l + 1) ∷ rest) in
         let z = among_four 2 (expr_labels c) (stmt_labels a) (stmt_labels b) l j in let v = two_labels l j in omega (arith, x, y, u, z, v)
     kind_counts j (while_loop c a) l out on rest =
-        let q : List PlainIr = label (l + 2) ∷ jump l ∷ label (l + 1) ∷ rest in
-        let b : List PlainIr = label (l + 3) ∷ stmt_code program table a (l + 4 + expr_labels c) (l + 1) (l + 2) q in
-        let x = test_counts j (Some c) (l + 1) (l + 4) b in let y = stmt_counts j a (l + 4 + expr_labels c) (l + 1) (l + 2) q in
-        let z = among_three 4 (expr_labels c) (stmt_labels a) l j in let v = four_labels l j in omega (arith, x, y, z, v)
+        let e : List PlainIr = label l ∷ test_code program table (Some c) l rest in
+        let x = test_counts j (Some c) l rest in
+        let y = stmt_counts j a (l + 5 + expr_labels c) (l + 1) (l + 2) (label (l + 2) ∷ e) in
+        let z = among_three 5 (expr_labels c) (stmt_labels a) l j in let v = five_labels l j in omega (arith, x, y, z, v)
     kind_counts j (do_loop a c) l out on rest =
-        let q : List PlainIr = label (l + 2) ∷ jump l ∷ label (l + 1) ∷ rest in
-        let b : List PlainIr = label (l + 3) ∷ stmt_code program table a (l + 4 + expr_labels c) (l + 1) (l + 2) q in
-        let x = test_counts j (Some c) (l + 1) (l + 4) b in let y = stmt_counts j a (l + 4 + expr_labels c) (l + 1) (l + 2) q in
-        let z = among_three 4 (expr_labels c) (stmt_labels a) l j in let v = four_labels l j in omega (arith, x, y, z, v)
+        let e : List PlainIr = label l ∷ test_code program table (Some c) l rest in
+        let x = test_counts j (Some c) l rest in
+        let y = stmt_counts j a (l + 5 + expr_labels c) (l + 1) (l + 2) (label (l + 2) ∷ e) in
+        let z = among_three 5 (expr_labels c) (stmt_labels a) l j in let v = five_labels l j in omega (arith, x, y, z, v)
     kind_counts j (for_loop first c last a) l0 out on rest =
         let l = l0 + option_stmt_labels first in
-        let e : List PlainIr = jump l ∷ label (l + 1) ∷ rest in
-        let q : List PlainIr = label (l + 2) ∷ last_code program table last (l + 4 + optional_labels c) e in
-        let b : List PlainIr = label (l + 3) ∷ stmt_code program table a (l + 4 + optional_labels c + optional_labels last) (l + 1)
+        let e : List PlainIr = label l ∷ test_code program table c l rest in
+        let q : List PlainIr = label (l + 2) ∷ last_code program table last (l + 5 + optional_labels c) e in
+        let b : List PlainIr = label (l + 3) ∷ stmt_code program table a (l + 5 + optional_labels c + optional_labels last) (l + 1)
         (l + 2) q in
-        let f = option_counts j first l0 out on (label l ∷ test_code program table c (l + 1) (l + 4) b) in
-        let x = test_counts j c (l + 1) (l + 4) b in
-        let y = stmt_counts j a (l + 4 + optional_labels c + optional_labels last) (l + 1) (l + 2) q in
-        let u = last_counts j last (l + 4 + optional_labels c) e in
-        let w = among_two (option_stmt_labels first) (4 + optional_labels c + optional_labels last + stmt_labels a) l0 j in
-        let z = among_four 4 (optional_labels c) (optional_labels last) (stmt_labels a) l j in let v = four_labels l j in
-        omega (arith, f, x, y, u, w, z, v)
+        let f = option_counts j first l0 out on (entry_code c l b) in
+        let g = entry_counts j c l b in
+        let x = test_counts j c l rest in
+        let y = stmt_counts j a (l + 5 + optional_labels c + optional_labels last) (l + 1) (l + 2) q in
+        let u = last_counts j last (l + 5 + optional_labels c) e in
+        let w = among_two (option_stmt_labels first) (5 + optional_labels c + optional_labels last + stmt_labels a) l0 j in
+        let z = among_four 5 (optional_labels c) (optional_labels last) (stmt_labels a) l j in let v = five_labels l j in
+        omega (arith, f, g, x, y, u, w, z, v)
     kind_counts j break_loop l out on rest = omega arith
     kind_counts j continue_loop l out on rest = omega arith
     kind_counts j (return_value None) l out on rest = omega arith

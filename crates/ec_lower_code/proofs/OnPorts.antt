@@ -36,8 +36,8 @@ use Rattle.ec_lower_code.specs.Code.{place_behind, operand_temp, access_code, pa
 use Rattle.ec_lower_code.specs.Code.{option_code, expr_labels}
 use Rattle.ec_lower_code.specs.Code.{optional_labels, option_stmt_labels, stmt_labels, expr_code, node_code, place_code}
 use Rattle.ec_lower_code.specs.Code.{args_code, init_code}
-use Rattle.ec_lower_code.specs.Code.{test_code, last_code, leaves_of_object, stmt_code, kind_code, option_stmt_code, stmts_code}
-use Rattle.ec_lower_code.specs.Code.{lowered_function, body_returns, end_of, end_code}
+use Rattle.ec_lower_code.specs.Code.{test_code, entry_code, last_code, leaves_of_object, stmt_code, kind_code, option_stmt_code}
+use Rattle.ec_lower_code.specs.Code.{stmts_code, lowered_function, body_returns, end_of, end_code}
 use Rattle.ec_lower_code.specs.Code.{stepping_code, unread_code}
 use Rattle.ec_lower_code.specs.Code.{Branch, where_zero, where_not, branch_to, opposite, zero_label, other_label, and_end}
 use Rattle.ec_lower_code.specs.Code.{or_end, branch_code}
@@ -341,10 +341,14 @@ module _ (program : PlainProgram) (table : IoTable) (valid : ValidIo table) (byt
       ∷ init_code program (plain_table table) ls o es (l + expr_labels e) rest) v.0
       (tt, init_on ls o es (l + expr_labels e) rest v.1 r)
 
-  test_on : (c : Option PlainExpr) (out l : ℕ) (rest : List PlainIr) → ValidCondition program table f c → AllOn rest
-      → AllOn (test_code program (plain_table table) c out l rest)
-  test_on None out l rest v r = r
-  test_on (Some c) out l rest v r = branches_on c l 0 (where_zero out) rest v.0 r
+  test_on : (c : Option PlainExpr) (l : ℕ) (rest : List PlainIr) → ValidCondition program table f c → AllOn rest
+      → AllOn (test_code program (plain_table table) c l rest)
+  test_on None l rest v r = (tt, (tt, r))
+  test_on (Some c) l rest v r = branches_on c (l + 5) 0 (where_not (l + 3) (l + 4)) (label (l + 1) ∷ rest) v.0 (tt, r)
+
+  entry_on : (c : Option PlainExpr) (l : ℕ) (rest : List PlainIr) → AllOn rest → AllOn (entry_code c l rest)
+  entry_on None l rest r = r
+  entry_on (Some c) l rest r = (tt, r)
 
   last_on : (e : Option PlainExpr) (l : ℕ) (rest : List PlainIr) → ValidOptional program table f e → AllOn rest
       → AllOn (last_code program (plain_table table) e l rest)
@@ -364,45 +368,32 @@ module _ (program : PlainProgram) (table : IoTable) (valid : ValidIo table) (byt
       kind_on (block ss) k l out on rest v r = stmts_on ss k l out on rest v r
       kind_on (declare o es) k l out on rest v r = init_on (leaves_of_object program o) o es l rest v.1 r
       kind_on (branch c a no_stmt) k l out on rest v r =
-          test_on (Some c) l (l + 2) (stmt_code program (plain_table table) a (l + 2 + expr_labels c) out on (label l ∷ rest)) v.0
+          branches_on c (l + 2) 0 (where_zero l)
+          (stmt_code program (plain_table table) a (l + 2 + expr_labels c) out on (label l ∷ rest)) v.0.0
           (stmt_on a k (l + 2 + expr_labels c) out on (label l ∷ rest) v.1 (tt, r))
       kind_on (branch c a (a_stmt b)) k l out on rest v r =
           let q : List PlainIr = jump (l + 1) ∷ label l
           ∷ stmt_code program (plain_table table) b (l + 2 + expr_labels c + stmt_labels a) out on (label (l + 1) ∷ rest) in
-          test_on (Some c) l (l + 2) (stmt_code program (plain_table table) a (l + 2 + expr_labels c) out on q) v.0
+          branches_on c (l + 2) 0 (where_zero l) (stmt_code program (plain_table table) a (l + 2 + expr_labels c) out on q) v.0.0
           (stmt_on a k (l + 2 + expr_labels c) out on q v.1
           (tt, (tt, stmt_on b k (l + 2 + expr_labels c + stmt_labels a) out on (label (l + 1) ∷ rest) v.2 (tt, r))))
       kind_on (while_loop c a) k l out on rest v r =
-          let q : List PlainIr = label (l + 2) ∷ jump l ∷ label (l + 1) ∷ rest in
-          let b : List PlainIr = label (l + 3) ∷ stmt_code program (plain_table table) a (l + 4 + expr_labels c) (l + 1) (l + 2) q in (
-            tt,
-            test_on (Some c) (l + 1) (l + 4) b v.0
-                (tt, stmt_on a true (l + 4 + expr_labels c) (l + 1) (l + 2) q v.1 (tt, (tt, (tt, r)))),
-          )
+          let q : List PlainIr = label (l + 2) ∷ label l ∷ test_code program (plain_table table) (Some c) l rest in
+          (tt, (tt, stmt_on a true (l + 5 + expr_labels c) (l + 1) (l + 2) q v.1 (tt, (tt, test_on (Some c) l rest v.0 r))))
       kind_on (do_loop a c) k l out on rest v r =
-          let q : List PlainIr = label (l + 2) ∷ jump l ∷ label (l + 1) ∷ rest in
-          let b : List PlainIr = label (l + 3) ∷ stmt_code program (plain_table table) a (l + 4 + expr_labels c) (l + 1) (l + 2) q in (
-            tt,
-            (
-              tt,
-              test_on (Some c) (l + 1) (l + 4) b v.1
-                  (tt, stmt_on a true (l + 4 + expr_labels c) (l + 1) (l + 2) q v.0 (tt, (tt, (tt, r)))),
-            ),
-          )
+          let q : List PlainIr = label (l + 2) ∷ label l ∷ test_code program (plain_table table) (Some c) l rest in
+          (tt, stmt_on a true (l + 5 + expr_labels c) (l + 1) (l + 2) q v.0 (tt, (tt, test_on (Some c) l rest v.1 r)))
       kind_on (for_loop first c last a) k l0 out on rest v r =
           let l = l0 + option_stmt_labels first in
-          let e : List PlainIr = jump l ∷ label (l + 1) ∷ rest in
-          let q : List PlainIr = label (l + 2) ∷ last_code program (plain_table table) last (l + 4 + optional_labels c) e in
+          let e : List PlainIr = label l ∷ test_code program (plain_table table) c l rest in
+          let q : List PlainIr = label (l + 2) ∷ last_code program (plain_table table) last (l + 5 + optional_labels c) e in
           let b : List PlainIr = label (l + 3)
-          ∷ stmt_code program (plain_table table) a (l + 4 + optional_labels c + optional_labels last) (l + 1) (l + 2) q in
-          option_on first k l0 out on (label l ∷ test_code program (plain_table table) c (l + 1) (l + 4) b) v.0 (
+          ∷ stmt_code program (plain_table table) a (l + 5 + optional_labels c + optional_labels last) (l + 1) (l + 2) q in
+          option_on first k l0 out on (entry_code c l b) v.0 (entry_on c l b (
             tt,
-            test_on c (l + 1) (l + 4) b v.1 (
-              tt,
-              stmt_on a true (l + 4 + optional_labels c + optional_labels last) (l + 1) (l + 2) q v.3
-                  (tt, last_on last (l + 4 + optional_labels c) e v.2 (tt, (tt, r))),
-            ),
-          )
+            stmt_on a true (l + 5 + optional_labels c + optional_labels last) (l + 1) (l + 2) q v.3
+                (tt, last_on last (l + 5 + optional_labels c) e v.2 (tt, test_on c l rest v.1 r)),
+          ))
       kind_on break_loop k l out on rest v r = (tt, r)
       kind_on continue_loop k l out on rest v r = (tt, r)
       kind_on (return_value None) k l out on rest v r = (tt, r)

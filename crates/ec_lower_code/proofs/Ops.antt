@@ -33,7 +33,8 @@ use Rattle.ec_lower_code.proofs.Numbers.{none, truth_zero}
 use Rattle.ec_lower_code.proofs.Objects.{store_one, AreAmong, among_more, kept_shown}
 use Rattle.ec_lower_code.proofs.Shown.{erased, shown, held_of, AreShown, Match}
 use Rattle.ec_lower_code.proofs.Steps.{held_at, held_below, held_above, held_is, held_as_is, Target, at, Spot, around, here, goes}
-use Rattle.ec_lower_code.proofs.Steps.{execs, Comes, Runs, stays, computes, counts, after, ends, spent_on, record_match}
+use Rattle.ec_lower_code.proofs.Steps.{execs, Comes, Passes, passes_come, Runs, stays, computes, passes, counts, after, ends}
+use Rattle.ec_lower_code.proofs.Steps.{spent_on, record_match}
 use Rattle.ec_lower_code.proofs.Values.{unary_shown, binary_shown, conversion_shown, moved_shown}
 
 module _ (w : Spot) where
@@ -146,20 +147,35 @@ module _ (w : Spot) where
       ∙ ap (λ c. if c then jump_to (find l w.code) (λ q u. execs w k q u) w.code w.stack (machine m.temps s1) else goes w k rest
       (machine m.temps s1)) z
 
+  -- it counts, whether it is taken or not
+  pub past_zero : (ty : PlainType) (t l : ℕ) (rest : List PlainIr) (m : Mach) (v : Value) → m.temps t ≡ Some (held_of ty v)
+      → is_zero (content_of (scalar_size ty) (shown v)) ≡ false
+      → Passes w (here w (branch_zero (temp t ty) l ∷ rest)) m (at (here w rest))
+      (machine m.temps (worked (op_steps (branch_zero (temp t ty) l)) m.state))
+  past_zero ty t l rest m v e z = passes w (branch_zero (temp t ty) l ∷ rest) (here w rest) m
+      (machine m.temps (worked (op_steps (branch_zero (temp t ty) l)) m.state)) (λ k. branch_end k ty t l rest m v false e z)
+
+  pub at_zero : (ty : PlainType) (t l : ℕ) (rest to : List PlainIr) (m : Mach) (v : Value) → find l w.code ≡ Some to
+      → m.temps t ≡ Some (held_of ty v) → is_zero (content_of (scalar_size ty) (shown v)) ≡ true
+      → Passes w (here w (branch_zero (temp t ty) l ∷ rest)) m (at (here w to))
+      (machine m.temps (worked (op_steps (branch_zero (temp t ty) l)) m.state))
+  at_zero ty t l rest to m v f e z =
+      let u : Mach = machine m.temps (worked (op_steps (branch_zero (temp t ty) l)) m.state) in
+      passes w (branch_zero (temp t ty) l ∷ rest) (here w to) m u
+      (λ k. branch_end k ty t l rest m v true e z ∙ ap (λ o. jump_to o (λ q u. execs w k q u) w.code w.stack u) f)
+
   pub branch_on : (ty : PlainType) (t l : ℕ) (rest : List PlainIr) (m : Mach) (v : Value) → m.temps t ≡ Some (held_of ty v)
       → is_zero (content_of (scalar_size ty) (shown v)) ≡ false → Comes w (here w (branch_zero (temp t ty) l ∷ rest)) m (at (here w rest))
       (machine m.temps (worked (op_steps (branch_zero (temp t ty) l)) m.state))
-  branch_on ty t l rest m v e z = counts w (branch_zero (temp t ty) l ∷ rest) (here w rest) m
-      (machine m.temps (worked (op_steps (branch_zero (temp t ty) l)) m.state)) (λ k. branch_end k ty t l rest m v false e z)
+  branch_on ty t l rest m v e z = passes_come w (here w (branch_zero (temp t ty) l ∷ rest)) m (at (here w rest))
+      (machine m.temps (worked (op_steps (branch_zero (temp t ty) l)) m.state)) (past_zero ty t l rest m v e z)
 
   pub branch_off : (ty : PlainType) (t l : ℕ) (rest to : List PlainIr) (m : Mach) (v : Value) → find l w.code ≡ Some to
       → m.temps t ≡ Some (held_of ty v) → is_zero (content_of (scalar_size ty) (shown v)) ≡ true
       → Comes w (here w (branch_zero (temp t ty) l ∷ rest)) m (at (here w to))
       (machine m.temps (worked (op_steps (branch_zero (temp t ty) l)) m.state))
-  branch_off ty t l rest to m v f e z =
-      let u : Mach = machine m.temps (worked (op_steps (branch_zero (temp t ty) l)) m.state) in
-      counts w (branch_zero (temp t ty) l ∷ rest) (here w to) m u
-      (λ k. branch_end k ty t l rest m v true e z ∙ ap (λ o. jump_to o (λ q u. execs w k q u) w.code w.stack u) f)
+  branch_off ty t l rest to m v f e z = passes_come w (here w (branch_zero (temp t ty) l ∷ rest)) m (at (here w to))
+      (machine m.temps (worked (op_steps (branch_zero (temp t ty) l)) m.state)) (at_zero ty t l rest to m v f e z)
 
   -- ---- values
 

@@ -1,6 +1,6 @@
 -- Operations on ports, each beside what the program does.
 use Rattle.std.proofs.Common.{◌≡◌, ℕ, zero, suc, ◌+◌, ◌*◌, ◌/◌, ◌%◌, ◌^◌, ◌<◌, ◌≤◌, ◌⊎◌, Bool, true, false, ℤ, pos, negsuc, List, [], ◌∷◌}
-use Rattle.std.proofs.Common.{◌++◌, length, Option, Some, None, Result, Ok, refl, sym, ap, ◌∙◌, subst, inl, inr, arith}
+use Rattle.std.proofs.Common.{length, Option, Some, None, Result, Ok, refl, sym, ap, ◌∙◌, subst, inl, inr, arith}
 use Rattle.std.specs.Prelude.{⊤, IsTrue, if◌then◌else◌, bit_and, bit_or, bit_xor, slice_index}
 use Rattle.std.specs.List.{AllByRecursion}
 use Rattle.std.proofs.Math.Nat.{mod-eq_of_lt, pow-suc}
@@ -25,7 +25,7 @@ use Rattle.ec_core.specs.PortAccesses.{next_byte, byte_read, bytes_read, number_
 use Rattle.ec_core.specs.PortAccesses.{port_accessed, pairs_written}
 use Rattle.ec_core.specs.PortOperations.{PortAction, reads, writes, updates}
 use Rattle.ec_core.specs.PortTable.{PlainPort, PlainTable}
-use Rattle.ec_core.specs.State.{Inputs, Event, In, Out, reads_of, GroupStates, State, worked, with_event, Outcome, got, undefined}
+use Rattle.ec_core.specs.State.{Inputs, In, Out, reads_of, GroupStates, State, worked, with_event, Outcome, got, undefined}
 use Rattle.ec_core.specs.State.{next}
 use Rattle.ec_core.specs.Typing.{unsigned_int, unsigned_long, type_of_expr, IsOperandIf, port_result}
 use Rattle.ec_core.specs.ValueTypes.{HasType, GiveBytes}

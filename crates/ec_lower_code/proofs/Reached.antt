@@ -33,7 +33,7 @@ use Rattle.ec_lower_code.specs.Code.{settled_code, address_code, change_code, po
 use Rattle.ec_lower_code.specs.Code.{place_code, params_of, params_code, port_operator, port_code, place_behind, operand_temp}
 use Rattle.ec_lower_code.specs.Code.{read_from, write_to, access_code, pairs_code, group_code, bind_code, choices_code}
 use Rattle.ec_lower_code.specs.Code.{option_code, expr_code, node_code, args_code}
-use Rattle.ec_lower_code.specs.Code.{init_code, test_code, last_code, leaves_of_object, stmt_code, kind_code, option_stmt_code}
+use Rattle.ec_lower_code.specs.Code.{init_code, test_code, entry_code, last_code, leaves_of_object, stmt_code, kind_code, option_stmt_code}
 use Rattle.ec_lower_code.specs.Code.{stmts_code, body_returns, end_of, function_code, lowered_function, lowered}
 use Rattle.ec_lower_code.specs.Code.{stepping_code, unread_code}
 use Rattle.ec_lower_code.specs.Code.{Branch, where_zero, where_not, branch_to, opposite, and_end, or_end, branch_code}
@@ -363,10 +363,15 @@ module _ (program : PlainProgram) (table : PlainTable) where
       either (expr_called e l 0 _ (exprs_calls es cs) g h) (λ x. inl x)
       (λ y. either (init_called ls o es _ rest cs g y) (λ z. inl (expr_more e (exprs_calls es cs) g z)) (λ z. inr z))
 
-  test_called : (c : Option PlainExpr) (out l : ℕ) (rest : List PlainIr) (cs : List ℕ) (g : ℕ)
-      → In (called_in (test_code program table c out l rest)) g → In (optional_calls c cs) g ⊎ In (called_in rest) g
-  test_called None out l rest cs g h = inr h
-  test_called (Some c) out l rest cs g h = branch_called c l 0 _ rest cs g h
+  test_called : (c : Option PlainExpr) (l : ℕ) (rest : List PlainIr) (cs : List ℕ) (g : ℕ)
+      → In (called_in (test_code program table c l rest)) g → In (optional_calls c cs) g ⊎ In (called_in rest) g
+  test_called None l rest cs g h = inr h
+  test_called (Some c) l rest cs g h = branch_called c (l + 5) 0 _ _ cs g h
+
+  entry_called : (c : Option PlainExpr) (l : ℕ) (rest : List PlainIr) (g : ℕ) → In (called_in (entry_code c l rest)) g
+      → In (called_in rest) g
+  entry_called None l rest g h = h
+  entry_called (Some c) l rest g h = h
 
   last_called : (e : Option PlainExpr) (l : ℕ) (rest : List PlainIr) (cs : List ℕ) (g : ℕ)
       → In (called_in (last_code program table e l rest)) g → In (optional_calls e cs) g ⊎ In (called_in rest) g
@@ -393,20 +398,20 @@ module _ (program : PlainProgram) (table : PlainTable) where
         (λ z. either (stmt_called b _ out on _ cs g z) (λ u. inl (expr_more c (stmt_calls a (stmt_calls b cs)) g
         (stmt_more a (stmt_calls b cs) g u))) (λ u. inr u)))
     kind_called (while_loop c a) l out on rest cs g h =
-        either (test_called (Some c) _ _ _ (stmt_calls a cs) g h) (λ x. inl x)
-        (λ y. either (stmt_called a _ _ _ _ cs g y) (λ z. inl (expr_more c (stmt_calls a cs) g z)) (λ z. inr z))
+        either (stmt_called a _ _ _ _ cs g h) (λ x. inl (expr_more c (stmt_calls a cs) g x))
+        (λ y. either (test_called (Some c) _ _ (stmt_calls a cs) g y) (λ z. inl z) (λ z. inr z))
     kind_called (do_loop a c) l out on rest cs g h =
-        either (test_called (Some c) _ _ _ cs g h) (λ x. inl (stmt_more a (expr_calls c cs) g x))
-        (λ y. either (stmt_called a _ _ _ _ (expr_calls c cs) g y) (λ z. inl z) (λ z. inr z))
+        either (stmt_called a _ _ _ _ (expr_calls c cs) g h) (λ x. inl x)
+        (λ y. either (test_called (Some c) _ _ cs g y) (λ z. inl (stmt_more a (expr_calls c cs) g z)) (λ z. inr z))
     kind_called (for_loop first c last a) l out on rest cs g h =
         let in_last = optional_calls last (stmt_calls a cs) in
         let in_test = optional_calls c in_last in
         either (option_called first l out on _ in_test g h) (λ x. inl x)
-        (λ y. either (test_called c _ _ _ in_last g y) (λ z. inl (option_stmt_more first in_test g z))
-        (λ z. either (stmt_called a _ _ _ _ cs g z) (λ u. inl (option_stmt_more first in_test g
-        (optional_more c in_last g (optional_more last (stmt_calls a cs) g u))))
-        (λ u. either (last_called last _ _ (stmt_calls a cs) g u)
-        (λ x. inl (option_stmt_more first in_test g (optional_more c in_last g x))) (λ x. inr x))))
+        (λ y. either (stmt_called a _ _ _ _ cs g (entry_called c _ _ g y)) (λ z. inl (option_stmt_more first in_test g
+        (optional_more c in_last g (optional_more last (stmt_calls a cs) g z))))
+        (λ z. either (last_called last _ _ (stmt_calls a cs) g z)
+        (λ u. inl (option_stmt_more first in_test g (optional_more c in_last g u)))
+        (λ u. either (test_called c _ _ in_last g u) (λ x. inl (option_stmt_more first in_test g x)) (λ x. inr x))))
     kind_called break_loop l out on rest cs g h = inr h
     kind_called continue_loop l out on rest cs g h = inr h
     kind_called (return_value None) l out on rest cs g h = inr h

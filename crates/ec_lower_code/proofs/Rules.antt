@@ -23,12 +23,12 @@ use Rattle.ec_core.proofs.TypedValues.{some_and}
 use Rattle.ec_ir.specs.Operations.{PlainIr, store_object, label, jump, return_from, idle_function, data_of}
 use Rattle.ec_ir.specs.Valid.{count, called_in, HasLeafOf, IsParameterOf, ValidOperation, ValidIrFunction, ValidIr}
 use Rattle.ec_lower_code.specs.Code.{temp, expr_labels, optional_labels, option_stmt_labels, stmt_labels, expr_code, init_code}
-use Rattle.ec_lower_code.specs.Code.{test_code, last_code, leaves_of_object, loop_code, stmt_code, kind_code, option_stmt_code}
-use Rattle.ec_lower_code.specs.Code.{stmts_code, body_returns, end_of, end_code, function_code, lowered_function, lowered}
+use Rattle.ec_lower_code.specs.Code.{test_code, entry_code, last_code, leaves_of_object, loop_code, stmt_code, kind_code}
+use Rattle.ec_lower_code.specs.Code.{option_stmt_code, stmts_code, body_returns, end_of, end_code, function_code, lowered_function, lowered}
 use Rattle.ec_lower_code.specs.Code.{unread_code}
-use Rattle.ec_lower_code.specs.Code.{where_zero, branch_code}
+use Rattle.ec_lower_code.specs.Code.{Branch, where_zero, where_not, branch_label, branch_code}
 use Rattle.ec_lower_code.specs.Correct.{GroupsHaveBytes}
-use Rattle.ec_lower_code.proofs.Behind.{expr_behind, branch_behind, test_behind, last_behind, stmt_behind, option_behind}
+use Rattle.ec_lower_code.proofs.Behind.{expr_behind, branch_behind, test_behind, entry_behind, last_behind, stmt_behind, option_behind}
 use Rattle.ec_lower_code.proofs.Facts.{result_scalar, leaves_are}
 use Rattle.ec_lower_code.proofs.Labels.{function_counts}
 use Rattle.ec_lower_code.proofs.Reached.{reached_source}
@@ -113,17 +113,18 @@ module _ (program : PlainProgram) (table : IoTable) (valid : Valid program table
           (subst (λ (q : List PlainLeaf). Stands all (init_code program (plain_table table) q o es l rest)) g s) r)
 
   -- a branch on a condition
-  condition_ok : (c : PlainExpr) (l out : ℕ) (rest : List PlainIr) → ValidCondition program table f (Some c) → expr_need c ≤ slots
-      → count out all ≡ 1 → Stands all (branch_code program (plain_table table) c l 0 (where_zero out) rest)
-      → Good rest → Good (branch_code program (plain_table table) c l 0 (where_zero out) rest)
-  condition_ok c l out rest v le h s r =
-      branch_ok program table valid pairs f slots all once c l 0 (where_zero out) rest v.0 (omega (arith, le)) v.1 h s r
+  condition_ok : (c : PlainExpr) (l : ℕ) (to : Branch) (rest : List PlainIr) → ValidCondition program table f (Some c)
+      → expr_need c ≤ slots → count (branch_label to) all ≡ 1 → Stands all (branch_code program (plain_table table) c l 0 to rest)
+      → Good rest → Good (branch_code program (plain_table table) c l 0 to rest)
+  condition_ok c l to rest v le h s r =
+      branch_ok program table valid pairs f slots all once c l 0 to rest v.0 (omega (arith, le)) v.1 h s r
 
-  test_ok : (c : Option PlainExpr) (out l : ℕ) (rest : List PlainIr) → ValidCondition program table f c → option_need c ≤ slots
-      → count out all ≡ 1 → Stands all (test_code program (plain_table table) c out l rest) → Good rest
-      → Good (test_code program (plain_table table) c out l rest)
-  test_ok None out l rest v le h s r = r
-  test_ok (Some c) out l rest v le h s r = condition_ok c l out rest v le h s r
+  test_ok : (c : Option PlainExpr) (l : ℕ) (rest : List PlainIr) → ValidCondition program table f c → option_need c ≤ slots
+      → count (l + 3) all ≡ 1 → Stands all (test_code program (plain_table table) c l rest) → Good rest
+      → Good (test_code program (plain_table table) c l rest)
+  test_ok None l rest v le h s r = (h, (tt, r))
+  test_ok (Some c) l rest v le h s r =
+      condition_ok c (l + 5) (where_not (l + 3) (l + 4)) (label (l + 1) ∷ rest) v le h s (tt, r)
 
   last_ok : (e : Option PlainExpr) (l : ℕ) (rest : List PlainIr) → ValidOptional program table f e → option_need e ≤ slots
       → Stands all (last_code program (plain_table table) e l rest) → Good rest → Good (last_code program (plain_table table) e l rest)
@@ -136,28 +137,30 @@ module _ (program : PlainProgram) (table : IoTable) (valid : Valid program table
         → ((q : List PlainIr) → Stands all (body q) → Stands all q) → ((q : List PlainIr) → count (l + 1) all ≡ 1 → count (l + 2) all ≡ 1
         → Stands all (body q) → Good q → Good (body q))
         → ValidCondition program table f c → option_need c ≤ slots → ValidOptional program table f last → option_need last ≤ slots
-        → Stands all (loop_code program (plain_table table) c last l body rest) → Good rest → (count (l + 3) all ≡ 1) × Good
+        → Stands all (loop_code program (plain_table table) c last l body rest) → Good rest → (count l all ≡ 1) × Good
         (loop_code program (plain_table table) c last l body rest)
     loop_ok c last l body rest behind_body body_ok vc lc vl ll s r =
-        let end : List PlainIr = jump l ∷ label (l + 1) ∷ rest in
-        let q : List PlainIr = label (l + 2) ∷ last_code program (plain_table table) last (l + 4 + optional_labels c) end in
-        let t = test_code program (plain_table table) c (l + 1) (l + 4) (label (l + 3) ∷ body q) in
-        let s1 = behind all (label l) t s in
-        let s2 = test_behind program (plain_table table) all c (l + 1) (l + 4) (label (l + 3) ∷ body q) s1 in
-        let s3 = behind all (label (l + 3)) (body q) s2 in
-        let s4 = behind_body q s3 in
-        let s5 = behind all (label (l + 2)) (last_code program (plain_table table) last (l + 4 + optional_labels c) end) s4 in
-        let s6 = behind all (jump l) (label (l + 1) ∷ rest) (last_behind program (plain_table table) all last (l + 4 + optional_labels c)
-        end s5) in
-        let at_end = one (l + 1) rest s6 in
-        let on = one (l + 2) (last_code program (plain_table table) last (l + 4 + optional_labels c) end) s4 in (
-          one (l + 3) (body q) s2,
+        let test = test_code program (plain_table table) c l rest in
+        let end : List PlainIr = label l ∷ test in
+        let p = last_code program (plain_table table) last (l + 5 + optional_labels c) end in
+        let q : List PlainIr = label (l + 2) ∷ p in
+        let s1 = behind all (label (l + 3)) (body q) s in
+        let s2 = behind_body q s1 in
+        let s3 = behind all (label (l + 2)) p s2 in
+        let s4 = last_behind program (plain_table table) all last (l + 5 + optional_labels c) end s3 in
+        let s5 = behind all (label l) test s4 in
+        let at_end = one (l + 1) rest (test_behind program (plain_table table) all c l rest s5) in (
+          one l test s4,
           (
             tt,
-            test_ok c (l + 1) (l + 4) (label (l + 3) ∷ body q) vc lc at_end s1
-                (tt, body_ok q at_end on s3 (tt, last_ok last (l + 4 + optional_labels c) end vl ll s5 (one l t s, (tt, r)))),
+            body_ok q at_end (one (l + 2) p s2) s1
+                (tt, last_ok last (l + 5 + optional_labels c) end vl ll s3 (tt, test_ok c l rest vc lc (one (l + 3) (body q) s) s5 r)),
           ),
         )
+
+    entry_ok : (c : Option PlainExpr) (l : ℕ) (rest : List PlainIr) → (count l all ≡ 1) × Good rest → Good (entry_code c l rest)
+    entry_ok None l rest h = h.1
+    entry_ok (Some c) l rest h = (h.0, h.1)
 
     mutual
       stmt_ok : (a : PlainStmt) (in_loop : Bool) (l lo lc : ℕ) (rest : List PlainIr) → ValidStmt program table f returns in_loop a
@@ -177,7 +180,7 @@ module _ (program : PlainProgram) (table : IoTable) (valid : Valid program table
           let ac = stmt_code program (plain_table table) a (l + 2 + expr_labels c) lo lc (label l ∷ rest) in
           let s1 = branch_behind program (plain_table table) all c (l + 2) 0 (where_zero l) ac s in
           let s2 = stmt_behind program (plain_table table) all a (l + 2 + expr_labels c) lo lc (label l ∷ rest) s1 in
-          condition_ok c (l + 2) l ac v.0 (omega (arith, le)) (one l rest s2) s
+          condition_ok c (l + 2) (where_zero l) ac v.0 (omega (arith, le)) (one l rest s2) s
           (stmt_ok a in_loop (l + 2 + expr_labels c) lo lc (label l ∷ rest) v.1 (omega (arith, le)) go gc s1 (tt, r))
       kind_ok (branch c a (a_stmt b)) in_loop l lo lc rest v le go gc s r =
           let lb = l + 2 + expr_labels c + stmt_labels a in
@@ -189,31 +192,31 @@ module _ (program : PlainProgram) (table : IoTable) (valid : Valid program table
           s1) in
           let s3 = behind all (label l) bc s2 in
           let s4 = stmt_behind program (plain_table table) all b lb lo lc (label (l + 1) ∷ rest) s3 in
-          condition_ok c (l + 2) l ac v.0 (omega (arith, le)) (one l bc s2) s
+          condition_ok c (l + 2) (where_zero l) ac v.0 (omega (arith, le)) (one l bc s2) s
           (stmt_ok a in_loop (l + 2 + expr_labels c) lo lc q v.1 (omega (arith, le)) go gc s1
           (one (l + 1) rest s4, (tt, stmt_ok b in_loop lb lo lc (label (l + 1) ∷ rest) v.2 (omega (arith, le)) go gc s3 (tt, r))))
       kind_ok (while_loop c a) in_loop l lo lc rest v le go gc s r =
-          (loop_ok (Some c) None l (λ q. stmt_code program (plain_table table) a (l + 4 + expr_labels c) (l + 1) (l + 2) q) rest
-          (λ q h. stmt_behind program (plain_table table) all a (l + 4 + expr_labels c) (l + 1) (l + 2) q h)
-          (λ q x y h g. stmt_ok a true (l + 4 + expr_labels c) (l + 1) (l + 2) q v.1 (omega (arith, le)) x y h g) v.0 (omega (arith, le)) tt
-          (omega arith) s r).1
-      kind_ok (do_loop a c) in_loop l lo lc rest v le go gc s r =
-          let h = loop_ok (Some c) None l (λ q. stmt_code program (plain_table table) a (l + 4 + expr_labels c) (l + 1) (l + 2) q) rest
-          (λ q h. stmt_behind program (plain_table table) all a (l + 4 + expr_labels c) (l + 1) (l + 2) q h)
-          (λ q x y h g. stmt_ok a true (l + 4 + expr_labels c) (l + 1) (l + 2) q v.0 (omega (arith, le)) x y h g) v.1 (omega (arith, le)) tt
-          (omega arith) (behind all (jump (l + 3)) _ s) r in
+          let h = loop_ok (Some c) None l (λ q. stmt_code program (plain_table table) a (l + 5 + expr_labels c) (l + 1) (l + 2) q) rest
+          (λ q h. stmt_behind program (plain_table table) all a (l + 5 + expr_labels c) (l + 1) (l + 2) q h)
+          (λ q x y h g. stmt_ok a true (l + 5 + expr_labels c) (l + 1) (l + 2) q v.1 (omega (arith, le)) x y h g) v.0 (omega (arith, le)) tt
+          (omega arith) (behind all (jump l) _ s) r in
           (h.0, h.1)
+      kind_ok (do_loop a c) in_loop l lo lc rest v le go gc s r =
+          (loop_ok (Some c) None l (λ q. stmt_code program (plain_table table) a (l + 5 + expr_labels c) (l + 1) (l + 2) q) rest
+          (λ q h. stmt_behind program (plain_table table) all a (l + 5 + expr_labels c) (l + 1) (l + 2) q h)
+          (λ q x y h g. stmt_ok a true (l + 5 + expr_labels c) (l + 1) (l + 2) q v.0 (omega (arith, le)) x y h g) v.1 (omega (arith, le)) tt
+          (omega arith) s r).1
       kind_ok (for_loop first c last a) in_loop l lo lc rest v le go gc s r =
           let k = l + option_stmt_labels first in
           let body : List PlainIr → List PlainIr = λ q. stmt_code program (plain_table table) a
-          (k + 4 + optional_labels c + optional_labels last) (k + 1) (k + 2) q in
+          (k + 5 + optional_labels c + optional_labels last) (k + 1) (k + 2) q in
           let loop = loop_code program (plain_table table) c last k body rest in
-          let s1 = option_behind program (plain_table table) all first l lo lc loop s in
-          option_ok first in_loop l lo lc loop v.0 (omega (arith, le)) go gc s
-          (loop_ok c last k body rest (λ q h. stmt_behind program (plain_table table) all a
-          (k + 4 + optional_labels c + optional_labels last) (k + 1) (k + 2) q h)
-          (λ q x y h g. stmt_ok a true (k + 4 + optional_labels c + optional_labels last) (k + 1) (k + 2) q v.3 (omega (arith, le)) x y h g)
-          v.1 (omega (arith, le)) v.2 (omega (arith, le)) s1 r).1
+          let s1 = option_behind program (plain_table table) all first l lo lc (entry_code c k loop) s in
+          option_ok first in_loop l lo lc (entry_code c k loop) v.0 (omega (arith, le)) go gc s
+          (entry_ok c k loop (loop_ok c last k body rest (λ q h. stmt_behind program (plain_table table) all a
+          (k + 5 + optional_labels c + optional_labels last) (k + 1) (k + 2) q h)
+          (λ q x y h g. stmt_ok a true (k + 5 + optional_labels c + optional_labels last) (k + 1) (k + 2) q v.3 (omega (arith, le)) x y h g)
+          v.1 (omega (arith, le)) v.2 (omega (arith, le)) (entry_behind program (plain_table table) all c k loop s1) r))
       kind_ok break_loop in_loop l lo lc rest v le go gc s r = (go, r)
       kind_ok continue_loop in_loop l lo lc rest v le go gc s r = (gc, r)
       kind_ok (return_value None) in_loop l lo lc rest v le go gc s r = (tt, r)

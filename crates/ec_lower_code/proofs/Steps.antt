@@ -114,6 +114,10 @@ module _ (w : Spot) where
   pub record Comes (p : Place) (m : Mach) (to : Target) (u : Mach) : Type 0 where
     pub by : (k : ℕ) → (j : ℕ) × (k ≤ j) × Stops (execs j p m) (resume k to u)
 
+  -- and makes an operation on its way that counts
+  pub record Passes (p : Place) (m : Mach) (to : Target) (u : Mach) : Type 0 where
+    pub by : (k : ℕ) → (j : ℕ) × (suc k ≤ j) × Stops (execs j p m) (resume k to u)
+
   -- what the operations do, of which the source tells an outcome: R holds where a value is, or they go on
   abbrev pub Does : {A : Type 0} → ℕ → Place → Mach → (A → Target) → (A → State → Mach → Type 0) → Outcome A → Type 0
   Does n p m to R (got a s) = (u : Mach) × R a s u × Comes p m (to a) u
@@ -132,6 +136,15 @@ module _ (w : Spot) where
         (x.0, omega (arith, x.1, y.1), stops_on _ _ _ x.2 y.2);
   }
 
+  pub passes_on : (p q : Place) (m u v : Mach) (to : Target) → Passes p m (at q) u → Comes q u to v → Passes p m to v
+  passes_on p q m u v to a b = record {
+    by = λ k. let y = b.by k in let x = a.by y.0 in
+        (x.0, omega (arith, x.1, y.1), stops_on _ _ _ x.2 y.2);
+  }
+
+  pub passes_come : (p : Place) (m : Mach) (to : Target) (u : Mach) → Passes p m to u → Comes p m to u
+  passes_come p m to u a = record { by = λ k. let x = a.by k in (x.0, omega (arith, x.1), x.2) }
+
   -- an operation that computes, or a label
   pub computes : (i : PlainIr) (rest : List PlainIr) (m u : Mach) → ((k : ℕ) → goes (suc k) (i ∷ rest) m ≡ goes (suc k) rest u)
       → m.state.objects ≡ u.state.objects → m.state.events ≡ u.state.events → m.state.work ≤ u.state.work → Comes (here (i ∷ rest)) m
@@ -143,8 +156,12 @@ module _ (w : Spot) where
       by_fuel (suc k) = (suc k, omega arith, same (c k))
 
   -- an operation that counts
+  pub passes : (rest : List PlainIr) (q : Place) (m u : Mach) → ((k : ℕ) → goes (suc k) rest m ≡ execs k q u)
+      → Passes (here rest) m (at q) u
+  passes rest q m u c = record { by = λ k. (suc k, omega arith, same (c k)) }
+
   pub counts : (rest : List PlainIr) (q : Place) (m u : Mach) → ((k : ℕ) → goes (suc k) rest m ≡ execs k q u) → Comes (here rest) m (at q) u
-  counts rest q m u c = record { by = λ k. (suc k, omega arith, same (c k)) }
+  counts rest q m u c = passes_come (here rest) m (at q) u (passes rest q m u c)
 
   sooner_match : (s : State) (u : Mach) (t r : State) → stop u.state ≡ stop r → t.events ≡ r.events → t.work ≤ r.work
       → Stopped s u → Stopped s (machine u.temps t)
@@ -167,12 +184,13 @@ module _ (w : Spot) where
     after n p q m u (more s) c d = let x = c.by d.0 in stopped n p m s d.1 x.0 (execs d.0 q u) (omega (arith, x.1, d.2)) d.3 x.2 d.4
     after n p q m u (undefined point s) c d = tt
 
-    -- one operation that counts
-    pub after_step : (n : ℕ) (rest : List PlainIr) (q : Place) (m u : Mach) (o : Outcome A) → ((k : ℕ) → goes (suc k) rest m ≡ execs k q u)
-        → Does n q u to R o → Does (suc n) (here rest) m to R o
-    after_step n rest q m u (got a s) c d = (d.0, d.1, comes_on (here rest) q m u d.0 (to a) (counts rest q m u c) d.2)
-    after_step n rest q m u (more s) c d = (suc d.0, d.1, omega (arith, d.2), d.3, c d.0 ∙ d.4)
-    after_step n rest q m u (undefined point s) c d = tt
+    -- operations of which one counts
+    pub after_pass : (n : ℕ) (p q : Place) (m u : Mach) (o : Outcome A) → Passes p m (at q) u → Does n q u to R o
+        → Does (suc n) p m to R o
+    after_pass n p q m u (got a s) c d = (d.0, d.1, comes_on p q m u d.0 (to a) (passes_come p m (at q) u c) d.2)
+    after_pass n p q m u (more s) c d =
+        let x = c.by d.0 in stopped (suc n) p m s d.1 x.0 (execs d.0 q u) (omega (arith, x.1, d.2)) d.3 x.2 d.4
+    after_pass n p q m u (undefined point s) c d = tt
 
     pub fewer : (n k : ℕ) (p : Place) (m : Mach) (o : Outcome A) → k ≤ n → Does n p m to R o → Does k p m to R o
     fewer n k p m (got a s) le d = d

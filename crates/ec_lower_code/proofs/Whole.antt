@@ -266,7 +266,7 @@ module _ (wd : World) (main : PlainFunction) (is : slice_get wd.program.function
         (effect_of (set wd) (calls_to wd deep) wd.n main.body (worked function_words s))
         (body_ends (set wd) (calls_to wd deep) wd.n wd.program wd.io wd.program.main main.returns main.body (worked function_words s)
         function_is.body)
-        (stmt_runs wd inside returns_to main.body false 1 0 0 40 (label 0 ∷ q) q q
+        (stmt_runs wd inside returns_to main.body false 1 0 0 40 (label 0 ∷ q) q q (omega arith)
         (run_parts wd.program wd.io wd.valid wd.program.main main is (inl refl))
         (subst (λ (ty : PlainType). ValidStmt wd.program wd.io wd.program.main ty false main.body) returns function_is.body) all end end
         (worked function_words s) m (credited (homes wd) (ports wd) 40 0 s m h) st))))

@@ -84,6 +84,11 @@ abbrev pub or_end : Branch → (l : ℕ) → List PlainIr → List PlainIr
 or_end (where_zero to) l rest = label l ∷ rest
 or_end (where_not to past) l rest = rest
 
+-- a loop whose test is at the label l begins with it, and one without a condition with its body
+abbrev pub entry_code : Option PlainExpr → (l : ℕ) → List PlainIr → List PlainIr
+entry_code None l rest = rest
+entry_code (Some c) l rest = jump l ∷ rest
+
 -- a void expression has no temporary
 abbrev pub result_temp : ℕ → PlainType → Option Temp
 result_temp t void = None
@@ -145,10 +150,10 @@ abbrev mutual
   kind_labels (block ss) = stmts_labels ss
   kind_labels (declare o values) = exprs_labels values
   kind_labels (branch c a b) = 2 + expr_labels c + stmt_labels a + option_stmt_labels b
-  kind_labels (while_loop c body) = 4 + expr_labels c + stmt_labels body
-  kind_labels (do_loop body c) = 4 + expr_labels c + stmt_labels body
+  kind_labels (while_loop c body) = 5 + expr_labels c + stmt_labels body
+  kind_labels (do_loop body c) = 5 + expr_labels c + stmt_labels body
   kind_labels (for_loop first c last body) =
-      option_stmt_labels first + (4 + optional_labels c + optional_labels last + stmt_labels body)
+      option_stmt_labels first + (5 + optional_labels c + optional_labels last + stmt_labels body)
   kind_labels break_loop = 0
   kind_labels continue_loop = 0
   kind_labels (return_value e) = optional_labels e
@@ -516,21 +521,22 @@ module _ (program : PlainProgram) (table : PlainTable) where
       ∷ init_code leaves o es (l + expr_labels e) rest)
   init_code leaves o es l rest = rest
 
-  abbrev pub test_code : Option PlainExpr → (out l : ℕ) → List PlainIr → List PlainIr
-  test_code None out l rest = rest
-  test_code (Some c) out l rest = branch_code c l 0 (where_zero out) rest
+  -- the test at the end of a loop: it leads to the body where the condition holds, and is not taken where the loop ends
+  abbrev pub test_code : Option PlainExpr → (l : ℕ) → List PlainIr → List PlainIr
+  test_code None l rest = jump (l + 3) ∷ label (l + 1) ∷ rest
+  test_code (Some c) l rest = branch_code c (l + 5) 0 (where_not (l + 3) (l + 4)) (label (l + 1) ∷ rest)
 
   abbrev pub last_code : Option PlainExpr → (l : ℕ) → List PlainIr → List PlainIr
   last_code None l rest = rest
   last_code (Some e) l rest = unread_code e l 0 rest
 
-  -- a loop, with the operations of its body: l is the test, l + 1 the end, l + 2 what a continue goes to, and l + 3 the
-  -- body
+  -- the turns of a loop, with the operations of its body: l is the test, l + 1 the end, l + 2 what a continue goes to,
+  -- l + 3 the body, and l + 4 what follows the branch of the test
   abbrev pub loop_code :
       Option PlainExpr → Option PlainExpr → (l : ℕ) → (List PlainIr → List PlainIr) → List PlainIr → List PlainIr
   loop_code c last l body rest =
-      label l ∷ test_code c (l + 1) (l + 4) (label (l + 3) ∷ body (label (l + 2)
-      ∷ last_code last (l + 4 + optional_labels c) (jump l ∷ label (l + 1) ∷ rest)))
+      label (l + 3) ∷ body (label (l + 2)
+      ∷ last_code last (l + 5 + optional_labels c) (label l ∷ test_code c l rest))
 
   -- a break goes to the label out, and a continue to the label on
   abbrev mutual
@@ -549,15 +555,16 @@ module _ (program : PlainProgram) (table : PlainTable) where
         (stmt_code a (l + 2 + expr_labels c) out on (jump (l + 1) ∷ label l
         ∷ stmt_code b (l + 2 + expr_labels c + stmt_labels a) out on (label (l + 1) ∷ rest)))
     kind_code (while_loop c body) l out on rest =
-        loop_code (Some c) None l (λ q. stmt_code body (l + 4 + expr_labels c) (l + 1) (l + 2) q) rest
+        entry_code (Some c) l
+        (loop_code (Some c) None l (λ q. stmt_code body (l + 5 + expr_labels c) (l + 1) (l + 2) q) rest)
     -- a `do` begins with its body
     kind_code (do_loop body c) l out on rest =
-        jump (l + 3)
-        ∷ loop_code (Some c) None l (λ q. stmt_code body (l + 4 + expr_labels c) (l + 1) (l + 2) q) rest
+        loop_code (Some c) None l (λ q. stmt_code body (l + 5 + expr_labels c) (l + 1) (l + 2) q) rest
     kind_code (for_loop first c last body) l out on rest =
-        option_stmt_code first l out on (loop_code c last (l + option_stmt_labels first) (λ q. stmt_code body
-        (l + option_stmt_labels first + 4 + optional_labels c + optional_labels last)
-        (l + option_stmt_labels first + 1) (l + option_stmt_labels first + 2) q) rest)
+        option_stmt_code first l out on (entry_code c (l + option_stmt_labels first)
+        (loop_code c last (l + option_stmt_labels first) (λ q. stmt_code body
+        (l + option_stmt_labels first + 5 + optional_labels c + optional_labels last)
+        (l + option_stmt_labels first + 1) (l + option_stmt_labels first + 2) q) rest))
     kind_code break_loop l out on rest = jump out ∷ rest
     kind_code continue_loop l out on rest = jump on ∷ rest
     kind_code (return_value None) l out on rest = return_from None ∷ rest

@@ -146,7 +146,7 @@ pub pointers_cost : (b m : ℕ) → b ≤ m → Costs (in_line (64 + 5 * b)) (64
 pointers_cost b m h = record { own_most = omega (arith, h); once_most = omega arith; each_most = omega (arith, h) }
 
 pub fixed_cost : (b m : ℕ) → b ≤ m
-    → Costs (callable (150 + 40 * b + 40 * (b * b)) (4 + 12 * b)) (150 + 40 * m + 40 * (m * m)) (151 + 40 * m + 40 * (m * m)) (4 + 12 * m)
+    → Costs (callable (150 + 40 * b + 40 * (b * b)) (12 + 14 * b)) (150 + 40 * m + 40 * (m * m)) (151 + 40 * m + 40 * (m * m)) (12 + 14 * m)
 fixed_cost b m h =
     let q = at_most b m h in
     record { own_most = omega (arith, h, q); once_most = omega (arith, h, q); each_most = omega (arith, h) }
@@ -164,7 +164,7 @@ fixed_operation op true b m some h =
 fixed_operation op false b m some h =
     let c = fixed_cost b m h in
     let x = c.own_most in let y = c.once_most in let z = c.each_most in
-    record { own_most = x; once_most = y; each_most = omega (arith, z) }
+    record { own_most = x; once_most = y; each_most = omega (arith, z, some, h) }
 
 -- a conversion with a fixed-point type
 abbrev pub fixed_conversion : (same : Bool) → ℕ → Code

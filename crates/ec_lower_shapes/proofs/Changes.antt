@@ -116,7 +116,7 @@ module _ (op : BinOp) (own mode : Mode) where
       by_whole b 0 (update_made op (record { left = Integer s; right = Fixed t; result = Fixed t }) own mode (type_of (Integer s))
       (type_of (Fixed t))) ((4 + 6 * b) + (4 * b + ((150 + 40 * b + 40 * (b * b)) + ((100 + 40 * b) + 0))))
       (0 + (0 + ((151 + 40 * b + 40 * (b * b)) + ((101 + 40 * b) + 0))))
-      ((4 + 6 * b) + (4 * b + ((4 + 12 * b) + ((4 + 8 * b) + 0)))) some
+      ((4 + 6 * b) + (4 * b + ((12 + 14 * b) + ((4 + 8 * b) + 0)))) some
       (and_more _ _ _ _ _ _ _ _ (number_cost s.bytes b hs)
       (and_more _ _ _ _ _ _ _ _ (kept_cost (same_type (type_of (Fixed t)) (type_of (Fixed t)) || false) (max (size (Fixed t)) (max (size (Fixed t)) 1)) b
       (ap (λ c. c || false) (type_itself (type_of (Fixed t)))) (omega (arith, ht, some)))
@@ -132,7 +132,7 @@ module _ (op : BinOp) (own mode : Mode) where
       by_whole b 0 (update_made op (record { left = Fixed s; right = Integer t; result = Fixed s }) own mode (type_of (Fixed s))
       (type_of (Integer t))) (4 * b + ((4 + 6 * b) + ((150 + 40 * b + 40 * (b * b)) + (4 * b + 0))))
       (0 + (0 + ((151 + 40 * b + 40 * (b * b)) + (0 + 0))))
-      (4 * b + ((4 + 6 * b) + ((4 + 12 * b) + (4 * b + 0)))) some
+      (4 * b + ((4 + 6 * b) + ((12 + 14 * b) + (4 * b + 0)))) some
       (and_more _ _ _ _ _ _ _ _ (kept_cost (same_type (type_of (Fixed s)) (type_of (Fixed s)) || false) (max (size (Fixed s)) (max (size (Fixed s)) 1)) b
       (ap (λ c. c || false) (type_itself (type_of (Fixed s)))) (omega (arith, hs, some)))
       (and_more _ _ _ _ _ _ _ _ (number_cost t.bytes b ht)
@@ -267,7 +267,7 @@ update_within Ne own mode x y b some h p q l = absurd h
 -- ---- pointers
 
 moved_cost : (op : BinOp) (x : Bool) (b m : ℕ) → b ≤ m
-    → Costs (binary_code op false x true b) (150 + 40 * m + 40 * (m * m)) (151 + 40 * m + 40 * (m * m)) (64 + 12 * m)
+    → Costs (binary_code op false x true b) (150 + 40 * m + 40 * (m * m)) (151 + 40 * m + 40 * (m * m)) (64 + 14 * m)
 moved_cost op true b m h =
     let c = fixed_cost b m h in let x = c.own_most in let y = c.once_most in let z = c.each_most in
     record { own_most = x; once_most = y; each_most = omega (arith, z) }
@@ -277,7 +277,8 @@ moved : (op : BinOp) (own : Mode) (space : SpaceId) (const : Bool) (to right : P
     → scalar_size (pointer space const to) ≤ b → scalar_size right ≤ b → 1 ≤ b → b ≤ 8 → other ≤ 10
     → Within b other (change_made op own own (pointer space const to) right)
 moved op own space const to right b other hs ht some few less =
-    by_whole b other (change_made op own own (pointer space const to) right) ((150 + 40 * b + 40 * (b * b)) + 0) ((151 + 40 * b + 40 * (b * b)) + 0) ((64 + 12 * b) + 0) some
+    by_whole b other (change_made op own own (pointer space const to) right) ((150 + 40 * b + 40 * (b * b)) + 0)
+    ((151 + 40 * b + 40 * (b * b)) + 0) ((64 + 14 * b) + 0) some
     (and_more _ _ _ _ _ _ _ _ (moved_cost op (is_fixed right || false) (max (scalar_size (pointer space const to)) (max (scalar_size (pointer space const to))
     (max (scalar_size right) 1))) b (omega (arith, hs, ht, some))) none)
     (λ e. let q = square b e in (omega (arith, e, q, less), omega (arith, e, q), omega (arith, e, less)))
@@ -373,7 +374,7 @@ stepped_fixed up mode s b some hs few =
     (by_bytes b 10 (stepped_made up mode (record { left = Fixed s; right = Integer int_type; result = Fixed s }) (type_of (Fixed s)))
     (λ m. 4 * m + (4 * m + (16 + ((150 + 40 * m + 40 * (m * m)) + (4 * m + 0)))))
     (λ m. 0 + (0 + (0 + ((151 + 40 * m + 40 * (m * m)) + (0 + 0)))))
-    (λ m. 4 * m + (4 * m + (16 + ((4 + 12 * m) + (4 * m + 0))))) some
+    (λ m. 4 * m + (4 * m + (16 + ((12 + 14 * m) + (4 * m + 0))))) some
     (λ m two le.
     and_more _ _ _ _ _ _ _ _ (kept m two le)
     (and_more _ _ _ _ _ _ _ _ (kept m two le)

@@ -39,7 +39,7 @@ use Rattle.ec_lower_code.specs.Code.{offset_of, site, place_code, params_of, par
 use Rattle.ec_lower_code.specs.Code.{read_from, write_to, place_behind, operand_temp, access_code, pairs_code, group_code, bind_code}
 use Rattle.ec_lower_code.specs.Code.{choices_code, option_labels}
 use Rattle.ec_lower_code.specs.Code.{option_code, expr_labels, optional_labels, option_stmt_labels, stmt_labels, expr_code}
-use Rattle.ec_lower_code.specs.Code.{node_code, args_code, init_code, test_code, last_code, leaves_of_object, stmt_code}
+use Rattle.ec_lower_code.specs.Code.{node_code, args_code, init_code, test_code, entry_code, last_code, leaves_of_object, stmt_code}
 use Rattle.ec_lower_code.specs.Code.{kind_code, option_stmt_code, stmts_code, body_returns, end_of, end_code, function_code}
 use Rattle.ec_lower_code.specs.Code.{stepping_code, unread_code}
 use Rattle.ec_lower_code.specs.Code.{Branch, where_zero, where_not, branch_to, opposite, zero_label, other_label, and_end}
@@ -565,14 +565,28 @@ module _ (w : Shape → ℕ) (program : PlainProgram) (table : IoTable) (f : ℕ
       let y = init_fits ls o es (l + expr_labels e) rest ps v.1 in let x0 = x.0 in let y0 = y.0 in
       (omega (arith, x0, y0), λ h. x.1 (y.1 h))
 
-  test_fits : (c : Option PlainExpr) (out l : ℕ) (rest : List PlainIr) (ps : List Part) → ValidCondition program table f c
-      → (code_cost w (test_code program (plain_table table) c out l rest) + parts_cost w ps
-      ≤ 30 + parts_cost w (optional_parts (plain_table table) c ps) + code_cost w rest)
+  condition_fits : (c : PlainExpr) (l : ℕ) (to : Branch) (rest : List PlainIr) (ps : List Part)
+      → ValidCondition program table f (Some c)
+      → (code_cost w (branch_code program (plain_table table) c l 0 to rest) + parts_cost w ps
+      ≤ 35 + parts_cost w (expr_parts (plain_table table) c ps) + code_cost w rest)
+      × (ArePaid ps → ArePaid (expr_parts (plain_table table) c ps))
+  condition_fits c l to rest ps v =
+      let x = branch_fits c l 0 to rest ps v.0 in let x0 = x.0 in
+      let y = small program (type_of_expr c) (type_known c v.0) in
+      let z = branch_most to (scalar_size (type_of_expr c)) in (omega (arith, x0, y, z), x.1)
+
+  test_fits : (c : Option PlainExpr) (l : ℕ) (rest : List PlainIr) (ps : List Part) → ValidCondition program table f c
+      → (code_cost w (test_code program (plain_table table) c l rest) + parts_cost w ps
+      ≤ 35 + parts_cost w (optional_parts (plain_table table) c ps) + code_cost w rest)
       × (ArePaid ps → ArePaid (optional_parts (plain_table table) c ps))
-  test_fits None out l rest ps v = (omega arith, λ h. h)
-  test_fits (Some c) out l rest ps v =
-      let x = branch_fits c l 0 (where_zero out) rest ps v.0 in let x0 = x.0 in
-      let y = small program (type_of_expr c) (type_known c v.0) in (omega (arith, x0, y), x.1)
+  test_fits None l rest ps v = (omega arith, λ h. h)
+  test_fits (Some c) l rest ps v =
+      let x = condition_fits c (l + 5) (where_not (l + 3) (l + 4)) (label (l + 1) ∷ rest) ps v in let x0 = x.0 in
+      (omega (arith, x0), x.1)
+
+  entry_fits : (c : Option PlainExpr) (l : ℕ) (rest : List PlainIr) → code_cost w (entry_code c l rest) ≤ 5 + code_cost w rest
+  entry_fits None l rest = omega arith
+  entry_fits (Some c) l rest = omega arith
 
   last_fits : (e : Option PlainExpr) (l : ℕ) (rest : List PlainIr) (ps : List Part) → ValidOptional program table f e
       → Fits w (last_code program (plain_table table) e l rest) rest (optional_parts (plain_table table) e ps) ps
@@ -594,7 +608,8 @@ module _ (w : Shape → ℕ) (program : PlainProgram) (table : IoTable) (f : ℕ
       kind_fits (block ss) k l out on rest ps v = stmts_fits ss k l out on rest ps v
       kind_fits (declare o es) k l out on rest ps v = init_fits (leaves_of_object program o) o es l rest ps v.1
       kind_fits (branch c a no_stmt) k l out on rest ps v =
-          let x = test_fits (Some c) l (l + 2) (stmt_code program (plain_table table) a (l + 2 + expr_labels c) out on (label l ∷ rest))
+          let x = condition_fits c (l + 2) (where_zero l)
+          (stmt_code program (plain_table table) a (l + 2 + expr_labels c) out on (label l ∷ rest))
           (stmt_parts (plain_table table) a ps) v.0 in
           let y = stmt_fits a k (l + 2 + expr_labels c) out on (label l ∷ rest) ps v.1 in let x0 = x.0 in let y0 = y.0 in
           (omega (arith, x0, y0), λ h. x.1 (y.1 h))
@@ -602,39 +617,39 @@ module _ (w : Shape → ℕ) (program : PlainProgram) (table : IoTable) (f : ℕ
           let q : List PlainIr = jump (l + 1) ∷ label l ∷ stmt_code program (plain_table table) b (l + 2 + expr_labels c + stmt_labels a)
           out on (label (l + 1) ∷ rest) in
           let bs = stmt_parts (plain_table table) b ps in
-          let x = test_fits (Some c) l (l + 2) (stmt_code program (plain_table table) a (l + 2 + expr_labels c) out on q)
+          let x = condition_fits c (l + 2) (where_zero l) (stmt_code program (plain_table table) a (l + 2 + expr_labels c) out on q)
           (stmt_parts (plain_table table) a bs) v.0 in
           let y = stmt_fits a k (l + 2 + expr_labels c) out on q bs v.1 in let u = stmt_fits b k (l + 2 + expr_labels c + stmt_labels a)
           out on (label (l + 1) ∷ rest) ps v.2 in let x0 = x.0 in let y0 = y.0 in let u0 = u.0 in
           (omega (arith, x0, y0, u0), λ h. x.1 (y.1 (u.1 h)))
       kind_fits (while_loop c a) k l out on rest ps v =
-          let q : List PlainIr = label (l + 2) ∷ jump l ∷ label (l + 1) ∷ rest in
-          let b : List PlainIr = label (l + 3) ∷ stmt_code program (plain_table table) a (l + 4 + expr_labels c) (l + 1) (l + 2) q in
-          let x = test_fits (Some c) (l + 1) (l + 4) b (stmt_parts (plain_table table) a ps) v.0 in
-          let y = stmt_fits a true (l + 4 + expr_labels c) (l + 1) (l + 2) q ps v.1 in let x0 = x.0 in let y0 = y.0 in
+          let q : List PlainIr = label (l + 2) ∷ label l ∷ test_code program (plain_table table) (Some c) l rest in
+          let body = stmt_parts (plain_table table) a ps in
+          let x = test_fits (Some c) l rest body v.0 in
+          let y = stmt_fits a true (l + 5 + expr_labels c) (l + 1) (l + 2) q ps v.1 in let x0 = x.0 in let y0 = y.0 in
           (omega (arith, x0, y0), λ h. x.1 (y.1 h))
       kind_fits (do_loop a c) k l out on rest ps v =
-          let q : List PlainIr = label (l + 2) ∷ jump l ∷ label (l + 1) ∷ rest in
-          let b : List PlainIr = label (l + 3) ∷ stmt_code program (plain_table table) a (l + 4 + expr_labels c) (l + 1) (l + 2) q in
-          let x = test_fits (Some c) (l + 1) (l + 4) b ps v.1 in
-          let y = stmt_fits a true (l + 4 + expr_labels c) (l + 1) (l + 2) q (expr_parts (plain_table table) c ps) v.0 in
+          let q : List PlainIr = label (l + 2) ∷ label l ∷ test_code program (plain_table table) (Some c) l rest in
+          let x = test_fits (Some c) l rest ps v.1 in
+          let y = stmt_fits a true (l + 5 + expr_labels c) (l + 1) (l + 2) q (expr_parts (plain_table table) c ps) v.0 in
           let x0 = x.0 in let y0 = y.0 in
           (omega (arith, x0, y0), λ h. y.1 (x.1 h))
       kind_fits (for_loop first c last a) k l0 out on rest ps v =
           let l = l0 + option_stmt_labels first in
-          let e : List PlainIr = jump l ∷ label (l + 1) ∷ rest in
-          let q : List PlainIr = label (l + 2) ∷ last_code program (plain_table table) last (l + 4 + optional_labels c) e in
-          let b : List PlainIr = label (l + 3) ∷ stmt_code program (plain_table table) a (l + 4 + optional_labels c + optional_labels last)
+          let e : List PlainIr = label l ∷ test_code program (plain_table table) c l rest in
+          let q : List PlainIr = label (l + 2) ∷ last_code program (plain_table table) last (l + 5 + optional_labels c) e in
+          let b : List PlainIr = label (l + 3) ∷ stmt_code program (plain_table table) a (l + 5 + optional_labels c + optional_labels last)
           (l + 1) (l + 2) q in
           let ap1 = stmt_parts (plain_table table) a ps in
           let lp = optional_parts (plain_table table) last ap1 in
           let cp = optional_parts (plain_table table) c lp in
-          let g = option_fits first k l0 out on (label l ∷ test_code program (plain_table table) c (l + 1) (l + 4) b) cp v.0 in
-          let x = test_fits c (l + 1) (l + 4) b lp v.1 in
-          let y = stmt_fits a true (l + 4 + optional_labels c + optional_labels last) (l + 1) (l + 2) q ps v.3 in
-          let u = last_fits last (l + 4 + optional_labels c) e ap1 v.2 in
+          let g = option_fits first k l0 out on (entry_code c l b) cp v.0 in
+          let i = entry_fits c l b in
+          let x = test_fits c l rest lp v.1 in
+          let y = stmt_fits a true (l + 5 + optional_labels c + optional_labels last) (l + 1) (l + 2) q ps v.3 in
+          let u = last_fits last (l + 5 + optional_labels c) e ap1 v.2 in
           let g0 = g.0 in let x0 = x.0 in let y0 = y.0 in let u0 = u.0 in
-          (omega (arith, g0, x0, y0, u0), λ h. g.1 (x.1 (u.1 (y.1 h))))
+          (omega (arith, g0, i, x0, y0, u0), λ h. g.1 (x.1 (u.1 (y.1 h))))
       kind_fits break_loop k l out on rest ps v = (omega arith, λ h. h)
       kind_fits continue_loop k l out on rest ps v = (omega arith, λ h. h)
       kind_fits (return_value None) k l out on rest ps v = (omega arith, λ h. h)

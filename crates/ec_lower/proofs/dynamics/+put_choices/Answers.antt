@@ -1,4 +1,4 @@
-use Rattle.std.proofs.Common.{◌≡◌, ◌++◌, ◌∙◌, List, ap, sym, map}
+use Rattle.std.proofs.Common.{◌++◌, ◌∙◌, List, ap, sym, map}
 use Rattle.ec_iohw.specs.declared.table.Choice.{Choice}
 use Rattle.ec_core.specs.PortTable.{plain_table}
 use Rattle.ec_ir.specs.Operations.{plain_ir}

@@ -1,8 +1,6 @@
-use Rattle.std.proofs.Common.{◌≡◌, ◌++◌, ◌∙◌, ap, sym, refl, length, map, Option, Some}
+use Rattle.std.proofs.Common.{◌≡◌, ◌++◌, ◌∙◌, ap, sym, refl, length, map, Some}
 use Rattle.std.specs.Prelude.{slice_get}
 use Rattle.std.proofs.lemmas.Option.{slice_get_read}
-use Rattle.ec_iohw.specs.declared.table.Choice.{Choice}
-use Rattle.ec_core.specs.PortTable.{choices_of, plain_table}
 use Rattle.ec_ir.specs.Operations.{plain_ir}
 use Rattle.ec_lower_code.specs.Code.{bind_code}
 use Rattle.ec_lower.proofs.Steps.{so}

@@ -63,13 +63,15 @@ lower_stmt-returns-in-Some-clause-code t c = so c.lower_if_else.result c.lower_i
 
 pub lower_stmt-returns-in-While-clause-code : goal.lower_stmt-returns-in-While-clause-code
 lower_stmt-returns-in-While-clause-code t c = so c.lower_loop.result c.lower_loop.ensures.code (λ h rest.
-    let z : c.args.l + 4 + expr_labels (plain_expr c.in-While.c) + 0 ≡ c.args.l + 4 + expr_labels (plain_expr c.in-While.c) =
+    let z : c.args.l + 5 + expr_labels (plain_expr c.in-While.c) + 0 ≡ c.args.l + 5 + expr_labels (plain_expr c.in-While.c) =
     omega arith in
     rw (c.in-While.is, ← c.deref-in-While.ensures, ← z) (h rest))
 
 pub lower_stmt-returns-in-DoWhile-clause-code : goal.lower_stmt-returns-in-DoWhile-clause-code
-lower_stmt-returns-in-DoWhile-clause-code t c = so c.lower_do.result c.lower_do.ensures.code (λ h rest.
-    rw (c.in-DoWhile.is, ← c.deref-in-DoWhile.ensures) (h rest))
+lower_stmt-returns-in-DoWhile-clause-code t c = so c.lower_turns.result c.lower_turns.ensures.code (λ h rest.
+    let z : c.args.l + 5 + expr_labels (plain_expr c.in-DoWhile.c) + 0 ≡ c.args.l + 5 + expr_labels (plain_expr c.in-DoWhile.c) =
+    omega arith in
+    rw (c.in-DoWhile.is, ← c.deref-in-DoWhile.ensures, ← z) (h rest))
 
 pub lower_stmt-returns-in-None-first-clause-code : goal.lower_stmt-returns-in-None-first-clause-code
 lower_stmt-returns-in-None-first-clause-code t c = so c.lower_loop-in-None-first.result c.lower_loop-in-None-first.ensures.code (λ h rest.
@@ -113,17 +115,14 @@ lower_if_else-returns-clause-code t c = λ rest.
     rw (c.in_ok-k-3.ensures.next, c.in_ok-k-2.ensures.next, c.in_ok-k.ensures) at (c.in_ok-put.ensures rest
     ∙ (c.in_ok-m.ensures.code _ ∙ (c.in_ok-put_turn.ensures _ ∙ (c.in_ok-k-3.ensures.code _ ∙ c.in_ok-k-2.ensures.code _))))
 
-pub lower_do-returns-clause-code : goal.lower_do-returns-clause-code
-lower_do-returns-clause-code t c =
-    let z : c.args.l + 4 + expr_labels (plain_expr c.args.c.now) + 0 ≡ c.args.l + 4 + expr_labels (plain_expr c.args.c.now) =
-    omega arith in
-    so c.lower_loop.result c.lower_loop.ensures.code (λ h rest.
-    rw (← z) (rw (c.in_ok-first.ensures) at (h rest ∙ c.in_ok-put.ensures _)))
-
 pub lower_loop-returns-clause-code : goal.lower_loop-returns-clause-code
-lower_loop-returns-clause-code t c = λ rest.
-    rw (c.in_ok-on.ensures, c.in_ok-first.ensures, c.in_ok-count.ensures, c.in_ok-k.ensures.next) at (c.in_ok-end_loop.ensures rest
-    ∙ (c.in_ok-m.ensures.code _ ∙ c.in_ok-k.ensures.code _))
+lower_loop-returns-clause-code t c = so c.lower_turns.result c.lower_turns.ensures.code (λ h rest.
+    h rest ∙ c.in_ok-begin_loop.ensures _)
+
+pub lower_turns-returns-clause-code : goal.lower_turns-returns-clause-code
+lower_turns-returns-clause-code t c = λ rest.
+    rw (c.in_ok-on.ensures, c.in_ok-first.ensures, c.in_ok-count.ensures, c.in_ok-k.ensures, c.in_ok-test.ensures, c.in_ok-own.ensures) at
+    (c.in_ok-end_loop.ensures rest ∙ (c.in_ok-m.ensures.code _ ∙ c.in_ok-put.ensures _))
 
 pub lower_for-returns-clause-code : goal.lower_for-returns-clause-code
 lower_for-returns-clause-code t c = so c.lower_loop.result c.lower_loop.ensures.code (λ h rest.

@@ -18,11 +18,11 @@ decreases-lower_if l = stmt_size (plain_stmt l.a.now) + 1
 abbrev pub decreases-lower_if_else : goal.decreases-lower_if_else
 decreases-lower_if_else l = stmt_size (plain_stmt l.a.now) + stmt_size (plain_stmt l.b.now) + 1
 
-abbrev pub decreases-lower_do : goal.decreases-lower_do
-decreases-lower_do l = stmt_size (plain_stmt l.body.now) + 2
-
 abbrev pub decreases-lower_loop : goal.decreases-lower_loop
-decreases-lower_loop l = stmt_size (plain_stmt l.body.now) + 1
+decreases-lower_loop l = stmt_size (plain_stmt l.body.now) + 2
+
+abbrev pub decreases-lower_turns : goal.decreases-lower_turns
+decreases-lower_turns l = stmt_size (plain_stmt l.body.now) + 1
 
 abbrev pub invariant-lower_stmts-loop-s : goal.invariant-lower_stmts-loop-s
 invariant-lower_stmts-loop-s l =
@@ -33,4 +33,4 @@ invariant-lower_stmts-loop-s l =
     ≡ map plain_ir l.fn.code.items ++ stmts_code program (plain_table l.io) (plain_stmts l.ss) l.fn.l l.out l.on rest)
 
 abbrev pub decreases-lower_for : goal.decreases-lower_for
-decreases-lower_for l = stmt_size (plain_stmt l.first.now) + stmt_size (plain_stmt l.body.now) + 2
+decreases-lower_for l = stmt_size (plain_stmt l.first.now) + stmt_size (plain_stmt l.body.now) + 3

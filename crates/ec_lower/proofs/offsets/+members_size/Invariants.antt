@@ -1,4 +1,0 @@
-use Rattle.ec_lower.proofs.offsets.+members_size.Given as goal
-
-abbrev pub decreases-members_size : goal.decreases-members_size
-decreases-members_size l = l.count
