@@ -230,7 +230,7 @@ pub alike : (p : PlainProgram) (results : ℕ → ℕ) (f : ℕ) (called : List 
     → k.core ≡ l.core → IsCovered p results f called slots i → HasOperandTypes i → op_shapes i ≡ s ∷ []
     → code_words (operation_code p at k told telling known n kept i) ≤ code_words (operation_code p at l None None known n others i)
 alike p results f called slots at k l told telling known n kept others (binary_op op ty mode to a aty b bty) s c (inl i) h e =
-    let pointed = λ (core : Core). pointer_binary core (is_pointer aty) (is_pointer bty) p op aty bty (at a) (at b) (at to) a.bytes
+    let pointed = λ (core : Core). pointer_binary known core (is_pointer aty) (is_pointer bty) p op aty bty (at a) (at b) (at to) a.bytes
     b.bytes n in
     none_kind (is_fixed aty || is_fixed bty) (is_pointer aty || is_pointer bty)
     (fixed_binary known telling op ty aty bty mode (at a) (at b) (at to) a.bytes n) (pointed k.core)
@@ -241,7 +241,7 @@ alike p results f called slots at k l told telling known n kept others (binary_o
     (integer_alike slots to a b ty aty bty known telling (is_signed aty) (is_signed bty) (at a) (at b) (at to) n op mode s i h e)
 alike p results f called slots at k l told telling known n kept others (binary_op op ty mode to a aty b bty) s c (inr (inl i)) h e =
     let rest = λ (core : Core) (y : Option Told). by_kind (is_pointer aty || is_pointer bty)
-    (pointer_binary core (is_pointer aty) (is_pointer bty) p op aty bty (at a) (at b) (at to) a.bytes b.bytes n)
+    (pointer_binary known core (is_pointer aty) (is_pointer bty) p op aty bty (at a) (at b) (at to) a.bytes b.bytes n)
     (integer_binary known y op (is_signed aty) (is_signed bty) (at a) (at b) (at to) a.bytes n) in
     let whole = λ (y : Option Told). operator_code y (family_of op) (is_signed aty) (is_signed bty) (at a) (at b) (at to) a.bytes n in
     let other = if is_placed op mode ty aty bty && not (same_location (at b) (at to))
@@ -255,7 +255,7 @@ alike p results f called slots at k l told telling known n kept others (binary_o
     (not_exact op (are_exact op mode ty (aty ∷ bty ∷ [])) (counts_fixed ty || any_fixed (aty ∷ bty ∷ []))
     (counts_pointer ty || any_pointer (aty ∷ bty ∷ [])) (widest (ty ∷ aty ∷ bty ∷ [])) (binary_shape op ty mode aty bty) s e)))
 alike p results f called slots at k l told telling known n kept others (binary_op op ty mode to a aty b bty) s c (inr (inr i)) h e =
-    let pointed = λ (core : Core). pointer_binary core (is_pointer aty) (is_pointer bty) p op aty bty (at a) (at b) (at to) a.bytes
+    let pointed = λ (core : Core). pointer_binary known core (is_pointer aty) (is_pointer bty) p op aty bty (at a) (at b) (at to) a.bytes
     b.bytes n in
     second_kind (is_fixed aty || is_fixed bty) (is_pointer aty || is_pointer bty)
     (fixed_binary known telling op ty aty bty mode (at a) (at b) (at to) a.bytes n) (pointed k.core)

@@ -235,7 +235,8 @@ module _ (core : Core) (p : PlainIrProgram) (valid : ValidWithCells p) (has : Ha
       others_pass x f g e told telling known need (conversion to ty mode a aty) h u tt
   operation_places x f g e told telling known need (return_from from) h u = others_pass x f g e told telling known need
       (return_from from) h u tt
-  operation_places x f g e told telling known need (jump l) h u = others_pass x f g e told telling known need (jump l) h u refl
+  operation_places x f g e told telling known need (jump l) h u =
+      others_pass x f g e told telling known need (jump l) h u (refl, λ set flag w. refl)
   operation_places x f g e told telling known need (branch_zero t l) h u =
       others_pass x f g e told telling known need (branch_zero t l) h u (λ set flag w. refl)
   operation_places x f g e told telling known need (call_function c to) h u = others_pass x f g e told telling known need
@@ -265,7 +266,7 @@ module _ (core : Core) (p : PlainIrProgram) (valid : ValidWithCells p) (has : Ha
       ≡ placed_in x (link f g).label_of code
   code_places x f g e at told [] h u = refl
   code_places x f g e at told (i ∷ code) h u =
-      let next = tells_next at i code in
+      let next = tells_next at told i code in
       let here = operation_places x f g e told next (at.known (i ∷ code)) (needs at code) i h.0 u.0 in
       let rest = code_places x f g e at next code h.1 u.1 in
       joined_count x (op_code (data_of p) (home (link f g).homes) (link f g) told next (at.known (i ∷ code)) (needs at code) i)

@@ -1,11 +1,11 @@
 -- The code of operators on fixed-point numbers whose result is computed in its place: its items fit, and its words.
 use Rattle.std.proofs.Common.{◌≡◌, ℕ, zero, suc, ◌+◌, ◌-◌, ◌*◌, ◌%◌, ◌^◌, ◌<◌, ◌≤◌, Bool, true, false, ◌++◌, refl, arith, ◌∷◌, [], Option}
-use Rattle.std.proofs.Common.{Some}
-use Rattle.std.specs.Prelude.{None, nat_lt, if◌then◌else◌}
-use Rattle.std.proofs.lemmas.Bool.{lt-ltb}
+use Rattle.std.proofs.Common.{Some, pos, leb-true}
+use Rattle.std.specs.Prelude.{None, nat_le, nat_lt, if◌then◌else◌}
+use Rattle.std.proofs.lemmas.Bool.{lt-ltb, and_parts}
 use Rattle.std.proofs.lemmas.Bool.Decides.{nat_tests}
 use Rattle.ec_fx.specs.declared.numbers.Mode.{Mode}
-use Rattle.ec_isa.specs.declared.instructions.Instr.TheVariants.{Add, Sbc, Andi, Eor, Ldi}
+use Rattle.ec_isa.specs.declared.instructions.Instr.TheVariants.{Add, Sbc, Andi, Eor, Ldi, Sbrs, Rjmp}
 use Rattle.ec_isa.specs.Table.{in_table}
 use Rattle.ec_asm.specs.declared.items.AsmItem.TheVariants.{Plain}
 use Rattle.ec_asm.specs.declared.pieces.Location.{Location}
@@ -19,15 +19,16 @@ use Rattle.ec_core.specs.declared.expressions.BinOp.TheVariants.{Add as Plus, Su
 use Rattle.ec_core.specs.declared.expressions.BinOp.TheVariants.{Gt, Le, Ge, Eq, Ne}
 use Rattle.ec_fxcode.specs.Clamps.{take_byte, sign_code}
 use Rattle.ec_fxcode_placed.specs.Shifts.{raise_byte, raise_code, half_code, half_words, enter_code, again_code, rounded_code, placed_code}
-use Rattle.ec_fxcode_placed.specs.Counts.{biased_byte, bias_code, rounded_by_code, takes_loop, turned_by_code, placed_by_code}
+use Rattle.ec_fxcode_placed.specs.Counts.{biased_byte, bias_code, known_bias_byte, known_bias_code, takes_known_bias, rounded_by_code}
+use Rattle.ec_fxcode_placed.specs.Counts.{placed_by_code}
 use Rattle.ec_fxcode_placed.proofs.Counted.{placed_counts_have}
+use Rattle.ec_fxcode_placed.proofs.Known.{known_in_table}
 use Rattle.ec_fxcode_placed.proofs.Words.{placed_shifts_have, few_bits}
 use Rattle.ec_ir.specs.Costs.{is_bitwise}
 use Rattle.ec_ir.specs.Temporaries.{low_bytes}
 use Rattle.ec_ir_known.specs.declared.known.RightNumber.{RightNumber}
-use Rattle.ec_select_shifts.specs.declared.shifts.Direction.{Direction}
 use Rattle.ec_select_shifts.specs.declared.shifts.Direction.TheVariants.{Left, Right}
-use Rattle.ec_select_shifts.specs.Shifts.{shift_code, counted_code}
+use Rattle.ec_select_shifts.specs.Shifts.{counted_code}
 use Rattle.ec_select_operations.specs.Code.{is_difference, takes_place, move_code, stopped_code, placed_shift, placed_whole}
 use Rattle.ec_select_operations.specs.Emitted.{second_bytes}
 use Rattle.ec_select.proofs.Fitting.{fits, Fit, joined, chained, ByteFits, BytesFit, reg}
@@ -148,7 +149,7 @@ module _ (sizes : Sizes) where
 
       by_place : (q : Location) → BytesFit sizes q n → Fit sizes (rounded_by_code q n k)
       by_place (InMemory o j) y = by_bits (InMemory o j) y
-      by_place (InRegisters r) y = by_count (nat_lt k 8) refl
+      by_place (InRegisters r) y = by_bytes (takes_known_bias r k) refl
         where
           ltb_true : (a b : ℕ) → nat_lt a b ≡ true → a < b
           ltb_true a b h = grind (arith, nat_tests)
@@ -173,19 +174,31 @@ module _ (sizes : Sizes) where
               (rw (lt-ltb (2 ^ k - 1) 256 (mask t)) refl) (chained (fits sizes) (biased_byte r) n byte_fits)))
               (counted_fits sizes (Right true) (InRegisters r) n k few small y)
 
-  turned_by_fits : (s : Direction) (p : Location) (n k : ℕ) → n ≤ 8 → k < 256 → BytesFit sizes p n → Fit sizes (turned_by_code s p n k)
-  turned_by_fits s p n k few small x = by_loop (takes_loop n k)
-    where
-      by_loop : (b : Bool) → Fit sizes (if b then Plain (Ldi 30 k) ∷ shift_code s p n else counted_code s p n k)
-      by_loop true =
-          joined (fits sizes) (Plain (Ldi 30 k) ∷ []) (shift_code s p n) (rw (lt-ltb k 256 small) refl) (shift_fits sizes s p n few x)
-      by_loop false = counted_fits sizes s p n k few small x
+          -- the bytes of the bias fit registers of R16 and above
+          known_fits : takes_known_bias r k ≡ true → Fit sizes (known_bias_code r n k)
+          known_fits t =
+              let parts = and_parts (nat_le 16 r) (nat_le 1 k) t in
+              let high = leb-true 16 r parts.0 in
+              let one = leb-true 1 k parts.1 in
+              joined (fits sizes) (Plain (Sbrs (r + (n - 1)) 7) ∷ Plain (Rjmp (pos n)) ∷ []) (chain (known_bias_byte r k) n)
+              (rw (reg (r + (n - 1)) (y (n - 1) (omega (arith, some))), lt-ltb n 2048 (omega (arith, few))) refl)
+              (chained (fits sizes) (known_bias_byte r k) n
+              (λ i l. let b = known_in_table k i (r + i) one (omega (arith, high)) (y i l) in rw b refl))
+
+          by_bytes : (b : Bool) → takes_known_bias r k ≡ b
+              → Fit sizes (if b then known_bias_code r n k ++ counted_code (Right true) (InRegisters r) n k
+              else if nat_lt k 8 then bias_code r n k ++ counted_code (Right true) (InRegisters r) n k
+              else Plain (Ldi 30 k) ∷ rounded_code (InRegisters r) n)
+          by_bytes false t = by_count (nat_lt k 8) refl
+          by_bytes true t =
+              joined (fits sizes) (known_bias_code r n k) (counted_code (Right true) (InRegisters r) n k) (known_fits t)
+              (counted_fits sizes (Right true) (InRegisters r) n k few small y)
 
   placed_by_fits : (left signed : Bool) (p : Location) (n k : ℕ) → 1 ≤ n → n ≤ 8 → k < 256 → BytesFit sizes p n
       → Fit sizes (placed_by_code left signed p n k)
-  placed_by_fits true signed p n k some few small x = turned_by_fits Left p n k few small x
+  placed_by_fits true signed p n k some few small x = counted_fits sizes Left p n k few small x
   placed_by_fits false true p n k some few small x = rounded_by_fits p n k some few small x
-  placed_by_fits false false p n k some few small x = turned_by_fits (Right false) p n k few small x
+  placed_by_fits false false p n k some few small x = counted_fits sizes (Right false) p n k few small x
 
   module _ (known : Option RightNumber) (signed : Bool) (a b to : Location) (top : ℕ) (few : top ≤ 7) (moved : Fit sizes (move_code a to (suc top)))
       (z : BytesFit sizes to (suc top)) where

@@ -36,6 +36,7 @@ mod UseWords
 mod CalledWords
 mod LinkedWords
 mod AlikeWords
+mod CountedShifts
 mod SharedWords
 mod SharedSums
 mod SharedProgram

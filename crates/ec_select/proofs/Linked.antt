@@ -15,7 +15,7 @@ use Rattle.ec_ir_known.specs.Known.{right_numbers}
 use Rattle.ec_select_functions.specs.Covered.{IsCovered, AreCovered}
 use Rattle.ec_select_operations.specs.declared.calls.Linking.{Linking}
 use Rattle.ec_select_operations.specs.declared.homes.Homes.{Homes}
-use Rattle.ec_select_operations.specs.Code.{result_wanted, wanted_behind, wanted_bytes}
+use Rattle.ec_select_operations.specs.Code.{result_wanted, wanted_behind, wanted_bytes, routine_used}
 use Rattle.ec_select_operations.specs.Emitted.{CanBeCalled, CanBeEmitted, CanBeLinked}
 use Rattle.ec_select_operations.specs.Needs.{Need, Facts, facts_of, needs}
 use Rattle.ec_select_operations.specs.Written.{CanBeWritten}
@@ -66,24 +66,18 @@ module _ (p : PlainIrProgram) (results : ℕ → ℕ) (f : ℕ) (called : List �
 
 -- ---- what is linked
 
-routine_there : (routines : PlainIr → Option ℕ) (code : List PlainIr) (j : ℕ) (i : PlainIr) → slice_get code j ≡ Some i
-    → get_or (map routines code) j None ≡ routines i
-routine_there routines [] j i e = absurd cc
-routine_there routines (x ∷ code) zero i e = let q : x ≡ i = cc in ap routines q
-routine_there routines (x ∷ code) (suc j) i e = routine_there routines code j i e
-
 module _ (p : PlainIrProgram) (valid : ValidWithCells p) (leaves : LeavesFillTheirTypes) (results : ℕ → ℕ) (f slots : ℕ)
     (all : List PlainIr) where
   module _ (k : Linking) (bound : ℕ) (room : k.first_label + bound < 2 ^ 64) (entries : k.first_entry ≡ 1) where
-    pub all_linked : (routines : PlainIr → Option ℕ) (at : Facts) (code : List PlainIr)
+    pub all_linked : (routines : PlainIr → Option ℕ) (known : List (Option RightNumber)) (at : Facts) (code : List PlainIr)
         → AreCovered (data_of p) results f (called_in all) slots code
         → AllByRecursion (ValidOperation valid.0 p valid.1.results f slots all) code → label_count code ≤ bound
-        → CanBeWritten (data_of p) k (wanted_bytes at code) (map routines code) code
-    all_linked routines at code h v l j i e =
+        → CanBeWritten (data_of p) k (wanted_bytes at code) known (map routines code) code
+    all_linked routines known at code h v l j i e =
         let n = slice_index (wanted_bytes at code) j in
         let own = all_emitted p valid leaves results f slots k all bound room entries at code h v l j i e in
         let call = called_there p results f (called_in all) slots at code h j i e in
-        subst (λ (r : Option ℕ). CanBeLinked r (data_of p) k n i) (sym (routine_there routines code j i e)) (linked n own call (routines i))
+        linked n own call (routine_used (get_or known j None) i (get_or (map routines code) j None))
       where
         linked : (n : ℕ) → CanBeEmitted (data_of p) k n i → CanBeCalled n i → (r : Option ℕ) → CanBeLinked r (data_of p) k n i
         linked n own call None = own

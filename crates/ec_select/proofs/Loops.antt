@@ -4,7 +4,7 @@ use Rattle.std.proofs.Common.{arith}
 use Rattle.std.specs.Prelude.{◌%◌, ◌==◌, nat_le, nat_lt, if◌then◌else◌}
 use Rattle.std.proofs.lemmas.Bool.{lt-ltb, eqb-true, and_parts}
 use Rattle.std.proofs.lemmas.Bool.Decides.{nat_tests}
-use Rattle.ec_isa.specs.declared.instructions.Instr.TheVariants.{Mov, Movw, Ldi, Mul}
+use Rattle.ec_isa.specs.declared.instructions.Instr.TheVariants.{Mov, Movw, Ldi, Mul, Sbc}
 use Rattle.ec_isa.specs.Table.{in_table}
 use Rattle.ec_asm.specs.declared.items.AsmItem.TheVariants.{Plain}
 use Rattle.ec_asm.specs.declared.pieces.Location.{Location}
@@ -25,8 +25,9 @@ use Rattle.ec_select_quotients.specs.Signs.{cross_code, number_sign_code, diviso
 use Rattle.ec_select_quotients.specs.Signs.{put_pairs, put_code, start_code, result_code, sign_code, finish_code, divided_code, quotient_code}
 use Rattle.ec_select_shifts.specs.declared.shifts.Direction.{Direction}
 use Rattle.ec_select_shifts.specs.declared.shifts.Direction.TheVariants.{Left, Right}
-use Rattle.ec_select_shifts.specs.Shifts.{turn_code, turn_words, jump_code, end_code, shift_code, turns_code, bits_code, counted_code}
-use Rattle.ec_select_shifts.specs.Shifts.{filled_byte, sign_code as top_sign_code, moved_byte, moved_code, first_moved, bytes_code, moves_bytes}
+use Rattle.ec_select_shifts.specs.Shifts.{turn_code, turn_words, jump_code, end_code, shift_code, turns_code, most_turn_words, bits_code}
+use Rattle.ec_select_shifts.specs.Shifts.{filled_byte, sign_code as top_sign_code, moved_byte, moved_code, first_moved, bytes_code}
+use Rattle.ec_select_shifts.specs.Shifts.{moves_bytes, against_code, carried_byte, carry_code, carried_code, takes_carry, counted_code}
 use Rattle.ec_select.proofs.Fitting.{fits, Fit, joined, chained, ByteFits, BytesFit, registers_fit}
 use Rattle.ec_select.proofs.Fitting.{reg}
 use Rattle.ec_select.proofs.Pieces.{copy_fits, operate_fits, compares_fits, instruction_fits}
@@ -67,7 +68,7 @@ module _ (sizes : Sizes) where
 
   -- by a known count
   bits_fit : (s : Direction) (p : Location) (n k : ℕ) → n ≤ 8 → k < 256 → BytesFit sizes p n → Fit sizes (bits_code s p n k)
-  bits_fit s p n k few small x = by_words (nat_le (k * turn_words s p n) (turn_words s p n + 4))
+  bits_fit s p n k few small x = by_words (nat_le (k * turn_words s p n) (most_turn_words s p n))
     where
       first : Fit sizes (Plain (Ldi 30 k) ∷ [])
       first = rw (lt-ltb k 256 small) refl
@@ -109,10 +110,53 @@ module _ (sizes : Sizes) where
       by_side (Right signed) i l =
           byte_fits (Right signed) (r + i) (r + (q + i)) (nat_lt (q + i) n) (x i l) (below (nat_lt (q + i) n) (q + i) refl)
 
+  -- the carry that comes with the bytes
+  carried_byte_fits : (s : Direction) (r n q i : ℕ) → i < n → BytesFit sizes (InRegisters r) n → Fit sizes (carried_byte s r n q i)
+  carried_byte_fits Left r n q i l x =
+      byte_fits Left (r + (n - 1 - i)) (r + (n - 1 - i - q)) (nat_le q (n - 1 - i)) (x (n - 1 - i) (omega (arith, l)))
+      (inl (x (n - 1 - i - q) (omega (arith, l))))
+  carried_byte_fits (Right signed) r n q i l x = by_sign signed
+    where
+      ltb_true : (a b : ℕ) → nat_lt a b ≡ true → a < b
+      ltb_true a b h = grind (arith, nat_tests)
+
+      below : (b : Bool) → nat_lt (q + i) n ≡ b → r + (q + i) < 32 ⊎ b ≡ false
+      below true t = inl (x (q + i) (ltb_true (q + i) n t))
+      below false t = inr refl
+
+      by_place : (b : Bool) → nat_lt (q + i) n ≡ b
+          → Fit sizes (if b then Plain (Mov (r + i) (r + (q + i))) ∷ [] else Plain (Sbc (r + i) (r + i)) ∷ [])
+      by_place true t = let a = x (q + i) (ltb_true (q + i) n t) in rw (lt-ltb (r + i) 32 (x i l), lt-ltb (r + (q + i)) 32 a) refl
+      by_place false t = rw (lt-ltb (r + i) 32 (x i l)) refl
+
+      by_sign : (signed : Bool) → Fit sizes (carried_byte (Right signed) r n q i)
+      by_sign true = by_place (nat_lt (q + i) n) refl
+      by_sign false = byte_fits (Right false) (r + i) (r + (q + i)) (nat_lt (q + i) n) (x i l) (below (nat_lt (q + i) n) refl)
+
+  carried_fits : (s : Direction) (r n q : ℕ) → q < n → BytesFit sizes (InRegisters r) n → Fit sizes (carried_code s r n q)
+  carried_fits s r n q some x =
+      let bytes = chain (carried_byte s r n (suc q)) n in
+      joined (fits sizes) (against_code s r q (n - q)) (bytes ++ carry_code s r q (n - q)) (against_fits s)
+      (joined (fits sizes) bytes (carry_code s r q (n - q))
+      (chained (fits sizes) (carried_byte s r n (suc q)) n (λ i l. carried_byte_fits s r n (suc q) i l x)) (carry_fits s))
+    where
+      against_fits : (s : Direction) → Fit sizes (against_code s r q (n - q))
+      against_fits Left = turn_fits (Right false) (InRegisters r) (n - q) (λ i l. x i (omega (arith, l)))
+      against_fits (Right signed) =
+          turn_fits Left (InRegisters (r + q)) (n - q) (λ i l. let z = x (q + i) (omega (arith, l)) in omega (arith, z))
+
+      carry_fits : (s : Direction) → Fit sizes (carry_code s r q (n - q))
+      carry_fits Left = rw (lt-ltb (r + q) 32 (x q some)) refl
+      carry_fits (Right false) = rw (lt-ltb (r + (n - q - 1)) 32 (x (n - q - 1) (omega (arith, some)))) refl
+      carry_fits (Right true) = refl
+
   pub counted_fits : (s : Direction) (p : Location) (n k : ℕ) → n ≤ 8 → k < 256 → BytesFit sizes p n → Fit sizes (counted_code s p n k)
   counted_fits s (InMemory o j) n k few small x = bits_fit s (InMemory o j) n k few small x
-  counted_fits s (InRegisters r) n k few small x = by_bytes (moves_bytes n k) refl
+  counted_fits s (InRegisters r) n k few small x = by_carry (takes_carry n k) refl
     where
+      takes : (a b : ℕ) → nat_lt a b ≡ true → a < b
+      takes a b h = grind (arith, nat_tests)
+
       by_bytes : (b : Bool) → moves_bytes n k ≡ b
           → Fit sizes (if b then bytes_code s r n (k / 8) (k % 8) else bits_code s (InRegisters r) n k)
       by_bytes false t = bits_fit s (InRegisters r) n k few small x
@@ -129,6 +173,12 @@ module _ (sizes : Sizes) where
           part : (s : Direction) → k / 8 < n → BytesFit sizes (InRegisters (first_moved s r (k / 8))) (n - k / 8)
           part Left w i l = let z = x (k / 8 + i) (omega (arith, l, w)) in omega (arith, z)
           part (Right signed) w i l = x i (omega (arith, l))
+
+      by_carry : (b : Bool) → takes_carry n k ≡ b
+          → Fit sizes (if b then carried_code s r n (k / 8)
+          else if moves_bytes n k then bytes_code s r n (k / 8) (k % 8) else bits_code s (InRegisters r) n k)
+      by_carry false t = by_bytes (moves_bytes n k) refl
+      by_carry true t = carried_fits s r n (k / 8) (takes (k / 8) n (and_parts (nat_lt (k / 8) n) (k % 8 == 7) t).0) x
 
   -- ---- products
 

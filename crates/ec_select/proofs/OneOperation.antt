@@ -44,12 +44,15 @@ use Rattle.ec_select_order.specs.declared.relations.Relation.TheVariants.{Less, 
 use Rattle.ec_select_order.specs.Relations.{relation_code, flag_of, is_set}
 use Rattle.ec_select_products.specs.Products.{product_code}
 use Rattle.ec_select_quotients.specs.Signs.{quotient_code}
+use Rattle.ec_select_shifts.specs.declared.shifts.Direction.{Direction}
+use Rattle.ec_select_shifts.specs.declared.shifts.Direction.TheVariants.{Left, Right}
 use Rattle.ec_select_shifts.specs.Shifts.{shift_code, counted_code as turned_by_code}
 use Rattle.ec_select_operations.specs.declared.families.Family.{Family}
 use Rattle.ec_select_operations.specs.declared.families.Family.TheVariants.{Combined, Compared, Multiplied, Shifted}
 use Rattle.ec_select_operations.specs.declared.families.Family.TheVariants.{Divided}
 use Rattle.ec_select_operations.specs.declared.families.Told.{Told}
 use Rattle.ec_select_operations.specs.declared.homes.Homes.{Homes}
+use Rattle.ec_select_operations.specs.Code.{counted_by_code}
 use Rattle.ec_select_operations.specs.Code.{compared_signed, counted_code, same_location, transfer_code, move_code, reversed_code, family_of, is_signed}
 use Rattle.ec_select_operations.specs.Code.{conversion_code, combined_code}
 use Rattle.ec_select_operations.specs.Code.{compared_code, multiplied_code, shift_of, shifted_bytes, turned_code}
@@ -59,8 +62,8 @@ use Rattle.ec_select_operations.specs.Code.{place_register}
 use Rattle.ec_select_operations.specs.Code.{kept_bytes, waiting_location, save_place, restore_place, register_places}
 use Rattle.ec_select_operations.specs.Code.{save_code}
 use Rattle.ec_select_operations.specs.Code.{restore_code, taken_code, call_code, result_code, return_code}
-use Rattle.ec_select_operations.specs.Code.{flag_code, operator_code, tested_code, kept_need, own_code, op_code, tells_next}
-use Rattle.ec_select_operations.specs.Code.{called_code, linked_code, result_wanted}
+use Rattle.ec_select_operations.specs.Code.{flag_code, operator_code, tested_code, jump_code, kept_need, own_code, op_code, tells_next}
+use Rattle.ec_select_operations.specs.Code.{called_code, linked_code, routine_used, result_wanted}
 use Rattle.ec_select_routines.specs.Codes.{first_place, second_place, call_with_one, call_with_two}
 use Rattle.ec_select_operations.specs.Code.{ops_code}
 use Rattle.ec_select_operations.specs.Code.{work_location, answer_location, answer_code, by_kind, fixed_binary, fixed_unary}
@@ -70,22 +73,25 @@ use Rattle.ec_select_fixed.specs.Types.{format_in}
 use Rattle.ec_select_operations.specs.Emitted.{second_bytes}
 use Rattle.ec_select_operations.proofs.OneFormat.{placed_bytes}
 use Rattle.ec_select_operations.specs.Code.{fixed_conversion, addressed_code, member_code, load_code, banked_code, moved_code, offset_code}
+use Rattle.ec_select_operations.specs.Code.{known_bytes, known_offset, offset_by}
 use Rattle.ec_select_operations.specs.Code.{related_bytes, pointers_code, is_difference, pointer_binary, pointer_conversion}
 use Rattle.ec_select_functions.specs.Covered.{AreIntegers}
 use Rattle.ec_select_functions.specs.Covered.{HasIndex, HasScalarAt, IsBinary, IsFixedBinary, IsFixedUnary}
 use Rattle.ec_select_functions.specs.Covered.{AreConverted, IsFixedConversion, IsPointerBinary, IsPointerConversion}
 use Rattle.ec_select_functions.specs.Covered.{IsUnary, IsResult, IsCovered, AreCovered}
 use Rattle.ec_select_functions.proofs.Cells.{UsesCells}
+use Rattle.ec_select_functions.proofs.Counts.{used_is}
 use Rattle.ec_select_functions.proofs.OnIntegers.{whole_type}
 use Rattle.ec_select_functions.proofs.OnWholes.{on_wholes}
 use Rattle.ec_select_operations.specs.Homes.{HasHome, depth, home, result_location}
-use Rattle.ec_select_functions.proofs.Taken.{TakesSum, TakesOrder, TakesShift, takes, taken_is, compared_few}
+use Rattle.ec_select_functions.proofs.Taken.{TakesSum, TakesOrder, TakesShift, takes, taken_is, compared_few, compared_within, compared_some}
 use Rattle.ec_select_operations.specs.Code.{taking_code, integer_binary, changed_by_code}
 use Rattle.ec_ir_known.specs.declared.known.RightNumber.{RightNumber}
 use Rattle.ec_select_operations.specs.Needs.{Need, Facts, wanted, wanted_result, needs, is_fixed, number_taken, compared_bytes as bytes_compared}
+use Rattle.ec_select_operations.specs.Needs.{takes_count}
 use Rattle.ec_select.proofs.ByNumber.{changed_by_fits, compared_with_fits}
 use Rattle.ec_select_operations.specs.Places.{object_location}
-use Rattle.ec_select_operations.specs.Pointers.{is_pointer, is_into_data, kept_in, IsPointerSize}
+use Rattle.ec_select_operations.specs.Pointers.{is_pointer, is_into_data, kept_in, has_tables, IsPointerSize}
 use Rattle.ec_select_operations.specs.Ports.{in_code, out_code, first_cell, cell_place, cell_in_code, cell_out_code}
 use Rattle.ec_select.proofs.FixedItems.{FixedItemLaws, plain_fits, has_places, answer_fits, own_fits, others_fit}
 use Rattle.ec_select.proofs.Carried.{carried_fits}
@@ -136,7 +142,9 @@ pub record ObjectsFit (sizes : Sizes) (p : PlainProgram) : Type 0 where
 -- what is asked of a test for the items that name labels
 abbrev pub AcceptsLabels : (AsmItem → Bool) → Linkage → PlainIr → Type 0
 AcceptsLabels q k (label l) = q (Label (k.label_of l)) ≡ true
-AcceptsLabels q k (jump l) = q (JumpTo (k.label_of l)) ≡ true
+AcceptsLabels q k (jump l) =
+    (q (JumpTo (k.label_of l)) ≡ true)
+    × ((set : Bool) (flag : ℕ) → nat_lt flag 8 ≡ true → q (BranchTo set flag (k.label_of l)) ≡ true)
 AcceptsLabels q k (branch_zero t l) =
     (set : Bool) (flag : ℕ) → nat_lt flag 8 ≡ true → q (BranchTo set flag (k.label_of l)) ≡ true
 AcceptsLabels q k (call_function f to) = q (CallTo (k.entry_of f)) ≡ true
@@ -494,6 +502,20 @@ module _ (sizes : Sizes) where
         (move_fits a c from.bytes (at_home from x) (low_home to from.bytes z (omega (arith, same))))
         (moved_fits sizes laws.pointers k.core c minus from.bytes some (low_leaves to from.bytes z (omega (arith, same))))))
 
+    -- so it does where the number of elements is known
+    offset_by_fits : (known : Option RightNumber) (minus signed : Bool) (from index to : Temp) (size n : ℕ) → HasHome k.slots from
+        → HasHome k.slots index → HasHome k.slots to → 2 ≤ from.bytes → to.bytes ≡ from.bytes
+        → Fit sizes (offset_by known k.core minus signed (home k.homes from) (home k.homes index) (home k.homes to) from.bytes index.bytes size n)
+    offset_by_fits None minus signed from index to size n x y z some same = offset_fits minus signed from index to size n x y z some same
+    offset_by_fits (Some number) minus signed from index to size n x y z some same =
+        let a = home k.homes from in let c = home k.homes to in
+        let offset = known_offset minus (known_bytes signed index.bytes (low_bytes 16 number.number) size) in
+        let member = member_code k.core from.bytes c offset in
+        unless_none n (move_code a c from.bytes ++ member)
+        (joined (fits sizes) (move_code a c from.bytes) member
+        (move_fits a c from.bytes (at_home from x) (low_home to from.bytes z (omega (arith, same))))
+        (member_fits sizes laws.pointers k.core c from.bytes offset some (low_home to from.bytes z (omega (arith, same)))))
+
     pointers_fit : (family : Family) (a b to : Temp) (size n : ℕ) → HasHome k.slots a → HasHome k.slots b
         → HasHome k.slots to → 2 ≤ a.bytes → b.bytes ≡ a.bytes → to.bytes ≡ 2 → n ≤ to.bytes
         → Fit sizes (pointers_code k.core family (home k.homes a) (home k.homes b) (home k.homes to) a.bytes size n)
@@ -515,13 +537,13 @@ module _ (sizes : Sizes) where
     pointers_fit (Shifted up) a b to size n x y z some same two l = refl
     pointers_fit (Divided r) a b to size n x y z some same two l = refl
 
-    pointer_binary_fits : (op : BinOp) (to a b : Temp) (ty aty bty : PlainType) (n : ℕ)
+    pointer_binary_fits : (known : Option RightNumber) (op : BinOp) (to a b : Temp) (ty aty bty : PlainType) (n : ℕ)
         → IsPointerBinary p k.slots op to a b ty aty bty → n ≤ to.bytes
-        → Fit sizes (pointer_binary k.core (is_pointer aty) (is_pointer bty) p op aty bty (home k.homes a) (home k.homes b)
+        → Fit sizes (pointer_binary known k.core (is_pointer aty) (is_pointer bty) p op aty bty (home k.homes a) (home k.homes b)
         (home k.homes to) a.bytes b.bytes n)
-    pointer_binary_fits op to a b ty aty bty n h l = by_kinds (is_pointer aty) (is_pointer bty) refl refl where
+    pointer_binary_fits known op to a b ty aty bty n h l = by_kinds (is_pointer aty) (is_pointer bty) refl refl where
       by_kinds : (x y : Bool) → is_pointer aty ≡ x → is_pointer bty ≡ y
-          → Fit sizes (pointer_binary k.core x y p op aty bty (home k.homes a) (home k.homes b) (home k.homes to) a.bytes b.bytes n)
+          → Fit sizes (pointer_binary known k.core x y p op aty bty (home k.homes a) (home k.homes b) (home k.homes to) a.bytes b.bytes n)
       by_kinds true true d e =
           let t = two_pointers op ty aty bty d e h.types in
           let s = t.some in let m = t.same in let r = t.result in
@@ -531,7 +553,7 @@ module _ (sizes : Sizes) where
       by_kinds true false d e =
           let t = first_pointer op ty aty bty d e h.types in
           let s = t.some in let r = t.result in let i = h.left_bytes in let w = h.result_bytes in
-          offset_fits (is_difference op) (is_signed bty) a b to (element_size p aty) n h.left h.right h.result
+          offset_by_fits known (is_difference op) (is_signed bty) a b to (element_size p aty) n h.left h.right h.result
           (omega (arith, s, i)) (omega (arith, r, i, w))
       by_kinds false true d e =
           let t = second_pointer op ty aty bty d e h.types in
@@ -613,21 +635,30 @@ module _ (sizes : Sizes) where
             (low_home a (bytes_compared (Some number) a.bytes) i.left few)
         by_number (inr (inr x)) None number =
             let i = (subst (λ z. IsBinary z k.slots to a b ty aty bty) x.is h).0 in
-            let same = i.same_bytes in
-            let most = i.left.most in
-            let sh = shift_of x.up left in
-            let m = shifted_bytes x.up a.bytes n in
-            let few : m ≤ a.bytes = fewer x.up same in
-            rw x.is (unless_none n (counted_code sh (home k.homes a) (home k.homes to) m (low_bytes 16 number.number % 256))
-            (joined (fits sizes) (move_code (home k.homes a) (home k.homes to) m)
-            (turned_by_code sh (home k.homes to) m (low_bytes 16 number.number % 256))
-            (move_fits (home k.homes a) (home k.homes to) m (low_home a m i.left few) (low_home to m i.result (omega (arith, few, same))))
-            (counted_fits sizes sh (home k.homes to) m (low_bytes 16 number.number % 256) (omega (arith, few, most)) (omega arith)
-            (low_home to m i.result (omega (arith, few, same))))))
+            let compared = bytes_compared (Some number) a.bytes in
+            let sign = compared_signed (Some number) left in
+            let count = low_bytes 16 number.number % 256 in
+            rw x.is (unless_none n (counted_by_code x.up sign (home k.homes a) (home k.homes to) compared n count)
+            (by_direction x.up sign i.left i.result i.same_bytes compared (compared_few number a.bytes)
+            (compared_some (Some number) a.bytes i.left.some)))
           where
-            fewer : (up : Bool) → a.bytes ≡ to.bytes → shifted_bytes up a.bytes n ≤ a.bytes
-            fewer true same = omega (arith, same, l)
-            fewer false same = omega arith
+            count_fits : (sh : Direction) (m : ℕ) → HasHome k.slots a → HasHome k.slots to → a.bytes ≡ to.bytes → m ≤ a.bytes
+                → Fit sizes (counted_code sh (home k.homes a) (home k.homes to) m (low_bytes 16 number.number % 256))
+            count_fits sh m ia it same few =
+                let most = ia.most in
+                joined (fits sizes) (move_code (home k.homes a) (home k.homes to) m)
+                (turned_by_code sh (home k.homes to) m (low_bytes 16 number.number % 256))
+                (move_fits (home k.homes a) (home k.homes to) m (low_home a m ia few) (low_home to m it (omega (arith, few, same))))
+                (counted_fits sizes sh (home k.homes to) m (low_bytes 16 number.number % 256) (omega (arith, few, most)) (omega arith)
+                (low_home to m it (omega (arith, few, same))))
+
+            by_direction : (up sign : Bool) → HasHome k.slots a → HasHome k.slots to → a.bytes ≡ to.bytes → (m : ℕ) → m ≤ a.bytes → 1 ≤ m
+                → Fit sizes (counted_by_code up sign (home k.homes a) (home k.homes to) m n (low_bytes 16 number.number % 256))
+            by_direction true sign ia it same m few some = count_fits Left n ia it same (omega (arith, l, same))
+            by_direction false sign ia it same m few some =
+                joined (fits sizes) (counted_code (Right sign) (home k.homes a) (home k.homes to) m (low_bytes 16 number.number % 256))
+                (extend_code false (home k.homes to) m n) (count_fits (Right sign) m ia it same few)
+                (extend_fits sizes false (home k.homes to) m n some (low_home to n it l))
         by_number (inr (inr x)) (Some told) number =
             let i = (subst (λ z. IsBinary z k.slots to a b ty aty bty) x.is h).0 in
             let few = compared_few number a.bytes in
@@ -646,13 +677,13 @@ module _ (sizes : Sizes) where
         → Fit sizes (by_kind (is_fixed aty || is_fixed bty)
         (fixed_binary known telling op ty aty bty mode (home k.homes a) (home k.homes b) (home k.homes to) a.bytes n)
         (by_kind (is_pointer aty || is_pointer bty)
-        (pointer_binary k.core (is_pointer aty) (is_pointer bty) p op aty bty (home k.homes a) (home k.homes b) (home k.homes to)
+        (pointer_binary known k.core (is_pointer aty) (is_pointer bty) p op aty bty (home k.homes a) (home k.homes b) (home k.homes to)
         a.bytes b.bytes n)
         (integer_binary known telling op (is_signed aty) (is_signed bty) (home k.homes a) (home k.homes b) (home k.homes to)
         a.bytes n)))
     of_binary known telling op ty aty bty mode to a b n (inl h) l =
         let own = fixed_binary known telling op ty aty bty mode (home k.homes a) (home k.homes b) (home k.homes to) a.bytes n in
-        let pointed = pointer_binary k.core (is_pointer aty) (is_pointer bty) p op aty bty (home k.homes a) (home k.homes b)
+        let pointed = pointer_binary known k.core (is_pointer aty) (is_pointer bty) p op aty bty (home k.homes a) (home k.homes b)
         (home k.homes to) a.bytes b.bytes n in
         let usual = integer_binary known telling op (is_signed aty) (is_signed bty) (home k.homes a) (home k.homes b)
         (home k.homes to) a.bytes n in
@@ -663,7 +694,7 @@ module _ (sizes : Sizes) where
         (taking_fits op known telling to a b ty aty bty (is_signed aty) (is_signed bty) n h l))
     of_binary known telling op ty aty bty mode to a b n (inr (inl h)) l =
         let own = fixed_binary known telling op ty aty bty mode (home k.homes a) (home k.homes b) (home k.homes to) a.bytes n in
-        let pointed = pointer_binary k.core (is_pointer aty) (is_pointer bty) p op aty bty (home k.homes a) (home k.homes b)
+        let pointed = pointer_binary known k.core (is_pointer aty) (is_pointer bty) p op aty bty (home k.homes a) (home k.homes b)
         (home k.homes to) a.bytes b.bytes n in
         let usual = integer_binary known telling op (is_signed aty) (is_signed bty) (home k.homes a) (home k.homes b)
         (home k.homes to) a.bytes n in
@@ -671,14 +702,14 @@ module _ (sizes : Sizes) where
         (either_fixed aty bty h.types.fixed) (fixed_binary_fits known telling op ty aty bty mode to a b n h l)
     of_binary known telling op ty aty bty mode to a b n (inr (inr h)) l =
         let own = fixed_binary known telling op ty aty bty mode (home k.homes a) (home k.homes b) (home k.homes to) a.bytes n in
-        let pointed = pointer_binary k.core (is_pointer aty) (is_pointer bty) p op aty bty (home k.homes a) (home k.homes b)
+        let pointed = pointer_binary known k.core (is_pointer aty) (is_pointer bty) p op aty bty (home k.homes a) (home k.homes b)
         (home k.homes to) a.bytes b.bytes n in
         let usual = integer_binary known telling op (is_signed aty) (is_signed bty) (home k.homes a) (home k.homes b)
         (home k.homes to) a.bytes n in
         others_fit sizes (is_fixed aty || is_fixed bty) own (by_kind (is_pointer aty || is_pointer bty) pointed usual)
         (pointers_only op ty aty bty h.pointer h.types).0
         (own_fits sizes (is_pointer aty || is_pointer bty) pointed usual h.pointer
-        (pointer_binary_fits op to a b ty aty bty n h l))
+        (pointer_binary_fits known op to a b ty aty bty n h l))
 
     of_unary : (op : UnOp) (ty : PlainType) (mode : Mode) (to a : Temp) (n : ℕ)
         → IsUnary k.slots to a ty ⊎ IsFixedUnary k.slots op to a ty → n ≤ to.bytes
@@ -798,17 +829,28 @@ module _ (sizes : Sizes) where
       by_fit : (items : List AsmItem) → Fit sizes items → list_all q items ≡ true
       by_fit items h = passing sizes q passes items h
 
-      branch_passes : (t : Temp) (l : ℕ) → HasHome k.slots t → q (BranchTo true 1 l) ≡ true
-          → list_all q (branch_code (home k.homes t) t.bytes l) ≡ true
-      branch_passes t l h a =
-          joined q (test_code (home k.homes t) t.bytes) (BranchTo true 1 l ∷ [])
-          (by_fit (test_code (home k.homes t) t.bytes) (test_fits sizes (home k.homes t) t.bytes (at_home t h))) (rw a refl)
+      branch_passes : (t : Temp) (size l : ℕ) → HasHome k.slots t → size ≤ t.bytes → q (BranchTo true 1 l) ≡ true
+          → list_all q (branch_code (home k.homes t) size l) ≡ true
+      branch_passes t size l h few a =
+          joined q (test_code (home k.homes t) size) (BranchTo true 1 l ∷ [])
+          (by_fit (test_code (home k.homes t) size) (test_fits sizes (home k.homes t) size (low_home t size h few))) (rw a refl)
 
-      tested_passes : (told : Option Told) (t : Temp) (l : ℕ) → HasHome k.slots t
+      tested_passes : (told telling : Option Told) (t : Temp) (size l : ℕ) → HasHome k.slots t → size ≤ t.bytes
           → ((set : Bool) (flag : ℕ) → nat_lt flag 8 ≡ true → q (BranchTo set flag l) ≡ true)
-          → list_all q (tested_code told (home k.homes t) t.bytes l) ≡ true
-      tested_passes None t l h a = branch_passes t l h (a true 1 refl)
-      tested_passes (Some told) t l h a =
+          → list_all q (tested_code told telling (home k.homes t) size l) ≡ true
+      tested_passes None None t size l h few a = branch_passes t size l h few (a true 1 refl)
+      tested_passes None (Some behind) t size l h few a =
+          by_fit (test_code (home k.homes t) size) (test_fits sizes (home k.homes t) size (low_home t size h few))
+      tested_passes (Some told) None t size l h few a =
+          let one = a (not (is_set told.relation)) (flag_of told.relation told.signed) (flag_small told.relation told.signed) in
+          rw one refl
+      tested_passes (Some told) (Some behind) t size l h few a = refl
+
+      jump_passes : (told : Option Told) (l : ℕ) → q (JumpTo l) ≡ true
+          → ((set : Bool) (flag : ℕ) → nat_lt flag 8 ≡ true → q (BranchTo set flag l) ≡ true)
+          → list_all q (jump_code told l) ≡ true
+      jump_passes None l h a = rw h refl
+      jump_passes (Some told) l h a =
           let one = a (not (is_set told.relation)) (flag_of told.relation told.signed) (flag_small told.relation told.signed) in
           rw one refl
 
@@ -872,8 +914,9 @@ module _ (sizes : Sizes) where
           by_fit (own_code p (home k.homes) k told telling known need (conversion to ty mode x aty))
           (of_conversion ty aty mode to x (wanted need to) h (omega arith))
       own_passes results f called told telling known need (label l) h u a = rw a refl
-      own_passes results f called told telling known need (jump l) h u a = rw a refl
-      own_passes results f called told telling known need (branch_zero t l) h u a = tested_passes told t (k.label_of l) h a
+      own_passes results f called told telling known need (jump l) h u a = jump_passes told (k.label_of l) a.0 a.1
+      own_passes results f called told telling known need (branch_zero t l) h u a =
+          tested_passes told telling t (bytes_compared known t.bytes) (k.label_of l) h (compared_within known t.bytes) a
       own_passes results f called told telling known need (call_function g to) h u a =
           call_passes results g to (wanted_result need to) (kept_need need (call_function g to)) h (wanted_few need to) a
       own_passes results f called told telling known need (return_from from) h u a = return_passes results f k.is_main from h
@@ -887,9 +930,9 @@ module _ (sizes : Sizes) where
           (member_fits sizes laws.pointers k.core (home k.homes ptr) ptr.bytes offset (omega (arith, two, e)) (at_home ptr h.0))
       own_passes results f called told telling known need (load_at to ptr space) h u a =
           let few = h.0.most in let e = h.1.1 in
-          by_fit (load_code k.core space (home k.homes ptr) (home k.homes to) to.bytes)
-          (load_fits sizes laws.pointers k.core space (home k.homes ptr) (home k.homes to) to.bytes (omega (arith, few))
-          (low_leaves ptr (width space) h.1.0 (omega (arith, e))) (home_leaves cells k.homes k.slots room to h.0))
+          by_fit (load_code k.core (has_tables p.objects) space (home k.homes ptr) (home k.homes to) to.bytes)
+          (load_fits sizes laws.pointers k.core (has_tables p.objects) space (home k.homes ptr) (home k.homes to) to.bytes
+          (omega (arith, few)) (low_leaves ptr (width space) h.1.0 (omega (arith, e))) (home_leaves cells k.homes k.slots room to h.0))
       own_passes results f called told telling known need (store_at ptr space from) h u a =
           let few = h.0.most in let two = some_width space in let e = h.1.1 in
           by_fit (store_data_code (home k.homes from) (home k.homes ptr) from.bytes)
@@ -989,12 +1032,13 @@ module _ (sizes : Sizes) where
       pub operation_passes : (results : ℕ → ℕ) (f : ℕ) (called : List ℕ) (told telling : Option Told) (known : Option RightNumber)
           (need : Need) (i : PlainIr) → IsCovered p results f called k.slots i → UsesCells cells i → AcceptsLabels q k i → AcceptsCalls q k i
           → list_all q (op_code p (home k.homes) k told telling known need i) ≡ true
-      operation_passes results f called told telling known need i h u a c = by_routine (k.routine_of i) refl where
-        by_routine : (r : Option ℕ) → k.routine_of i ≡ r
-            → list_all q (linked_code r (λ l. called_code (home k.homes) l (result_wanted need i) i)
-            (own_code p (home k.homes) k told telling known need i)) ≡ true
-        by_routine None e = own_passes results f called told telling known need i h u a
-        by_routine (Some l) e = called_passes results f called l need i h (c l e)
+      operation_passes results f called told telling known need i h u a c =
+          by_routine (routine_used known i (k.routine_of i)) (λ l e. used_is (takes_count known i) (k.routine_of i) l e) where
+            by_routine : (r : Option ℕ) → ((l : ℕ) → r ≡ Some l → k.routine_of i ≡ Some l)
+                → list_all q (linked_code r (λ l. called_code (home k.homes) l (result_wanted need i) i)
+                (own_code p (home k.homes) k told telling known need i)) ≡ true
+            by_routine None e = own_passes results f called told telling known need i h u a
+            by_routine (Some l) e = called_passes results f called l need i h (c l (e l refl))
 
       -- all operations
 
@@ -1003,7 +1047,7 @@ module _ (sizes : Sizes) where
           → list_all q (ops_code p (home k.homes) k at told code) ≡ true
       operations_pass results f called at told [] h u a = refl
       operations_pass results f called at told (i ∷ code) h u a =
-          joined q (op_code p (home k.homes) k told (tells_next at i code) (at.known (i ∷ code)) (needs at code) i)
-          (ops_code p (home k.homes) k at (tells_next at i code) code)
-          (operation_passes results f called told (tells_next at i code) (at.known (i ∷ code)) (needs at code) i h.0 u.0 a.0 a.1)
-          (operations_pass results f called at (tells_next at i code) code h.1 u.1 a.2)
+          joined q (op_code p (home k.homes) k told (tells_next at told i code) (at.known (i ∷ code)) (needs at code) i)
+          (ops_code p (home k.homes) k at (tells_next at told i code) code)
+          (operation_passes results f called told (tells_next at told i code) (at.known (i ∷ code)) (needs at code) i h.0 u.0 a.0 a.1)
+          (operations_pass results f called at (tells_next at told i code) code h.1 u.1 a.2)

@@ -72,6 +72,7 @@ use Rattle.ec_select_operations.specs.declared.families.Family.TheVariants.{Comb
 use Rattle.ec_select_operations.specs.declared.families.Family.TheVariants.{Divided}
 use Rattle.ec_select_operations.specs.declared.families.Told.{Told}
 use Rattle.ec_select_operations.specs.declared.homes.Homes.{Homes}
+use Rattle.ec_select_operations.specs.Code.{counted_by_code}
 use Rattle.ec_select_operations.specs.Code.{compared_signed, counted_code, same_location, transfer_code, move_code, reversed_code, family_of, is_signed}
 use Rattle.ec_select_operations.specs.Code.{conversion_code, combined_code}
 use Rattle.ec_select_operations.specs.Code.{compared_code, multiplied_code, shift_of, shifted_bytes, turned_code}
@@ -80,13 +81,14 @@ use Rattle.ec_select_operations.specs.Code.{divided_code, binary_code, turn_code
 use Rattle.ec_select_operations.specs.Code.{place_register}
 use Rattle.ec_select_operations.specs.Code.{kept_bytes, save_place, restore_place, register_places, save_code}
 use Rattle.ec_select_operations.specs.Code.{restore_code, taken_code, call_code, result_code, return_code}
-use Rattle.ec_select_operations.specs.Code.{flag_code, operator_code, tested_code}
+use Rattle.ec_select_operations.specs.Code.{flag_code, operator_code, tested_code, jump_code}
 use Rattle.ec_select_operations.specs.Code.{work_location, answer_location, answer_code, by_kind, fixed_binary, fixed_unary}
 use Rattle.ec_select_operations.specs.Code.{is_on_integers, has_one_format, takes_place, is_placed, placed_whole, placed_binary}
 use Rattle.ec_select_operations.specs.Code.{keeps_number, is_brought, brought_code, negated_unary}
 use Rattle.ec_select_fixed.specs.Types.{format_in}
 use Rattle.ec_select_operations.specs.Code.{fixed_conversion, by_core, is_far, is_whole_address, addressed_code, member_code}
 use Rattle.ec_select_operations.specs.Code.{load_code, banked_code, moved_code, offset_code}
+use Rattle.ec_select_operations.specs.Code.{known_bytes, known_offset, offset_by}
 use Rattle.ec_select_operations.specs.Code.{related_bytes, pointers_code}
 use Rattle.ec_select_operations.specs.Code.{is_difference, pointer_binary, pointer_conversion}
 use Rattle.ec_select_functions.specs.Covered.{IsBinary, IsUnary}
@@ -418,6 +420,18 @@ module _ (laws : WordLaws) where
   brought_words h to a n same bytes =
       let e : home h a ≡ home h to = rw (bytes, ← same) refl in kept_words (home h a) (home h to) n e
 
+  counted_words : (sh : Direction) (p q : Location) (m k : ℕ) → code_words (counted_code sh p q m k) ≤ 11 * m + 7
+  counted_words sh p q m k =
+      omega (arith, joined_words (move_code p q m) (turned_by_code sh q m k), move_words p q m, counted_shifts_have_words sh q m k)
+
+  counted_by_most : (up sign : Bool) (p q : Location) (m n k : ℕ)
+      → code_words (counted_by_code up sign p q m n k) ≤ 11 * m + 13 * n + 11
+  counted_by_most true sign p q m n k = let x = counted_words Left p q n k in omega (arith, x)
+  counted_by_most false sign p q m n k =
+      let x = counted_words (Right sign) p q m k in
+      let y = (laws.values q 0 m n).2 false in
+      omega (arith, joined_words (counted_code (Right sign) p q m k) (extend_code false q m n), x, y)
+
   pub taking_most : (known : Option RightNumber) (telling : Option Told) (op : BinOp) (slots : ℕ) (h : Homes) (to a b : Temp)
       (ty aty bty : PlainType) (left right : Bool) (n : ℕ) → IsBinary (family_of op) slots to a b ty aty bty → n ≤ to.bytes
       → (is_bitwise op ≡ true → to.at ≡ a.at)
@@ -483,22 +497,17 @@ module _ (laws : WordLaws) where
           by_op Xor r q = absurd cc
           by_op op r q = refl
 
-      by_shift : (up : Bool) → IsBinary (Shifted up) slots to a b ty aty bty → is_bitwise op ≡ false → (number : ℕ)
-          → code_words (if n == 0 then [] else counted_code (shift_of up left) (home h a) (home h to) (shifted_bytes up a.bytes n) number)
-          ≤ binary_words op ty aty bty
-      by_shift up i q number =
+      by_shift : (up sign : Bool) → IsBinary (Shifted up) slots to a b ty aty bty → is_bitwise op ≡ false → (number shifted : ℕ)
+          → shifted ≤ a.bytes
+          → code_words (if n == 0 then [] else counted_by_code up sign (home h a) (home h to) shifted n number) ≤ binary_words op ty aty bty
+      by_shift up sign i q number shifted few =
           let j = i.0 in
           let same = j.same_bytes in
-          let sh = shift_of up left in
-          let m = shifted_bytes up a.bytes n in
-          let few : m ≤ a.bytes = fewer_bytes up a.bytes n (omega (arith, same, l)) in
-          let first = move_code (home h a) (home h to) m in
-          let second = turned_by_code sh (home h to) m number in
+          let code = counted_by_code up sign (home h a) (home h to) shifted n number in
           let y = other_row op ty aty bty q in
           let x = first_within ty aty bty j.signed to.bytes j.result_type in
-          let u = unless_none n (11 * m + 28) (first ++ second)
-          (omega (arith, joined_words first second, move_words (home h a) (home h to) m, counted_shifts_have_words sh (home h to) m number)) in
-          let z = within (code_words (if n == 0 then [] else first ++ second)) (widest (ty ∷ aty ∷ bty ∷ [])) (omega (arith, x, u, few, same))
+          let u = unless_none n (11 * shifted + 13 * n + 11) code (counted_by_most up sign (home h a) (home h to) shifted n number) in
+          let z = within (code_words (if n == 0 then [] else code)) (widest (ty ∷ aty ∷ bty ∷ [])) (omega (arith, x, u, few, same, l))
           (some_within ty aty bty) in
           omega (arith, y, z)
 
@@ -532,8 +541,8 @@ module _ (laws : WordLaws) where
           by_flag j.left j.signed j.left_type (no_bits x) (low_bytes 16 number.number) (bytes_compared (Some number) a.bytes)
           (compared_few number a.bytes)
       by_number (inr (inr x)) None number =
-          rw x.is (by_shift x.up (subst (λ z. IsBinary z slots to a b ty aty bty) x.is i) (no_shifted_bits x)
-          (low_bytes 16 number.number % 256))
+          rw x.is (by_shift x.up (compared_signed (Some number) left) (subst (λ z. IsBinary z slots to a b ty aty bty) x.is i)
+          (no_shifted_bits x) (low_bytes 16 number.number % 256) (bytes_compared (Some number) a.bytes) (compared_few number a.bytes))
       by_number (inr (inr x)) (Some told) number =
           let j = (subst (λ z. IsBinary z slots to a b ty aty bty) x.is i).0 in
           by_flag j.left j.signed j.left_type (no_shifted_bits x) (low_bytes 16 number.number) (bytes_compared (Some number) a.bytes)
@@ -601,13 +610,15 @@ module _ (laws : WordLaws) where
   either_words Small small large most x y = x
   either_words Large small large most x y = y
 
-  pub load_most : (core : Core) (space : SpaceId) (p q : Location) (n : ℕ) → code_words (load_code core space p q n) ≤ 10 + 6 * n
-  load_most core Flash p q n = let x = (laws.pointers 0 0 None p q n).3 in omega (arith, x)
-  load_most core Data p q n = let x = (laws.pointers 0 0 None p q n).2 in omega (arith, x)
-  load_most core FarFlash p q n =
+  pub load_most : (core : Core) (tables : Bool) (space : SpaceId) (p q : Location) (n : ℕ)
+      → code_words (load_code core tables space p q n) ≤ 10 + 6 * n
+  load_most core tables Flash p q n = let x = (laws.pointers 0 0 None p q n).3 in omega (arith, x)
+  load_most core tables Data p q n = let x = (laws.pointers 0 0 None p q n).2 in omega (arith, x)
+  load_most core tables FarFlash p q n =
       let x = (laws.pointers 0 0 None p q n).3 in let y = (laws.far_pointers 0 0 p q n).2 in
       either_words core (load_flash_code p q n) (load_far_code p q n) (10 + 6 * n) (omega (arith, x)) (omega (arith, y))
-  load_most core Generic p q n =
+  load_most core false Generic p q n = let x = (laws.pointers 0 0 None p q n).2 in omega (arith, x)
+  load_most core true Generic p q n =
       let x = (laws.pointers 0 0 None p q n).4 in let y = (laws.far_pointers 0 0 p q n).4 in
       either_words core (load_any_code p q n) (load_any_far_code p q n) (10 + 6 * n) (omega (arith, x)) (omega (arith, y))
 
@@ -648,6 +659,17 @@ module _ (laws : WordLaws) where
         z,
       ))
 
+  -- where the number of elements may be known
+  pub offset_by_most : (known : Option RightNumber) (core : Core) (minus signed : Bool) (a b c : Location) (bytes index_bytes size n : ℕ)
+      → code_words (offset_by known core minus signed a b c bytes index_bytes size n) ≤ 4 * bytes + 43
+  offset_by_most None core minus signed a b c bytes index_bytes size n = offset_most core minus signed a b c bytes index_bytes size n
+  offset_by_most (Some number) core minus signed a b c bytes index_bytes size n =
+      let offset = known_offset minus (known_bytes signed index_bytes (low_bytes 16 number.number) size) in
+      let member = member_code core bytes c offset in
+      let x = move_words a c bytes in
+      let y = member_most core c bytes offset in
+      unless_none n (4 * bytes + 43) (move_code a c bytes ++ member) (omega (arith, joined_words (move_code a c bytes) member, x, y))
+
   pub pointers_most : (core : Core) (family : Family) (a b c : Location) (bytes size n : ℕ) → 2 ≤ bytes → n ≤ 8
       → code_words (pointers_code core family a b c bytes size n) ≤ 5 * bytes + 64
   pointers_most core (Combined op) a b c bytes size n some l =
@@ -663,11 +685,11 @@ module _ (laws : WordLaws) where
   pointers_most core (Shifted up) a b c bytes size n some l = omega arith
   pointers_most core (Divided r) a b c bytes size n some l = omega arith
 
-  pub pointer_binary_most : (core : Core) (p : PlainProgram) (op : BinOp) (slots : ℕ) (h : Homes) (to a b : Temp) (ty aty bty : PlainType)
+  pub pointer_binary_most : (known : Option RightNumber) (core : Core) (p : PlainProgram) (op : BinOp) (slots : ℕ) (h : Homes) (to a b : Temp) (ty aty bty : PlainType)
       (n : ℕ) → IsPointerBinary p slots op to a b ty aty bty → n ≤ to.bytes
-      → code_words (pointer_binary core (is_pointer aty) (is_pointer bty) p op aty bty (home h a) (home h b) (home h to)
+      → code_words (pointer_binary known core (is_pointer aty) (is_pointer bty) p op aty bty (home h a) (home h b) (home h to)
       a.bytes b.bytes n) ≤ binary_words op ty aty bty
-  pointer_binary_most core p op slots h to a b ty aty bty n i l = by_kinds (is_pointer aty) (is_pointer bty) refl refl where
+  pointer_binary_most known core p op slots h to a b ty aty bty n i l = by_kinds (is_pointer aty) (is_pointer bty) refl refl where
     left_within : a.bytes ≤ widest (ty ∷ aty ∷ bty ∷ [])
     left_within = let e = i.left_bytes in omega (arith, e)
 
@@ -682,7 +704,7 @@ module _ (laws : WordLaws) where
         omega (arith, x, y)
 
     by_kinds : (x y : Bool) → is_pointer aty ≡ x → is_pointer bty ≡ y
-        → code_words (pointer_binary core x y p op aty bty (home h a) (home h b) (home h to) a.bytes b.bytes n)
+        → code_words (pointer_binary known core x y p op aty bty (home h a) (home h b) (home h to) a.bytes b.bytes n)
         ≤ binary_words op ty aty bty
     by_kinds true true d e =
         let t = (two_pointers op ty aty bty d e i.types).some in let u = i.left_bytes in let few = i.result.most in
@@ -691,9 +713,9 @@ module _ (laws : WordLaws) where
         in_row (pointers_code core (family_of op) (home h a) (home h b) (home h to) a.bytes (element_size p aty) n)
         (let w = left_within in omega (arith, m, w))
     by_kinds true false d e =
-        let m = offset_most core (is_difference op) (is_signed bty) (home h a) (home h b) (home h to) a.bytes b.bytes
+        let m = offset_by_most known core (is_difference op) (is_signed bty) (home h a) (home h b) (home h to) a.bytes b.bytes
         (element_size p aty) n in
-        in_row (offset_code core (is_difference op) (is_signed bty) (home h a) (home h b) (home h to) a.bytes b.bytes (element_size p aty) n)
+        in_row (offset_by known core (is_difference op) (is_signed bty) (home h a) (home h b) (home h to) a.bytes b.bytes (element_size p aty) n)
         (let w = left_within in omega (arith, m, w))
     by_kinds false true d e =
         let m = offset_most core false (is_signed aty) (home h b) (home h a) (home h to) b.bytes a.bytes (element_size p bty) n in
@@ -844,12 +866,12 @@ module _ (laws : WordLaws) where
       → code_words (by_kind (is_fixed aty || is_fixed bty)
       (fixed_binary known telling op ty aty bty mode (home h a) (home h b) (home h to) a.bytes n)
       (by_kind (is_pointer aty || is_pointer bty)
-      (pointer_binary core (is_pointer aty) (is_pointer bty) p op aty bty (home h a) (home h b) (home h to) a.bytes b.bytes n)
+      (pointer_binary known core (is_pointer aty) (is_pointer bty) p op aty bty (home h a) (home h b) (home h to) a.bytes b.bytes n)
       (integer_binary known telling op (is_signed aty) (is_signed bty) (home h a) (home h b) (home h to) a.bytes n)))
       ≤ binary_words op ty aty bty
   one_binary core p known telling op ty aty bty mode slots h to a b n (inl i) l q =
       let own = fixed_binary known telling op ty aty bty mode (home h a) (home h b) (home h to) a.bytes n in
-      let pointed = pointer_binary core (is_pointer aty) (is_pointer bty) p op aty bty (home h a) (home h b) (home h to)
+      let pointed = pointer_binary known core (is_pointer aty) (is_pointer bty) p op aty bty (home h a) (home h b) (home h to)
       a.bytes b.bytes n in
       let usual = integer_binary known telling op (is_signed aty) (is_signed bty) (home h a) (home h b) (home h to) a.bytes n in
       let most = binary_words op ty aty bty in
@@ -860,7 +882,7 @@ module _ (laws : WordLaws) where
       (taking_most known telling op slots h to a b ty aty bty (is_signed aty) (is_signed bty) n i l same))
   one_binary core p known telling op ty aty bty mode slots h to a b n (inr (inl i)) l q =
       let own = fixed_binary known telling op ty aty bty mode (home h a) (home h b) (home h to) a.bytes n in
-      let pointed = pointer_binary core (is_pointer aty) (is_pointer bty) p op aty bty (home h a) (home h b) (home h to)
+      let pointed = pointer_binary known core (is_pointer aty) (is_pointer bty) p op aty bty (home h a) (home h b) (home h to)
       a.bytes b.bytes n in
       let usual = integer_binary known telling op (is_signed aty) (is_signed bty) (home h a) (home h b) (home h to) a.bytes n in
       let most = binary_words op ty aty bty in
@@ -868,14 +890,14 @@ module _ (laws : WordLaws) where
       (either_fixed aty bty i.types.fixed) (fixed_binary_most known telling op ty aty bty mode slots h to a b n i l)
   one_binary core p known telling op ty aty bty mode slots h to a b n (inr (inr i)) l q =
       let own = fixed_binary known telling op ty aty bty mode (home h a) (home h b) (home h to) a.bytes n in
-      let pointed = pointer_binary core (is_pointer aty) (is_pointer bty) p op aty bty (home h a) (home h b) (home h to)
+      let pointed = pointer_binary known core (is_pointer aty) (is_pointer bty) p op aty bty (home h a) (home h b) (home h to)
       a.bytes b.bytes n in
       let usual = integer_binary known telling op (is_signed aty) (is_signed bty) (home h a) (home h b) (home h to) a.bytes n in
       let most = binary_words op ty aty bty in
       others_words (is_fixed aty || is_fixed bty) own (by_kind (is_pointer aty || is_pointer bty) pointed usual) most
       (pointers_only op ty aty bty i.pointer i.types).0
       (own_words (is_pointer aty || is_pointer bty) pointed usual most i.pointer
-      (pointer_binary_most core p op slots h to a b ty aty bty n i l))
+      (pointer_binary_most known core p op slots h to a b ty aty bty n i l))
 
   pub one_unary : (op : UnOp) (ty : PlainType) (mode : Mode) (slots : ℕ) (h : Homes) (to a : Temp) (n : ℕ)
       → IsUnary slots to a ty ⊎ IsFixedUnary slots op to a ty → n ≤ to.bytes
@@ -926,9 +948,16 @@ module _ (laws : WordLaws) where
       let x = (laws.values p 0 bytes bytes).1 in
       omega (arith, joined_words (test_code p bytes) (BranchTo true 1 l ∷ []), x)
 
-  pub tested_most : (told : Option Told) (p : Location) (bytes l : ℕ) → code_words (tested_code told p bytes l) ≤ 6 + 3 * bytes
-  tested_most None p bytes l = branch_most p bytes l
-  tested_most (Some told) p bytes l = omega arith
+  pub tested_most : (told telling : Option Told) (p : Location) (bytes l : ℕ)
+      → code_words (tested_code told telling p bytes l) ≤ 6 + 3 * bytes
+  tested_most None None p bytes l = branch_most p bytes l
+  tested_most None (Some behind) p bytes l = let x = (laws.values p 0 bytes bytes).1 in omega (arith, x)
+  tested_most (Some told) None p bytes l = omega arith
+  tested_most (Some told) (Some behind) p bytes l = omega arith
+
+  pub jump_most : (told : Option Told) (l : ℕ) → code_words (jump_code told l) ≤ 3
+  jump_most None l = omega arith
+  jump_most (Some told) l = omega arith
 
   -- ---- calls and returns
 

@@ -1,6 +1,6 @@
 -- The words of an operation's own code, by the numbers that operations count by shapes.
-use Rattle.std.proofs.Common.{◌≡◌, ◌⊎◌, ℕ, ◌+◌, ◌*◌, ◌%◌, ◌≤◌, ◌==◌, Bool, true, false, List, [], ◌∷◌, ◌++◌, refl, sym, ap, ◌∙◌, subst}
-use Rattle.std.proofs.Common.{arith, eqb-true, inl, inr}
+use Rattle.std.proofs.Common.{◌≡◌, ◌⊎◌, ℕ, ◌+◌, ◌-◌, ◌*◌, ◌%◌, ◌<◌, ◌≤◌, ◌==◌, Bool, true, false, List, [], ◌∷◌, ◌++◌, refl, sym, ap, ◌∙◌, subst}
+use Rattle.std.proofs.Common.{arith, eqb-true, inl, inr, append-nil, leb-false}
 use Rattle.std.specs.Prelude.{⊤, min, nat_le, ◌&&◌, ◌||◌, not, if◌then◌else◌, Option, Some, None}
 use Rattle.std.proofs.lemmas.Bool.{false≢true, le-leb}
 use Rattle.ec_asm.specs.declared.items.AsmItem.{AsmItem}
@@ -30,18 +30,21 @@ use Rattle.ec_ir_shapes.specs.Costs.{Code, in_line, callable, integer_code, exac
 use Rattle.ec_ir_shapes.specs.Costs.{binary_code as counted_binary, unary_code as counted_unary, shape_code}
 use Rattle.ec_ir_shapes.specs.Costs.{conversion_code as counted_conversion}
 use Rattle.ec_ir_shapes.specs.Costs.{is_fixed as counts_fixed, is_pointer as counts_pointer, has_one_format as counts_format}
-use Rattle.ec_select_bytes.specs.Values.{constant_code, extend_code}
+use Rattle.ec_select_bytes.specs.Values.{constant_code, extend_code, widen_code}
 use Rattle.ec_select_fixed.proofs.Suits.{operands_suit}
 use Rattle.ec_select_order.specs.declared.relations.Relation.{Relation}
 use Rattle.ec_select_order.specs.declared.relations.Relation.TheVariants.{Less, NotLess, Equal, NotEqual}
 use Rattle.ec_select_order.specs.Relations.{relation_code, truth_code}
 use Rattle.ec_select_places.specs.Conversions.{embed_code}
 use Rattle.ec_select_products.specs.Products.{product_code}
+use Rattle.ec_select_shifts.specs.declared.shifts.Direction.{Direction}
+use Rattle.ec_select_shifts.specs.declared.shifts.Direction.TheVariants.{Left, Right}
 use Rattle.ec_select_shifts.specs.Shifts.{counted_code as turned_by_code}
 use Rattle.ec_select_shifts.proofs.Counted.{counted_shifts_have_words}
 use Rattle.ec_select_operations.specs.declared.families.Family.TheVariants.{Combined, Compared, Multiplied, Shifted}
 use Rattle.ec_select_operations.specs.declared.families.Told.{Told}
 use Rattle.ec_select_operations.specs.declared.homes.Homes.{Homes}
+use Rattle.ec_select_operations.specs.Code.{counted_by_code}
 use Rattle.ec_select_operations.specs.Code.{compared_signed, counted_code, move_code, family_of, is_signed, conversion_code, compared_code}
 use Rattle.ec_select_operations.specs.Code.{shift_of, shifted_bytes, turned_code, turn_code, unary_code, flag_code, operator_code}
 use Rattle.ec_select_operations.specs.Code.{changed_by_code, taking_code, integer_binary, by_kind, fixed_binary, fixed_unary}
@@ -58,7 +61,7 @@ use Rattle.ec_select_fixed.specs.Codes.{fixed_binary_code, fixed_conversion_code
 use Rattle.ec_select_fixed.specs.Types.{format_in}
 use Rattle.ec_select_functions.specs.Covered.{AreIntegers, AreCompared, AreFactors, AreShifted, AreDivided, IsBinary, IsFixedBinary}
 use Rattle.ec_select_functions.specs.Covered.{IsPointerBinary, IsUnary, IsFixedUnary, AreConverted, IsFixedConversion, IsPointerConversion}
-use Rattle.ec_select_functions.proofs.Taken.{compared_few}
+use Rattle.ec_select_functions.proofs.Taken.{compared_few, compared_one}
 use Rattle.ec_select.proofs.ByNumber.{changed_by_words, compared_with_words}
 use Rattle.ec_select.proofs.CountedTypes.{on_integers_too, never_exact, some_fixed, some_pointer, fixed_count, pointer_count}
 use Rattle.ec_select.proofs.CountedTypes.{same_fixed, no_format, format_of_same}
@@ -67,7 +70,7 @@ use Rattle.ec_select.proofs.FixedItems.{own_words as own_kind, others_words as o
 use Rattle.ec_select.proofs.FixedTypes.{type_fixed, either_fixed, no_fixed, no_fixed_operand, none_converted}
 use Rattle.ec_select.proofs.OperationWords.{WordLaws, move_words, unless_none, convert_words, shift_most, turn_most, combined_most}
 use Rattle.ec_select.proofs.OperationWords.{taking_most, one_unary, one_conversion, fixed_binary_most, pointer_binary_most}
-use Rattle.ec_select.proofs.OperationWords.{pointers_most, offset_most}
+use Rattle.ec_select.proofs.OperationWords.{pointers_most, offset_most, offset_by_most}
 use Rattle.ec_select.proofs.PointerTypes.{two_pointers, pointers_only, pointer_converted, no_pointer, none_pointed}
 use Rattle.ec_select.proofs.Words.{joined_words}
 
@@ -215,29 +218,56 @@ module _ (laws : WordLaws) where
       let few = compared_few k bytes in
       omega (arith, x, few)
 
+  counted_words : (s : Direction) (p to : Location) (n k : ℕ) → code_words (counted_code s p to n k) ≤ 7 + 11 * n
+  counted_words s p to n k =
+      let x = move_words p to n in
+      let y = counted_shifts_have_words s to n k in
+      omega (arith, joined_words (move_code p to n) (turned_by_code s to n k), x, y)
+
+  -- where fewer bytes are shifted than are needed, it is one
+  counted_by_words : (up signed : Bool) (p to : Location) (bytes n w k : ℕ) → bytes ≤ w → n ≤ w → (bytes < n → bytes ≤ 1)
+      → code_words (counted_by_code up signed p to bytes n k) ≤ 7 + 11 * w
+  counted_by_words true signed p to bytes n w k m l few = let x = counted_words Left p to n k in omega (arith, x, l)
+  counted_by_words false signed p to bytes n w k m l few = by_bytes (nat_le n bytes) refl
+    where
+      first : List AsmItem
+      first = counted_code (Right signed) p to bytes k
+
+      by_bytes : (b : Bool) → nat_le n bytes ≡ b
+          → code_words (first ++ (if b then [] else widen_code false to bytes (n - bytes))) ≤ 7 + 11 * w
+      by_bytes true q =
+          let x = counted_words (Right signed) p to bytes k in
+          subst (λ (c : List AsmItem). code_words c ≤ 7 + 11 * w) (sym (append-nil first)) (omega (arith, x, m))
+      by_bytes false q =
+          let more : bytes < n = leb-false n bytes q in
+          let one = few more in
+          let second = extend_code false to bytes n in
+          let x = counted_words (Right signed) p to bytes k in
+          let y = (laws.values to 0 bytes n).2 false in
+          subst (λ (b : Bool). code_words (first ++ (if b then [] else widen_code false to bytes (n - bytes))) ≤ 7 + 11 * w) q
+          (omega (arith, joined_words first second, x, y, more, one, l))
+
   shifted : (taken : Option RightNumber) (telling : Option Told) (up left right : Bool) (p q to : Location)
-      (bytes n w : ℕ) → bytes ≤ w → n ≤ w
+      (bytes n w : ℕ) → bytes ≤ w → n ≤ w → n ≤ bytes
       → code_words (taking_code taken telling (Shifted up) left right p q to bytes n) ≤ 7 + 11 * w
-  shifted None None up left right p q to bytes n w m l =
+  shifted None None up left right p q to bytes n w m l few =
       let s = shift_of up left in
       let moved = shifted_bytes up bytes n in
-      let few = fewer_than up bytes n w m l in
+      let fewer = fewer_than up bytes n w m l in
       let x = shift_most laws s p q to moved in
-      unless_none n (7 + 11 * w) (turned_code s p q to moved) (omega (arith, x, few))
-  shifted None (Some told) up left right p q to bytes n w m l = omega arith
-  shifted (Some k) None up left right p q to bytes n w m l =
-      let s = shift_of up left in
-      let moved = shifted_bytes up bytes n in
+      unless_none n (7 + 11 * w) (turned_code s p q to moved) (omega (arith, x, fewer))
+  shifted None (Some told) up left right p q to bytes n w m l few = omega arith
+  shifted (Some k) None up left right p q to bytes n w m l few =
+      let moved = bytes_compared (Some k) bytes in
+      let signed = compared_signed (Some k) left in
       let count = low_bytes 16 k.number % 256 in
-      let few = fewer_than up bytes n w m l in
-      let x = move_words p to moved in
-      let y = counted_shifts_have_words s to moved count in
-      unless_none n (7 + 11 * w) (counted_code s p to moved count)
-      (omega (arith, joined_words (move_code p to moved) (turned_by_code s to moved count), x, y, few))
-  shifted (Some k) (Some told) up left right p q to bytes n w m l =
+      let fewer = compared_few k bytes in
+      unless_none n (7 + 11 * w) (counted_by_code up signed p to moved n count)
+      (counted_by_words up signed p to moved n w count (omega (arith, fewer, m)) l (compared_one k bytes n few))
+  shifted (Some k) (Some told) up left right p q to bytes n w m l few =
       let x = compared_with_words laws.numbers p (low_bytes 16 k.number) (bytes_compared (Some k) bytes) in
-      let few = compared_few k bytes in
-      omega (arith, x, few, m)
+      let fewer = compared_few k bytes in
+      omega (arith, x, fewer, m)
 
   -- ---- operators on integers, whose result has the bytes of its type
 
@@ -288,7 +318,7 @@ module _ (laws : WordLaws) where
     shift_own op up e i =
         let same = i.same_bytes in
         let x = shifted (number_taken known false op) telling up left right (home h a) (home h b) (home h to) a.bytes n wide
-        (omega (arith, same, size)) (omega (arith, size, few)) in
+        (omega (arith, same, size)) (omega (arith, size, few)) (omega (arith, same, few)) in
         subst (λ f. code_words (taking_code (number_taken known false op) telling f left right (home h a) (home h b) (home h to)
         a.bytes n) ≤ 7 + 11 * wide) (sym e) x
 
@@ -442,13 +472,13 @@ module _ (laws : WordLaws) where
 
   -- ---- operators with a pointer
 
-  pointer_few : (core : Core) (p : PlainProgram) (op : BinOp) (slots : ℕ) (h : Homes) (to a b : Temp) (ty aty bty : PlainType)
+  pointer_few : (known : Option RightNumber) (core : Core) (p : PlainProgram) (op : BinOp) (slots : ℕ) (h : Homes) (to a b : Temp) (ty aty bty : PlainType)
       (n : ℕ) → IsPointerBinary p slots op to a b ty aty bty → n ≤ to.bytes
-      → code_words (pointer_binary core (is_pointer aty) (is_pointer bty) p op aty bty (home h a) (home h b) (home h to)
+      → code_words (pointer_binary known core (is_pointer aty) (is_pointer bty) p op aty bty (home h a) (home h b) (home h to)
       a.bytes b.bytes n) ≤ 64 + 5 * widest (ty ∷ aty ∷ bty ∷ [])
-  pointer_few core p op slots h to a b ty aty bty n i l = by_kinds (is_pointer aty) (is_pointer bty) refl refl where
+  pointer_few known core p op slots h to a b ty aty bty n i l = by_kinds (is_pointer aty) (is_pointer bty) refl refl where
     by_kinds : (x y : Bool) → is_pointer aty ≡ x → is_pointer bty ≡ y
-        → code_words (pointer_binary core x y p op aty bty (home h a) (home h b) (home h to) a.bytes b.bytes n)
+        → code_words (pointer_binary known core x y p op aty bty (home h a) (home h b) (home h to) a.bytes b.bytes n)
         ≤ 64 + 5 * widest (ty ∷ aty ∷ bty ∷ [])
     by_kinds true true d e =
         let t = (two_pointers op ty aty bty d e i.types).some in let u = i.left_bytes in let few = i.result.most in
@@ -456,7 +486,7 @@ module _ (laws : WordLaws) where
         (omega (arith, t, u)) (omega (arith, few, l)) in
         omega (arith, m, u)
     by_kinds true false d e =
-        let m = offset_most laws core (is_difference op) (is_signed bty) (home h a) (home h b) (home h to) a.bytes b.bytes
+        let m = offset_by_most laws known core (is_difference op) (is_signed bty) (home h a) (home h b) (home h to) a.bytes b.bytes
         (element_size p aty) n in
         let u = i.left_bytes in omega (arith, m, u)
     by_kinds false true d e =
@@ -464,19 +494,19 @@ module _ (laws : WordLaws) where
         let u = i.right_bytes in omega (arith, m, u)
     by_kinds false false d e = omega arith
 
-  pointer_row : (core : Core) (p : PlainProgram) (op : BinOp) (mode : Mode) (slots : ℕ) (h : Homes) (to a b : Temp) (ty aty bty : PlainType)
+  pointer_row : (known : Option RightNumber) (core : Core) (p : PlainProgram) (op : BinOp) (mode : Mode) (slots : ℕ) (h : Homes) (to a b : Temp) (ty aty bty : PlainType)
       (n : ℕ) → IsPointerBinary p slots op to a b ty aty bty → n ≤ to.bytes
-      → code_words (pointer_binary core (is_pointer aty) (is_pointer bty) p op aty bty (home h a) (home h b) (home h to)
+      → code_words (pointer_binary known core (is_pointer aty) (is_pointer bty) p op aty bty (home h a) (home h b) (home h to)
       a.bytes b.bytes n) ≤ most_in (shape_code (binary_shape op ty mode aty bty))
-  pointer_row core p op mode slots h to a b ty aty bty n i l =
+  pointer_row known core p op mode slots h to a b ty aty bty n i l =
       let wide = widest (ty ∷ aty ∷ bty ∷ []) in
-      let code = pointer_binary core (is_pointer aty) (is_pointer bty) p op aty bty (home h a) (home h b) (home h to) a.bytes b.bytes n in
-      let x = pointer_binary_most laws core p op slots h to a b ty aty bty n i l in
+      let code = pointer_binary known core (is_pointer aty) (is_pointer bty) p op aty bty (home h a) (home h b) (home h to) a.bytes b.bytes n in
+      let x = pointer_binary_most laws known core p op slots h to a b ty aty bty n i l in
       let y = wide_binary op ty aty bty in
       other_row op (are_exact op mode ty (aty ∷ bty ∷ [])) (counts_fixed ty || any_fixed (aty ∷ bty ∷ []))
       (counts_pointer ty || any_pointer (aty ∷ bty ∷ [])) wide (code_words code)
       (never_exact op mode ty aty bty (pointers_only op ty aty bty i.pointer i.types).0) (omega (arith, x, y))
-      (λ q. pointer_few core p op slots h to a b ty aty bty n i l)
+      (λ q. pointer_few known core p op slots h to a b ty aty bty n i l)
       (λ q. absurd (false≢true (sym q ∙ some_pointer ty aty bty i.pointer)))
 
   -- ---- binary operators, unary ones and conversions
@@ -490,12 +520,12 @@ module _ (laws : WordLaws) where
       → code_words (by_kind (is_fixed aty || is_fixed bty)
       (fixed_binary known telling op ty aty bty mode (home h a) (home h b) (home h to) a.bytes n)
       (by_kind (is_pointer aty || is_pointer bty)
-      (pointer_binary core (is_pointer aty) (is_pointer bty) p op aty bty (home h a) (home h b) (home h to) a.bytes b.bytes n)
+      (pointer_binary known core (is_pointer aty) (is_pointer bty) p op aty bty (home h a) (home h b) (home h to) a.bytes b.bytes n)
       (integer_binary known telling op (is_signed aty) (is_signed bty) (home h a) (home h b) (home h to) a.bytes n)))
       ≤ most_in (shape_code (binary_shape op ty mode aty bty))
   binary_own core p known telling op ty aty bty mode slots h to a b n (inl i) size l q =
       let own = fixed_binary known telling op ty aty bty mode (home h a) (home h b) (home h to) a.bytes n in
-      let pointed = pointer_binary core (is_pointer aty) (is_pointer bty) p op aty bty (home h a) (home h b) (home h to)
+      let pointed = pointer_binary known core (is_pointer aty) (is_pointer bty) p op aty bty (home h a) (home h b) (home h to)
       a.bytes b.bytes n in
       let usual = integer_binary known telling op (is_signed aty) (is_signed bty) (home h a) (home h b) (home h to) a.bytes n in
       let most = most_in (shape_code (binary_shape op ty mode aty bty)) in
@@ -506,7 +536,7 @@ module _ (laws : WordLaws) where
       (integer_row known telling slots h to a b ty aty bty (is_signed aty) (is_signed bty) n size l op mode i same))
   binary_own core p known telling op ty aty bty mode slots h to a b n (inr (inl i)) size l q =
       let own = fixed_binary known telling op ty aty bty mode (home h a) (home h b) (home h to) a.bytes n in
-      let pointed = pointer_binary core (is_pointer aty) (is_pointer bty) p op aty bty (home h a) (home h b) (home h to)
+      let pointed = pointer_binary known core (is_pointer aty) (is_pointer bty) p op aty bty (home h a) (home h b) (home h to)
       a.bytes b.bytes n in
       let usual = integer_binary known telling op (is_signed aty) (is_signed bty) (home h a) (home h b) (home h to) a.bytes n in
       let most = most_in (shape_code (binary_shape op ty mode aty bty)) in
@@ -514,14 +544,14 @@ module _ (laws : WordLaws) where
       (either_fixed aty bty i.types.fixed) (fixed_binary_row known telling mode slots h to a b ty aty bty n op i l)
   binary_own core p known telling op ty aty bty mode slots h to a b n (inr (inr i)) size l q =
       let own = fixed_binary known telling op ty aty bty mode (home h a) (home h b) (home h to) a.bytes n in
-      let pointed = pointer_binary core (is_pointer aty) (is_pointer bty) p op aty bty (home h a) (home h b) (home h to)
+      let pointed = pointer_binary known core (is_pointer aty) (is_pointer bty) p op aty bty (home h a) (home h b) (home h to)
       a.bytes b.bytes n in
       let usual = integer_binary known telling op (is_signed aty) (is_signed bty) (home h a) (home h b) (home h to) a.bytes n in
       let most = most_in (shape_code (binary_shape op ty mode aty bty)) in
       other_kind (is_fixed aty || is_fixed bty) own (by_kind (is_pointer aty || is_pointer bty) pointed usual) most
       (pointers_only op ty aty bty i.pointer i.types).0
       (own_kind (is_pointer aty || is_pointer bty) pointed usual most i.pointer
-      (pointer_row core p op mode slots h to a b ty aty bty n i l))
+      (pointer_row known core p op mode slots h to a b ty aty bty n i l))
 
   pub unary_own : (op : UnOp) (ty : PlainType) (mode : Mode) (slots : ℕ) (h : Homes) (to a : Temp) (n : ℕ)
       → IsUnary slots to a ty ⊎ IsFixedUnary slots op to a ty → n ≤ to.bytes

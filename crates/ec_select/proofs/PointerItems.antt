@@ -215,18 +215,21 @@ module _ (sizes : Sizes) (laws : PointerItemLaws) where
   either_fits Small small large x y = x
   either_fits Large small large x y = y
 
-  pub load_fits : (core : Core) (space : SpaceId) (p q : Location) (n : ℕ) → n ≤ 64 → HasPlaces sizes p (width space)
-      → HasPlaces sizes q n → Fit sizes (load_code core space p q n)
-  load_fits core Flash p q n few x y =
+  pub load_fits : (core : Core) (tables : Bool) (space : SpaceId) (p q : Location) (n : ℕ) → n ≤ 64 → HasPlaces sizes p (width space)
+      → HasPlaces sizes q n → Fit sizes (load_code core tables space p q n)
+  load_fits core tables Flash p q n few x y =
       access_fits (load_flash_code p q n) (laws.accesses sizes p q n few x y).1 (laws.labels 0 0 None p q n).3
-  load_fits core Data p q n few x y =
+  load_fits core tables Data p q n few x y =
       access_fits (load_data_code p q n) (laws.accesses sizes p q n few x y).0 (laws.labels 0 0 None p q n).2
-  load_fits core FarFlash p q n few x y =
+  load_fits core tables FarFlash p q n few x y =
       either_fits core (load_flash_code p q n) (load_far_code p q n)
       (access_fits (load_flash_code p q n)
       (laws.accesses sizes p q n few (fewer_places sizes p 2 3 (omega arith) x) y).1 (laws.labels 0 0 None p q n).3)
       (access_fits (load_far_code p q n) (laws.far_accesses sizes p q n few x y).0 (laws.far_labels 0 0 p q n).2)
-  load_fits core Generic p q n few x y =
+  load_fits core false Generic p q n few x y =
+      access_fits (load_data_code p q n)
+      (laws.accesses sizes p q n few (fewer_places sizes p 2 3 (omega arith) x) y).0 (laws.labels 0 0 None p q n).2
+  load_fits core true Generic p q n few x y =
       either_fits core (load_any_code p q n) (load_any_far_code p q n)
       (access_fits (load_any_code p q n)
       ((laws.accesses sizes p q n few (fewer_places sizes p 2 3 (omega arith) x) y).3 x) (laws.labels 0 0 None p q n).4)

@@ -17,21 +17,22 @@ use Rattle.ec_ir_known.specs.Known.{numbers_left}
 use Rattle.ec_ir.specs.Costs.{op_words, code_words as operations_words}
 use Rattle.ec_ir_shapes.specs.Costs.{shape_code, own_words, op_shapes}
 use Rattle.ec_select_operations.specs.declared.families.Told.{Told}
-use Rattle.ec_select_operations.specs.Code.{Linkage, own_code, called_code, linked_code, op_code, ops_code, tells_next}
+use Rattle.ec_select_operations.specs.Code.{Linkage, own_code, called_code, linked_code, routine_used, op_code, ops_code, tells_next}
 use Rattle.ec_select_operations.specs.Code.{result_wanted, kept_need, wanted_behind, wanted_bytes}
 use Rattle.ec_select_operations.specs.Emitted.{linkage}
 use Rattle.ec_select_operations.specs.Homes.{home}
-use Rattle.ec_select_operations.specs.Needs.{Need, facts_of, needs, nothing}
+use Rattle.ec_select_operations.specs.Needs.{Need, facts_of, needs, nothing, takes_count}
 use Rattle.ec_select_operations.specs.Routines.{routine_for}
 use Rattle.ec_select_functions.specs.Covered.{IsCovered, AreCovered}
 use Rattle.ec_select.specs.InPlace.{IsInPlace}
 use Rattle.ec_select.specs.Sharing.{has_some, is_shaped, shape_of, operation_of, Use, use_of, uses_of, uses_in}
-use Rattle.ec_select.specs.Sharing.{sizes, stands_once, rows_of, alone, own_items}
+use Rattle.ec_select.specs.Sharing.{sizes, stands_once, rows_of, alone, own_items, used_items}
 use Rattle.ec_select.specs.Sharing.{label_among}
 use Rattle.ec_select.specs.Sharing.{routine_among}
 use Rattle.ec_select.proofs.AlikeWords.{HasOperandTypes, alike}
 use Rattle.ec_select.proofs.CalledWords.{of_shape as shape_is_of}
-use Rattle.ec_select.proofs.LinkedWords.{RoutineLaws, shape_call, one_at_most, call_within, routine_within}
+use Rattle.ec_select.proofs.CountedShifts.{used_within}
+use Rattle.ec_select.proofs.LinkedWords.{RoutineLaws, shape_call, one_at_most, routine_within}
 use Rattle.ec_select.proofs.LinkedWords.{own_within, wanted_few}
 use Rattle.ec_select.proofs.OperationWords.{WordLaws}
 use Rattle.ec_select.proofs.SharedWords.{IsTold, told, call_alike}
@@ -104,6 +105,21 @@ linked_few (Some l) c own call w false t h g = absurd t
 linked_few None c own call w true t h g = absurd t
 linked_few None c own call w false t h g = g
 
+-- beside a routine stands a call of it, or the operation's own code, which takes a known count
+beside_few : (counted : Bool) (o : Option ℕ) (c : ℕ → List AsmItem) (own alone call : List AsmItem) (once : Bool) → IsTold o once
+    → ((l : ℕ) → code_words (c l) ≤ code_words call) → code_words own ≤ code_words alone
+    → code_words (linked_code (if counted then None else o) c own)
+    ≤ (if once then code_words (if counted then alone else call) else code_words alone)
+beside_few true o c own alone call true t h g = g
+beside_few true o c own alone call false t h g = g
+beside_few false o c own alone call once t h g = linked_few o c own (code_words call) (code_words alone) once t h g
+
+-- where none stands, its own code
+unlinked : (counted : Bool) (c : ℕ → List AsmItem) (own : List AsmItem) (most : ℕ) → code_words own ≤ most
+    → code_words (linked_code (if counted then None else None) c own) ≤ most
+unlinked true c own most h = h
+unlinked false c own most h = h
+
 -- ---- the operations of a function
 
 module _ (laws : WordLaws) (routine_laws : RoutineLaws) (p : PlainProgram) (results : ℕ → ℕ) (f : ℕ) (called : List ℕ)
@@ -121,8 +137,8 @@ module _ (laws : WordLaws) (routine_laws : RoutineLaws) (p : PlainProgram) (resu
         own = subst (λ r. code_words (own_items k.core p k.homes known n i) ≤ shape_most r) same
             (chain_of (code_words (own_items k.core p k.homes known n i)) (code_words (own_code p (home k.homes) k None None known need i))
             (shape_most s) x y);
-        call = subst (λ r. code_words (called_code (home k.homes) 0 n i) ≤ shape_call r) same
-            (call_within routine_laws.calls (home k.homes) 0 n i s b e (wanted_few need i s e));
+        call = subst (λ r. code_words (used_items k.core p k.homes known n i) ≤ shape_call r) same
+            (used_within routine_laws.calls k.core p results f called k.slots k.homes width_is known n i s h b e (wanted_few need i s e));
         routine = subst (λ c. code_words c ≤ shape_most (shape_of i) + 1) (same_routine 0 i s e)
             (subst (λ r. code_words (routine_for 0 i) ≤ shape_most r + 1) same z);
       }
@@ -262,17 +278,20 @@ module _ (laws : WordLaws) (routine_laws : RoutineLaws) (p : PlainProgram) (resu
           let own = own_code p (home k.homes) k before telling known need i in
           let calls = λ (l : ℕ). called_code (home k.homes) l (result_wanted need i) i in
           let most = alone_words i + total (cost us) (uses_of k.core p k.homes known (wanted_behind at need i) i) in
-          subst (λ o. code_words (linked_code o calls own) ≤ most) (sym (unrouted (ap has_some e)))
-          (more (code_words own) (alone_words i) (total (cost us) (uses_of k.core p k.homes known (wanted_behind at need i) i))
-          (short before telling known need i h q b e))
+          subst (λ o. code_words (linked_code (routine_used known i o) calls own) ≤ most) (sym (unrouted (ap has_some e)))
+          (unlinked (takes_count known i) calls own most (more (code_words own) (alone_words i) (total (cost us) (uses_of k.core p k.homes known (wanted_behind at need i) i))
+          (short before telling known need i h q b e)))
       by_shape (s ∷ []) e =
           let own = own_code p (home k.homes) k before telling known need i in
           let calls = λ (l : ℕ). called_code (home k.homes) l (result_wanted need i) i in
           let u = use_of k.core p k.homes known (result_wanted need i) i in
           let x = alike p results f called k.slots (home k.homes) k (linkage (alone k.core k.homes)) before telling known
           (result_wanted need i) (kept_need need i) nothing i s refl h t e in
-          let few = linked_few (k.routine_of i) calls own u.call u.own (stands_once us (shape_of i)) (routed (ap has_some e))
-          (λ l. at_most (code_words (calls l)) u.call u.call (call_alike (home k.homes) l (result_wanted need i) i) (omega arith)) x in
+          let call = code_words (called_code (home k.homes) 0 (result_wanted need i) i) in
+          let few = beside_few (takes_count known i) (k.routine_of i) calls own
+          (own_items k.core p k.homes known (result_wanted need i) i) (called_code (home k.homes) 0 (result_wanted need i) i)
+          (stands_once us (shape_of i)) (routed (ap has_some e))
+          (λ l. at_most (code_words (calls l)) call call (call_alike (home k.homes) l (result_wanted need i) i) (omega arith)) x in
           subst (λ vs. code_words (op_code p (home k.homes) k before telling known need i) ≤ alone_words i + total (cost us) vs)
           (sym (one_use p k known at need i s e))
           (last (code_words (op_code p (home k.homes) k before telling known need i)) (cost us u) (alone_words i) few)
@@ -287,7 +306,7 @@ module _ (laws : WordLaws) (routine_laws : RoutineLaws) (p : PlainProgram) (resu
         let at = facts_of labels all in
         let known = at.known (i ∷ code) in
         let behind = uses_in k.core p k.homes (wanted_bytes at code) (numbers_left all code) code in
-        let next = tells_next at i code in
+        let next = tells_next at before i code in
         let m = wanted_behind at.needed (needs at code) i in
         let here = op_code p (home k.homes) k before next known (needs at code) i in
         let others = ops_code p (home k.homes) k at next code in

@@ -21,13 +21,15 @@ use Rattle.ec_select_operations.specs.declared.families.Told.{Told}
 use Rattle.ec_select_operations.specs.declared.homes.Homes.{Homes}
 use Rattle.ec_select_operations.specs.Code.{Linkage, operation_code, result_wanted}
 use Rattle.ec_select_operations.specs.Homes.{home}
-use Rattle.ec_select_operations.specs.Needs.{Need, wanted}
+use Rattle.ec_select_operations.specs.Needs.{Need, wanted, compared_bytes as bytes_compared}
 use Rattle.ec_select_operations.specs.Places.{object_location}
-use Rattle.ec_select_operations.specs.Pointers.{kept_in}
+use Rattle.ec_select_operations.specs.Pointers.{kept_in, has_tables}
 use Rattle.ec_select_operations.specs.Ports.{cell_place}
 use Rattle.ec_select_functions.specs.Covered.{IsCovered}
+use Rattle.ec_select_functions.proofs.Taken.{compared_within}
 use Rattle.ec_select.specs.InPlace.{IsInPlace}
 use Rattle.ec_select.proofs.OperationWords.{WordLaws, move_words, addressed_most, member_most, load_most, bank_most, tested_most}
+use Rattle.ec_select.proofs.OperationWords.{jump_most}
 use Rattle.ec_select.proofs.OperationWords.{call_most, return_most, one_binary, one_unary, one_conversion}
 use Rattle.ec_select.proofs.OwnWords.{most_in, binary_own, unary_own, conversion_own}
 use Rattle.ec_select.proofs.PortItems.{point_words, in_words_most, out_words_most, cell_in_words, cell_out_words}
@@ -173,9 +175,11 @@ module _ (laws : WordLaws) (p : PlainProgram) (results : ℕ → ℕ) (f : ℕ) 
       (conversion_own laws ty aty mode k.slots k.homes to a (wanted need to) h (omega arith))
       (shape_use (shape_code s) s refl)
   use_most told telling known need kept (label l) h q b = omega arith
-  use_most told telling known need kept (jump l) h q b = omega arith
+  use_most told telling known need kept (jump l) h q b = let x = jump_most laws told (k.label_of l) in omega (arith, x)
   use_most told telling known need kept (branch_zero t l) h q b =
-      let x = tested_most laws told (home k.homes t) t.bytes (k.label_of l) in omega (arith, x)
+      let x = tested_most laws told telling (home k.homes t) (bytes_compared known t.bytes) (k.label_of l) in
+      let few = compared_within known t.bytes in
+      omega (arith, x, few)
   use_most told telling known need kept (call_function g to) h q b =
       let x = call_most laws (home k.homes) k g to need kept width_is in omega (arith, x)
   use_most told telling known need kept (return_from from) h q b =
@@ -185,7 +189,7 @@ module _ (laws : WordLaws) (p : PlainProgram) (results : ℕ → ℕ) (f : ℕ) 
   use_most told telling known need kept (field ptr space offset) h q b =
       let x = member_most laws k.core (home k.homes ptr) ptr.bytes offset in omega (arith, x)
   use_most told telling known need kept (load_at to ptr space) h q b =
-      let x = load_most laws k.core space (home k.homes ptr) (home k.homes to) to.bytes in omega (arith, x)
+      let x = load_most laws k.core (has_tables p.objects) space (home k.homes ptr) (home k.homes to) to.bytes in omega (arith, x)
   use_most told telling known need kept (store_at ptr space from) h q b =
       let x = (laws.pointers 0 0 None (home k.homes from) (home k.homes ptr) from.bytes).5 in omega (arith, x)
   use_most told telling known need kept (port_in to port index width) h q b =

@@ -123,7 +123,7 @@ module _ (laws : CodeLaws) (core : Core) (p : PlainIrProgram) (valid : ValidWith
   right_labels : (k : Linkage) (i : PlainIr) → AcceptsLabels is_right k i
   unfolding is_right
   right_labels k (label l) = refl
-  right_labels k (jump l) = refl
+  right_labels k (jump l) = (refl, λ set flag w. w)
   right_labels k (branch_zero t l) = λ set flag w. w
   right_labels k (call_function c to) = refl
   right_labels k (constant t n) = tt
@@ -227,7 +227,7 @@ module _ (laws : CodeLaws) (core : Core) (p : PlainIrProgram) (valid : ValidWith
       → AcceptsLabels is_put (link core p valid has laws.leaves laws.pieces tables f g) i
   unfolding is_put
   put_labels f g e (label l) h = refl
-  put_labels f g e (jump l) h = label_once f l g e h
+  put_labels f g e (jump l) h = (label_once f l g e h, λ set flag w. label_once f l g e h)
   put_labels f g e (branch_zero t l) h = λ set flag w. label_once f l g e h.1
   put_labels f g e (call_function c to) h = function_once c h.0
   put_labels f g e (constant t n) h = tt

@@ -19,7 +19,7 @@ use Rattle.ec_select_operations.specs.declared.homes.Homes.{Homes}
 use Rattle.ec_select_operations.specs.Code.{operation_code, called_code, wanted_bytes}
 use Rattle.ec_select_operations.specs.Emitted.{linkage}
 use Rattle.ec_select_operations.specs.Homes.{home}
-use Rattle.ec_select_operations.specs.Needs.{Need, nothing, facts_of}
+use Rattle.ec_select_operations.specs.Needs.{Need, nothing, facts_of, takes_count}
 use Rattle.ec_select_operations.specs.Routines.{routine_for}
 use Rattle.ec_select_routines.specs.Sizes.{Sizes, is_shared}
 use Rattle.ec_shapes.specs.Shapes.{has}
@@ -61,7 +61,7 @@ shape_routine l s = routine_for l (operation_of s)
 
 -- ---- uses
 
--- an operation where its code may stand once: the words of code of its own there, and of a call
+-- an operation where its code may stand once: the words of code of its own there, and where a routine stands
 pub record Use : Type 0 where
   pub operation : PlainIr
   pub own : ℕ
@@ -75,11 +75,15 @@ alone core h = record { core = core; first_label = 0; first_entry = 1; homes = h
 abbrev pub own_items : Core → PlainProgram → Homes → (known : Option RightNumber) → (n : ℕ) → PlainIr → List AsmItem
 own_items core p h known n i = operation_code p (home h) (linkage (alone core h)) None None known n nothing i
 
+-- a call of the routine, but the same of a shift by a known count, which calls none
+abbrev pub used_items : Core → PlainProgram → Homes → (known : Option RightNumber) → (n : ℕ) → PlainIr → List AsmItem
+used_items core p h known n i = if takes_count known i then own_items core p h known n i else called_code (home h) 0 n i
+
 abbrev pub use_of : Core → PlainProgram → Homes → (known : Option RightNumber) → (n : ℕ) → PlainIr → Use
 use_of core p h known n i = record {
   operation = i;
   own = code_words (own_items core p h known n i);
-  call = code_words (called_code (home h) 0 n i);
+  call = code_words (used_items core p h known n i);
 }
 
 abbrev pub uses_of : Core → PlainProgram → Homes → (known : Option RightNumber) → (n : ℕ) → PlainIr → List Use

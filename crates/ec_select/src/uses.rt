@@ -8,7 +8,8 @@ ghost use Rattle.ec_select_operations.specs.Emitted.{declarations, CanBeEmitted,
 ghost use Rattle.ec_select_operations.specs.Homes.{home};
 ghost use Rattle.ec_select.specs.Seen.{plain_use, tables_in, CanBeUsed, CanBeUses};
 ghost use Rattle.ec_select.specs.Selected.{ValidWithCells, HasCode};
-ghost use Rattle.ec_select.specs.Sharing.{alone, is_shaped, own_items, use_of, uses_in, uses_of, function_uses, program_uses};
+ghost use Rattle.ec_select.specs.Sharing.{alone, is_shaped, own_items, used_items, use_of, uses_in, uses_of};
+ghost use Rattle.ec_select.specs.Sharing.{function_uses, program_uses};
 
 use crate::labels::homes_of;
 use crate::shapes::is_shaped;
@@ -17,11 +18,12 @@ use ec_core::leaves_fill_their_types;
 use ec_ir::{Ir, IrFunc, IrProgram};
 use ec_ir_known::{RightNumber, right_numbers};
 use ec_select_live::{LabelNeeds, valid_operations_have_places, wanted};
-use ec_select_operations::{Flags, Homes, Linking, called, operation};
+use ec_select_operations::{Flags, Homes, Linking, called, operation, takes_count};
 use ec_space::{Core, NoMemory, Seq, push};
 use std::alloc::Global;
 
-/// An operation whose code may stand once: the words of code of its own where it stands, and of a call.
+/// An operation whose code may stand once: the words of code of its own where it stands, and of what stands there beside a
+/// routine.
 #[derive(Clone, Copy)]
 pub(crate) struct Use<'a> {
     pub operation: &'a Ir,
@@ -94,6 +96,28 @@ fn call_words(alloc: Global, homes: Homes, wanted: u8, i: &Ir) -> Result<u64, No
     words_of(&items)
 }
 
+/// Those of what stands there beside a routine: of a call, but of a shift by a known count its own code, of so many words.
+fn used_words(
+    alloc: Global,
+    ir: &IrProgram,
+    core: Core,
+    homes: Homes,
+    known: Option<RightNumber>,
+    wanted: u8,
+    own: u64,
+    i: &Ir,
+) -> Result<u64, NoMemory>
+    requires call { CanBeCalled wanted (plain_ir i.now) }
+    requires own { own ≡ code_words (own_items core (declarations ir.now) homes known wanted (plain_ir i.now)) }
+    ensures { IfOk result (λ n. n ≡ code_words (used_items core (declarations ir.now) homes known wanted (plain_ir i.now))) }
+{
+    if takes_count(known, i) {
+        Ok(own)
+    } else {
+        call_words(alloc, homes, wanted, i)
+    }
+}
+
 fn use_of<'a>(
     alloc: Global,
     ir: &IrProgram,
@@ -107,10 +131,11 @@ fn use_of<'a>(
     requires each { CanBeUsed core (declarations ir.now) homes wanted (plain_ir i.now) }
     ensures { IfOk result (λ u. plain_use u ≡ use_of core (declarations ir.now) homes known wanted (plain_ir i.now)) }
 {
+    let own = own_words(alloc, ir, core, homes, known, wanted, i)?;
     Ok(Use {
         operation: i,
-        own: own_words(alloc, ir, core, homes, known, wanted, i)?,
-        call: call_words(alloc, homes, wanted, i)?,
+        own,
+        call: used_words(alloc, ir, core, homes, known, wanted, own, i)?,
     })
 }
 

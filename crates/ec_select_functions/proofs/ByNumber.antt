@@ -1,6 +1,6 @@
 -- Operators whose second operand is a known number.
 use Rattle.std.proofs.Common.{◌≡◌, ◌≢◌, ℕ, zero, suc, ◌+◌, ◌*◌, ◌/◌, ◌%◌, ◌^◌, ◌<◌, ◌≤◌, ⊎_elim, Bool, true, false, ℤ, not}
-use Rattle.std.proofs.Common.{pos, negsuc, int_lt, nat_lt, ◌&&◌, [], ◌∷◌}
+use Rattle.std.proofs.Common.{pos, negsuc, int_lt, nat_lt, ◌&&◌, [], ◌∷◌, min}
 use Rattle.std.proofs.Common.{Some, None, Option, ◌++◌, refl, sym, ap, ◌∙◌, subst, arith, bit_and, bit_or, eqb-true}
 use Rattle.std.specs.Prelude.{◌==◌, if◌then◌else◌}
 use Rattle.std.specs.Int.{from_bool}
@@ -18,14 +18,15 @@ use Rattle.ec_asm.specs.Pieces.{StandsFrom, Outside, value, bitwise}
 use Rattle.ec_asm.specs.PieceLaws.{HoldsNumbers}
 use Rattle.ec_asm.proofs.Hoare.{block-append}
 use Rattle.ec_asm.proofs.Numbers.{value_digit, mod_less, mod_beside, pow_pos}
+use Rattle.ec_core.specs.declared.values.ObjectPointer.{ObjectPointer}
 use Rattle.ec_core.specs.Plain.{PlainProgram}
 use Rattle.ec_core.specs.State.{worked}
 use Rattle.ec_ir.specs.declared.operations.Temp.{Temp}
 use Rattle.ec_ir.specs.Meaning.{Mach, machine}
-use Rattle.ec_ir.specs.Temporaries.{bits, Held, Temps, with_content, low_bytes}
+use Rattle.ec_ir.specs.Temporaries.{bits, points, Held, Temps, with_content, low_bytes}
 use Rattle.ec_ir_known.specs.declared.known.KnownNumber.{KnownNumber}
 use Rattle.ec_ir_known.specs.declared.known.RightNumber.{RightNumber}
-use Rattle.ec_ir_known.specs.Known.{Known, of_bytes, number_in, is_any, is_byte_of, is_byte, right_of}
+use Rattle.ec_ir_known.specs.Known.{Known, of_bytes, number_in, is_any, is_byte_of, is_byte, fits_byte, right_of}
 use Rattle.ec_ir_known.specs.Laws.{is_held, are_held, are_bits}
 use Rattle.ec_select_bytes.specs.Values.{byte_of, constant_code}
 use Rattle.ec_select_bytes.proofs.Constants.{constants_are_right}
@@ -35,7 +36,7 @@ use Rattle.ec_select_numbers.specs.ByNumber.{as_operator, changed_code}
 use Rattle.ec_select_numbers.specs.Laws.{KeepsOthers, ComparesWith}
 use Rattle.ec_select_operations.specs.Code.{move_code, changed_by_code}
 use Rattle.ec_select_operations.specs.Homes.{HasHome}
-use Rattle.ec_select_operations.specs.Needs.{Need, at_least, without, wanted}
+use Rattle.ec_select_operations.specs.Needs.{Need, at_least, without, wanted, compared_bytes}
 use Rattle.ec_select_order.specs.declared.relations.Relation.{Relation}
 use Rattle.ec_select_order.specs.declared.relations.Relation.TheVariants.{Less, NotLess, Equal, NotEqual}
 use Rattle.ec_select_order.specs.Relations.{stand_so, is_less, flag_of, is_set}
@@ -90,6 +91,58 @@ byte_held (Some n) h bytes low q r s = by_number n.number refl
         let l : are_bits None n.bytes (bits low) ≡ true = subst (λ (x : Option ℤ). are_bits x n.bytes (bits low) ≡ true) e there in
         grind (arith, nat_tests, l)
     by_number (Some k) e = let no : is_any (Some k) ≡ true = subst (λ (x : Option ℤ). is_any x ≡ true) e any in absurd cc
+
+-- several bytes below 256 are those of no pointer
+byte_points : (o : Option KnownNumber) (h : Option Held) (bytes : ℕ) (q : ObjectPointer) → is_held o h ≡ true
+    → is_byte_of bytes o ≡ true → 1 < bytes → h ≢ Some (record { bytes = bytes; content = points q })
+byte_points None h bytes q held r l s = absurd cc
+byte_points (Some n) h bytes q held r l s = by_number n.number refl
+  where
+    t : is_held (Some n) (Some (record { bytes = bytes; content = points q })) ≡ true
+    t = subst (λ (x : Option Held). is_held (Some n) x ≡ true) s held
+
+    parts : ((n.bytes == bytes) ≡ true) × (is_any n.number ≡ true)
+    parts = and_parts (n.bytes == bytes) (is_any n.number) r
+
+    there : are_bits n.number n.bytes (points q) ≡ true
+    there = (and_parts (bytes == n.bytes) (are_bits n.number n.bytes (points q)) t).1
+
+    by_number : (x : Option ℤ) → n.number ≡ x → ⊥
+    by_number None e =
+        let one : (n.bytes == 1) ≡ true = subst (λ (x : Option ℤ). are_bits x n.bytes (points q) ≡ true) e there in
+        let size = eqb-true n.bytes bytes parts.0 in
+        let same = eqb-true n.bytes 1 one in
+        absurd (omega (arith, size, same, l))
+    by_number (Some k) e = let no : is_any (Some k) ≡ true = subst (λ (x : Option ℤ). is_any x ≡ true) e parts.1 in absurd cc
+
+-- so many bytes of what a branch tests tell whether it is 0
+pub record AreTested (t : Temp) (size : ℕ) (temps : Temps) : Type 0 where
+  pub some : 1 ≤ size
+  pub within : size ≤ t.bytes
+  pub number : (low : ℕ) → temps t.at ≡ Some (record { bytes = t.bytes; content = bits low }) → low < 256 ^ t.bytes → low < 256 ^ size
+  pub pointer : (q : ObjectPointer) → temps t.at ≡ Some (record { bytes = t.bytes; content = points q }) → size ≡ t.bytes
+
+pub tested_held : (known : Known) (t : Temp) (temps : Temps) → 1 ≤ t.bytes → are_held known temps (t.at ∷ []) ≡ true
+    → AreTested t (compared_bytes (right_of (fits_byte known t) (Some (pos 0))) t.bytes) temps
+tested_held known t temps some held = by_byte (fits_byte known t) refl
+  where
+    first : is_held (known t.at) (temps t.at) ≡ true
+    first = (and_parts (is_held (known t.at) (temps t.at)) true held).0
+
+    by_byte : (x : Bool) → fits_byte known t ≡ x → AreTested t (compared_bytes (right_of x (Some (pos 0))) t.bytes) temps
+    by_byte false e = record { some = some; within = omega arith; number = λ low s l. l; pointer = λ q s. refl }
+    by_byte true e =
+        let sides = and_parts (nat_lt 1 t.bytes) (is_byte_of t.bytes (known t.at)) e in
+        let wide = sides.0 in
+        let more : 1 < t.bytes = grind (arith, nat_tests, wide) in
+        let one : 1 ≡ min 1 t.bytes = omega (arith, more) in
+        subst (λ (j : ℕ). AreTested t j temps) one
+        (record {
+          some = omega arith;
+          within = omega (arith, more);
+          number = λ low s l. byte_held (known t.at) (temps t.at) t.bytes low first sides.1 s;
+          pointer = λ q s. absurd (byte_points (known t.at) (temps t.at) t.bytes q first sides.1 more s);
+        })
 
 -- what is held of operands of which the second one is known to hold a number
 pub record HoldsRight (a b : Temp) (k : RightNumber) (temps : Temps) : Type 0 where

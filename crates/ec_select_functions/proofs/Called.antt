@@ -54,6 +54,7 @@ use Rattle.ec_select_functions.proofs.Saved.{kept, are_kept, Saves, saves, save_
 use Rattle.ec_routines.proofs.Stacked.{pushed_same, popped_same, pushed_numbers, pushed_pointer, back_is}
 use Rattle.ec_routines.proofs.Stacked.{popped_numbers}
 use Rattle.ec_select_functions.proofs.Standing.{result_bounds, result_ends}
+use Rattle.ec_select_functions.proofs.Behind.{functions_go}
 use Rattle.ec_select_functions.proofs.Going.{Ready, are_ready, at_use}
 use Rattle.ec_select_functions.proofs.Steps.{Onward, CallCase}
 
@@ -100,8 +101,9 @@ module _ (p : PlainIrProgram) (e : Env) (place entry_of : ℕ → ℕ) (w : Worl
       let mid : stands.0 ≡ e.word_of (entry_of b) = stands.1.1 ∙ here in
       record {
         covered = are_ready D e w.cells w.selected.results b (called_in gb.code) gb.slots
-            (linkage_of e.core p entry_of b gb.slots (w.selected.made b)) gb.code x.covered
-            (functions_use w.cells p w.valid b gb a.is) (λ i there l q. (x.routines i l there q, x.callers i l there q));
+            (linkage_of e.core p entry_of b gb.slots (w.selected.made b)) gb.code gb.code x.covered
+            (functions_use w.cells p w.valid b gb a.is) (functions_go w.cells p w.valid b gb a.is)
+            (λ i there l q. (x.routines i l there q, x.callers i l there q));
         live = x.live;
         inside = λ c q. q;
         here = record { active = a.runs; stacked = stacked; core = refl };

@@ -129,7 +129,7 @@ module _ (cells : ℕ) (p : PlainIrProgram) (results : Results) (f slots : ℕ) 
   all_use [] v = tt
   all_use (i ∷ code) v = (uses_cells i v.0, all_use code v.1)
 
-each_at : {A : Type 0} (P : ℕ → A → Type 0) (n : ℕ) (xs : List A) (k : ℕ) (x : A) → EachFrom n P xs → slice_get xs k ≡ Some x
+pub each_at : {A : Type 0} (P : ℕ → A → Type 0) (n : ℕ) (xs : List A) (k : ℕ) (x : A) → EachFrom n P xs → slice_get xs k ≡ Some x
     → P (n + k) x
 each_at P n [] zero x all q = absurd cc
 each_at P n [] (suc k) x all q = absurd cc

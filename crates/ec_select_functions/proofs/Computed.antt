@@ -50,7 +50,7 @@ equal_or_not a b = by_test (a == b) refl where
   by_test true q = inl (eqb-true a b q)
   by_test false q = inr (λ e. let r : (a == b) ≡ true = grind (arith, nat_tests) in cc)
 
-location_is : (p q : Location) → same_location p q ≡ true → p ≡ q
+pub location_is : (p q : Location) → same_location p q ≡ true → p ≡ q
 location_is (InRegisters a) (InRegisters b) h = ap InRegisters (eqb-true a b h)
 location_is (InRegisters a) (InMemory o k) h = absurd (false≢true h)
 location_is (InMemory o k) (InRegisters b) h = absurd (false≢true h)

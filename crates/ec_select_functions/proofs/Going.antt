@@ -18,13 +18,15 @@ use Rattle.ec_ir.specs.Meaning.{Mach, Frame as Call, is_among, active as active_
 use Rattle.ec_ir.specs.Operations.{PlainIr, PlainIrFunction}
 use Rattle.ec_ir.specs.Valid.{called_in}
 use Rattle.ec_select_operations.specs.declared.families.Told.{Told}
-use Rattle.ec_select_operations.specs.Code.{Linkage, own_code, called_code, linked_code, result_wanted, tells_next, ops_code}
+use Rattle.ec_select_operations.specs.Code.{Linkage, own_code, called_code, linked_code, routine_used, result_wanted, tells_next, ops_code}
 use Rattle.ec_select_operations.specs.Routines.{HasRoutineOf}
 use Rattle.ec_select_functions.specs.Covered.{IsCovered, AreCovered}
 use Rattle.ec_select_functions.specs.Laws.{CanCall}
-use Rattle.ec_select_operations.specs.Needs.{Need, Facts, facts_of, needs, IsLiveBy}
+use Rattle.ec_select_operations.specs.Needs.{Need, Facts, facts_of, needs, takes_count, IsLiveBy}
 use Rattle.ec_select_functions.specs.Relation.{Matches}
 use Rattle.ec_select_functions.proofs.Cells.{UsesCells}
+use Rattle.ec_select_functions.proofs.Behind.{GoesBehind, GoBehind}
+use Rattle.ec_select_functions.proofs.Counts.{used_is}
 use Rattle.ec_select_functions.proofs.Checked.{checked_on, performed}
 use Rattle.ec_select_functions.proofs.Follow.{Follows, after}
 use Rattle.ec_select_functions.proofs.Setting.{Setting}
@@ -39,20 +41,22 @@ own_is (Some l) called own none = absurd (none l refl)
 abbrev pub IsLinked : Env → Linkage → PlainIr → Type 0
 IsLinked e link i = (l : ℕ) → link.routine_of i ≡ Some l → HasRoutineOf e l i × CanCall i
 
--- operations that are covered, whose routines stand, and which use none but so many cells
+-- operations of a function, all of which are the list `all`, that are covered, whose routines stand, which use none but so many
+-- cells, and whose branches over a jump go behind it
 abbrev pub AreReady : (p : PlainProgram) (e : Env) (cells : ℕ) (results : ℕ → ℕ) (f : ℕ) (called : List ℕ) (slots : ℕ) → Linkage
-    → List PlainIr → Type 0
-AreReady p e cells results f called slots link [] = ⊤
-AreReady p e cells results f called slots link (i ∷ code) =
-    (IsCovered p results f called slots i × IsLinked e link i × UsesCells cells i) × AreReady p e cells results f called slots link code
+    → (all code : List PlainIr) → Type 0
+AreReady p e cells results f called slots link all [] = ⊤
+AreReady p e cells results f called slots link all (i ∷ code) =
+    (IsCovered p results f called slots i × IsLinked e link i × UsesCells cells i × GoesBehind all i code)
+    × AreReady p e cells results f called slots link all code
 
 pub are_ready : (p : PlainProgram) (e : Env) (cells : ℕ) (results : ℕ → ℕ) (f : ℕ) (called : List ℕ) (slots : ℕ) (link : Linkage)
-    (code : List PlainIr) → AreCovered p results f called slots code → AllByRecursion (UsesCells cells) code
-    → ((i : PlainIr) → Contains code i → IsLinked e link i) → AreReady p e cells results f called slots link code
-are_ready p e cells results f called slots link [] covered cell linked = tt
-are_ready p e cells results f called slots link (i ∷ code) covered cell linked = (
-  (covered.0, linked i (0, omega arith, refl), cell.0),
-  are_ready p e cells results f called slots link code covered.1 cell.1
+    (all code : List PlainIr) → AreCovered p results f called slots code → AllByRecursion (UsesCells cells) code → GoBehind all code
+    → ((i : PlainIr) → Contains code i → IsLinked e link i) → AreReady p e cells results f called slots link all code
+are_ready p e cells results f called slots link all [] covered cell go linked = tt
+are_ready p e cells results f called slots link all (i ∷ code) covered cell go linked = (
+  (covered.0, linked i (0, omega arith, refl), cell.0, go.0),
+  are_ready p e cells results f called slots link all code covered.1 cell.1 go.1
       (λ j there. linked j (Contains-append_right (i ∷ []) code j there)),
 )
 
@@ -83,7 +87,8 @@ module _ (p : PlainProgram) (functions : List PlainIrFunction) (e : Env) (slots 
   -- an operation whose code stands at its use and which has been told so much, and those behind it
   abbrev pub own_told : Option Told → PlainIr → List PlainIr → List AsmItem
   own_told told i rest =
-      own_code p home link told (tells_next at i rest) (at.known (i ∷ rest)) (needs at rest) i ++ items_told (tells_next at i rest) rest
+      own_code p home link told (tells_next at told i rest) (at.known (i ∷ rest)) (needs at rest) i
+      ++ items_told (tells_next at told i rest) rest
 
   abbrev pub own_items : PlainIr → List PlainIr → List AsmItem
   own_items i rest = own_told None i rest
@@ -93,9 +98,10 @@ module _ (p : PlainProgram) (functions : List PlainIrFunction) (e : Env) (slots 
       → ((l : ℕ) → HasRoutineOf e l i → ⊥) → HasAt e (first ++ items_told told (i ∷ rest)) pc end
       → HasAt e (first ++ own_told told i rest) pc end
   at_use_behind first told i rest pc linked none stands =
-      subst (λ x. HasAt e (first ++ (x ++ items_told (tells_next at i rest) rest)) pc end)
-      (own_is (link.routine_of i) (λ l. called_code home l (result_wanted (needs at rest) i) i)
-      (own_code p home link told (tells_next at i rest) (at.known (i ∷ rest)) (needs at rest) i) (λ l q. none l (linked l q).0)) stands
+      subst (λ x. HasAt e (first ++ (x ++ items_told (tells_next at told i rest) rest)) pc end)
+      (own_is (routine_used (at.known (i ∷ rest)) i (link.routine_of i)) (λ l. called_code home l (result_wanted (needs at rest) i) i)
+      (own_code p home link told (tells_next at told i rest) (at.known (i ∷ rest)) (needs at rest) i)
+      (λ l q. none l (linked l (used_is (takes_count (at.known (i ∷ rest)) i) (link.routine_of i) l q)).0)) stands
 
   -- the function runs: it is one of those that are active, which are main and those that were called, and its code is for the
   -- core that runs it
@@ -106,7 +112,7 @@ module _ (p : PlainProgram) (functions : List PlainIrFunction) (e : Env) (slots 
 
   -- the operations that are left have their code from this word on
   pub record Ready (pc : ℕ) (rest : List PlainIr) : Type 0 where
-    pub covered : AreReady p e y.cells results me y.called slots link rest
+    pub covered : AreReady p e y.cells results me y.called slots link all rest
     pub live : IsLiveBy at rest
     pub inside : (b : ℕ) → Contains (called_in rest) b → Contains (called_in all) b
     pub here : IsRunning

@@ -1,5 +1,6 @@
 -- For the crates of the family.
 pub mod Cells
+pub mod Counts
 pub mod OnIntegers
 pub mod OnWholes
 pub mod Taken
@@ -29,6 +30,7 @@ mod CellMatch
 mod Fronts
 mod Numbers
 mod Numeric
+mod Behind
 mod Going
 mod Pointed
 mod Reached
@@ -42,6 +44,7 @@ mod Extended
 mod Standing
 mod Orders
 mod Truth
+mod Tested
 mod Related
 mod Turned
 mod Multiplied

@@ -54,7 +54,7 @@ use Rattle.ec_select_operations.specs.Homes.{HasHome}
 use Rattle.ec_select_operations.specs.Needs.{Need, Facts, facts_of, needs, wanted, at_least, without}
 use Rattle.ec_select_operations.specs.Places.{location_in, kind_in, object_location, ObjectLeaf}
 use Rattle.ec_select_operations.specs.Pointers.{home_of, kept_in, tag_of, tag_in, number_with, address_number}
-use Rattle.ec_select_operations.specs.Pointers.{IsPointerSize, IsPointed, IsPointerIn}
+use Rattle.ec_select_operations.specs.Pointers.{has_tables, IsPointerSize, IsPointed, IsPointerIn}
 use Rattle.ec_select_operations.proofs.Kept.{kept_there}
 use Rattle.ec_select_functions.specs.Standing.{address_end}
 use Rattle.ec_select_functions.specs.Relation.{AreFrames, Matches, HoldsLeaf, HoldsContent}
@@ -72,7 +72,7 @@ use Rattle.ec_select_functions.proofs.Moves.{narrower, stands_less, copy_straigh
 use Rattle.ec_select_functions.proofs.PointerNumbers.{small_end, data_end, greatest_end}
 use Rattle.ec_select_functions.proofs.Pointed.{IsAddressedBy, HasRoom, addressable_kind, typed_leaf, room_of, tag_below}
 use Rattle.ec_select_functions.proofs.Pointed.{address_held, pointed_below, home_of_object}
-use Rattle.ec_select_functions.proofs.Reached.{loads, leaf_there, loads_table, stores, access_to, Reaches, from_access}
+use Rattle.ec_select_functions.proofs.Reached.{table_among, loads, leaf_there, loads_table, stores, access_to, Reaches, from_access}
 use Rattle.ec_select_functions.proofs.Reached.{from_pointer, from_read, from_put, from_no_access, leaves_z}
 use Rattle.ec_select_functions.proofs.Setting.{Setting, frames_active}
 
@@ -598,8 +598,9 @@ module _ (p : PlainProgram) (functions : List PlainIrFunction) (e : Env) (slots 
           let a = addressed ptr space to.bytes q s v h.bytes into.0 k r in
           let there = leaf_there p e slots home base place y r.bank l to r.addressable it r.size in
           let run =
-          loads p e slots home base place y link.core space r.bank l.declared.home ptr to (place l.object + l.at) pc parts.0 v
-          (sym one_core) r.within r.held into it a there parts.1 in
+          loads p e slots home base place y link.core (has_tables p.objects) space r.bank l.declared.home ptr to (place l.object + l.at)
+          pc parts.0 v (sym one_core) (table_among p.objects l.object l.declared r.bank l.is_object l.home) r.within r.held into it a
+          there parts.1 in
           let holds = leaf_stands p e slots home base place y r.bank l _ m v r.state u h r.is_state j in
           let kind = addressable_kind l.declared.storage r.addressable in
           let m1 = machine (with_temp to u m.temps) (after_read p e slots home base place y r.bank l space u s) in

@@ -17,7 +17,7 @@ use Rattle.ec_asm.specs.declared.pieces.Location.TheVariants.{InRegisters}
 use Rattle.ec_asm.specs.View.{View}
 use Rattle.ec_asm.specs.Change.{Env, Own}
 use Rattle.ec_asm.specs.Items.{HasAt, block, code_steps}
-use Rattle.ec_asm.specs.Pieces.{StandsFrom, Outside, value}
+use Rattle.ec_asm.specs.Pieces.{StandsFrom, Outside, address, value}
 use Rattle.ec_asm.specs.PieceLaws.{HoldsNumbers}
 use Rattle.ec_asm.proofs.Hoare.{has_parts, block_goes, goes_on_to}
 use Rattle.ec_asm.proofs.Numbers.{value_below, value_mod}
@@ -56,7 +56,7 @@ use Rattle.ec_select_fixed.proofs.Suits.{AreSuited, operands_suit}
 use Rattle.ec_select_operations.specs.Code.{is_difference, is_signed, same_location, move_code, has_one_format, takes_place}
 use Rattle.ec_select_operations.specs.Code.{is_placed, stopped_code, placed_shift, placed_whole}
 use Rattle.ec_select_operations.specs.Homes.{HasHome}
-use Rattle.ec_select_operations.specs.Needs.{Need, wanted}
+use Rattle.ec_select_operations.specs.Needs.{Need, wanted, is_shift}
 use Rattle.ec_select_operations.proofs.OneFormat.{one_format}
 use Rattle.ec_select_functions.specs.Covered.{IsFixedBinary}
 use Rattle.ec_select_functions.specs.Relation.{Matches}
@@ -64,11 +64,12 @@ use Rattle.ec_select_functions.proofs.FixedRuns.{clear_of_ends}
 use Rattle.ec_select_functions.proofs.Follow.{Follows, after}
 use Rattle.ec_select_functions.proofs.Match.{kept_left, wanted_most, read_first, written_wide}
 use Rattle.ec_select_functions.proofs.Moves.{Wide, move_brings, move_holds, move_straight, move_steps, row_value, stands_less, work_outside}
-use Rattle.ec_select_functions.proofs.Computed.{moved_numbers}
+use Rattle.ec_select_functions.proofs.Computed.{moved_numbers, location_is}
 use Rattle.ec_select_functions.proofs.Limited.{IsLimited, limited}
 use Rattle.ec_select_functions.proofs.Related.{work_stands}
 use Rattle.ec_select_functions.proofs.Setting.{Setting}
 use Rattle.ec_select_functions.proofs.Stopped.{stands_apart, stopped_passes, stopped_result}
+use Rattle.ec_select_functions.proofs.Wrapped.{kept_below}
 
 -- ---- counts
 
@@ -397,6 +398,96 @@ module _ (p : PlainProgram) (e : Env) (slots : ℕ) (home : Temp → Location) (
       → Follows p place e n (m.state.work + c) end v2 o)
       → Follows p place e n m.state.work pc v o
 
+  -- ---- shifts by a number
+
+  -- temporaries at two places stand in two locations
+  pub located_apart : (t b : Temp) → HasHome slots t → HasHome slots b → b.at ≢ t.at → not (same_location (home b) (home t)) ≡ true
+  located_apart t b it ib other = by_test (same_location (home b) (home t)) refl
+    where
+      by_test : (x : Bool) → same_location (home b) (home t) ≡ x → not x ≡ true
+      by_test false q = refl
+      by_test true q =
+          let one : home b ≡ home t = location_is (home b) (home t) q in
+          let some = ib.some in
+          let also = it.some in
+          let here = (y.layout.temps_at b ib).at 0 (omega (arith, some)) in
+          let there = (y.layout.temps_at t it).at 0 (omega (arith, also)) in
+          let same : base b + 0 ≡ base t + 0 = sym here ∙ ap (λ (p : Location). address e p 0) one ∙ there in
+          let apart = (y.layout.temps_apart b t ib it other).right (omega (arith, same)) in
+          absurd (omega (arith, same, apart, also))
+
+  -- a count that gives a result is a number below the bits of what is shifted
+  count_of : (left : Bool) (k : FxKind) (s : Bool) (bty : PlainType) (mode : Mode) (x z : ℕ) (n : ℤ) → z < 256 ^ scalar_size bty
+      → (format_in bty).frac ≡ 0
+      → arithmetic_value (shift_operator left) (number_type (fixed k s)) mode (operand_in (format_of k) ((format_of k).bits / 8) x)
+      (operand_in (format_in bty) (scalar_size bty) z) ≡ Ok n
+      → (number_in (format_in bty).signed (scalar_size bty) z ≡ pos z) × (z < (format_of k).bits)
+  count_of left k s bty mode x z n below whole is =
+      let size = scalar_size bty in
+      let c = count_in left (fixed_in (format_of k) ((format_of k).bits / 8) x) (number_in (format_in bty).signed size z) mode n
+      (sym (shift_is left k s bty mode x z whole) ∙ is) in
+      let number : z ≡ c.number = count_is (format_in bty).signed size z c.number below c.is in
+      let inside = c.inside in
+      (c.is ∙ ap pos (sym number), omega (arith, number, inside))
+
+  -- a shift by a known number, of which the second operand holds as many bytes as its type has
+  abbrev PassesBy : RightNumber → (second : ℕ) (op : BinOp) (ty aty bty : PlainType) (mode : Mode) (c n pc end : ℕ) (t a b : Temp)
+      (need need0 : Need) (m : Mach) (v : View) (o : Outcome Value) (r : Value) → Type 0
+  PassesBy number second op ty aty bty mode c n pc end t a b need need0 m v o r =
+      second < 256 ^ scalar_size bty → low_bytes 16 number.number % 256 ≡ second % 256
+      → IsFixedBinary slots op t a b ty aty bty → is_placed op mode ty aty bty ≡ true
+      → IsNumber
+      (arithmetic_value op (number_type ty) mode (operand_in (format_in aty) (scalar_size aty) (value v.at (base a) (scalar_size aty)))
+      (operand_in (format_in bty) (scalar_size bty) second)) r
+      → M need0 m v → ((u : ℕ) → u ≢ t.at → need u ≤ need0 u)
+      → HasAt e (placed_whole (Some number) op (is_signed aty) (home a) (home b) (home t) (a.bytes - 1)) pc end
+      → 64 * binary_words op ty aty bty ≤ c
+      →
+      ((z : ℕ) (v2 : View) → IsBinaryResult op ty mode aty bty (value v.at (base a) (scalar_size aty)) second z
+      → M need (machine (with_content t (bits z) m.temps) (worked c m.state)) v2
+      → Follows p place e n (m.state.work + c) end v2 o)
+      → Follows p place e n m.state.work pc v o
+
+  kind_by_number : (number : RightNumber) (second : ℕ) (left : Bool) (k : FxKind) (s u : Bool) (bty : PlainType) (mode : Mode)
+      (c n pc end : ℕ) (t a b : Temp) (need need0 : Need) (m : Mach) (v : View) (o : Outcome Value) (r : Value)
+      → HasAt e (placed_shift (Some number) left (format_of k).signed (home a) (home b) (home t) (a.bytes - 1)) pc end
+      → PassesBy number second (shift_operator left) (fixed k s) (fixed k u) bty mode c n pc end t a b need need0 m v o r
+  kind_by_number number second left k s u bty mode c n pc end t a b need need0 m v o r there below low i is result h more code room
+      onward =
+      let f = format_of k in
+      let size = f.bits / 8 in
+      let suited = operands_suit (shift_operator left) (fixed k s) (fixed k u) bty i.types in
+      let whole = whole_count left (fixed k s) (fixed k u) bty suited in
+      let some = i.left.some in
+      let top = a.bytes - 1 in
+      let width_a : a.bytes ≡ suc top = omega arith in
+      let width_t : t.bytes ≡ suc top = i.result_bytes ∙ sym i.left_bytes ∙ width_a in
+      let wide : suc top ≡ size = sym width_a ∙ i.left_bytes in
+      let bits_are : f.bits ≡ 8 * suc top = kind_bits k ∙ ap (λ x. 8 * x) (sym wide) in
+      let x = value v.at (base a) size in
+      let count = count_of left k s bty mode x second result.number below whole result.is in
+      let few = kind_few k in
+      let inside = count.1 in
+      let same : low_bytes 16 number.number % 256 ≡ second = low ∙ kept_below second 256 (omega (arith, few, inside)) in
+      let takes = (and_parts (has_one_format (fixed k s) (fixed k u)) (takes_place (shift_operator left) mode
+      (has_one_format (fixed k u) bty)) is).1 in
+      let sat = not_saturating left mode (has_one_format (fixed k u) bty) takes in
+      let fits : 5 + 2 * suc top + f.bits * (6 + 6 * suc top) ≤ c =
+      (let q = shift_roomy left (fixed k s) (fixed k u) bty (suc top) (omega arith) (omega (arith, wide)) in
+      subst (λ (j : ℕ). 5 + 2 * suc top + j * (6 + 6 * suc top) ≤ c) (sym bits_are) (omega (arith, q, room))) in
+      let given = λ (size1 j z : ℕ). HoldsResult size1 (shift_of (fixed_in f size1 (value v.at (base a) size1)) j left mode) z in
+      counted_passes left f mode top c n pc end (low_bytes 16 number.number % 256) t a need need0 m v o i.result i.left width_t width_a
+      (IsFormat-format_of k) bits_are sat (omega (arith, same, inside)) h more there fits
+      (λ z v2 holds matches.
+      let at_size : given size second z =
+      subst (λ (j : ℕ). given j second z) wide (subst (λ (j : ℕ). given (suc top) j z) same holds) in
+      onward z v2
+      (shift_result left k s u bty mode x second z suited whole
+      (λ q q_is within.
+      let one : pos q ≡ pos second = sym q_is ∙ count.0 in
+      let number_is : second ≡ q = cc in
+      subst (λ (j : ℕ). given size j z) number_is at_size)) matches)
+
   -- ---- shifts
 
   -- the lowest byte of the count is the count
@@ -496,6 +587,30 @@ module _ (p : PlainProgram) (e : Env) (slots : ℕ) (home : Temp → Location) (
       shift_of_kind known left one.kind one.first_saturates one.second_saturates bty mode c n pc end t a b need need0 m v o r
       (subst (λ q. HasAt e q pc end) (code_is known (format_of one.kind).signed (home a) (home b) (home t) (a.bytes - 1)) there)
       counted i is other number h more there room onward))) counted i is other number h more there room onward
+
+  -- the same by a known number
+  by_count : (left : Bool)
+      → ((number : RightNumber) (signed : Bool) (a b to : Location) (top : ℕ)
+      → placed_whole (Some number) (shift_operator left) signed a b to top ≡ placed_shift (Some number) left signed a b to top)
+      → (number : RightNumber) (second : ℕ) (ty aty bty : PlainType) (mode : Mode) (c n pc end : ℕ) (t a b : Temp) (need need0 : Need)
+      (m : Mach) (v : View) (o : Outcome Value) (r : Value)
+      → PassesBy number second (shift_operator left) ty aty bty mode c n pc end t a b need need0 m v o r
+  by_count left code_is number second ty aty bty mode c n pc end t a b need need0 m v o r below low i is result h more there room onward =
+      let first = (and_parts (has_one_format ty aty) (takes_place (shift_operator left) mode (has_one_format aty bty)) is).0 in
+      let one = one_format ty aty first in
+      let passes = λ (x z : PlainType). PassesBy number second (shift_operator left) x z bty mode c n pc end t a b need need0 m v o r in
+      (subst (λ x. passes x aty) (sym one.first) (subst (λ z. passes (fixed one.kind one.first_saturates) z) (sym one.second)
+      (λ below low i is result h more there room onward.
+      kind_by_number number second left one.kind one.first_saturates one.second_saturates bty mode c n pc end t a b need need0 m v o r
+      (subst (λ q. HasAt e q pc end) (code_is number (format_of one.kind).signed (home a) (home b) (home t) (a.bytes - 1)) there)
+      below low i is result h more there room onward))) below low i is result h more there room onward
+
+  pub count_passes : (op : BinOp) → is_shift op ≡ true → (number : RightNumber) (second : ℕ) (ty aty bty : PlainType) (mode : Mode)
+      (c n pc end : ℕ) (t a b : Temp) (need need0 : Need) (m : Mach) (v : View) (o : Outcome Value) (r : Value)
+      → PassesBy number second op ty aty bty mode c n pc end t a b need need0 m v o r
+  count_passes Shl h = by_count true (λ k q w x z u. refl)
+  count_passes Shr h = by_count false (λ k q w x z u. refl)
+  count_passes op h = absurd cc
 
   by_sum : (op : BinOp) → (op ≡ Add) ⊎ (op ≡ Sub)
       → ((mode : Mode) (one : Bool) → takes_place op mode one ≡ (one && mode.saturate))

@@ -48,15 +48,15 @@ use Rattle.ec_select_order.specs.declared.relations.Relation.TheVariants.{NotEqu
 use Rattle.ec_select_places.specs.Numbers.{Place, number_of, IsPlace, same_place, is_before, places_stand}
 use Rattle.ec_select_places.specs.Numbers.Place.{Null, At}
 use Rattle.ec_select_places.specs.StepLaws.{index_of, moved_by}
-use Rattle.ec_select_places.specs.FarLaws.{IsFarPlace, InOneBank, far_moved_by}
+use Rattle.ec_select_places.specs.FarLaws.{IsFarPlace, InOneBank, extended, far_moved_by}
 use Rattle.ec_select_places.specs.DistanceLaws.{signed_number, IsFrom}
 use Rattle.ec_select_places.specs.Conversions.{embedded}
-use Rattle.ec_select_operations.specs.Code.{is_far}
+use Rattle.ec_select_operations.specs.Code.{is_far, known_index, known_offset}
 use Rattle.ec_select_operations.specs.Places.{Apart}
 use Rattle.ec_select_operations.specs.Pointers.{home_of, tag_of, address_number, IsPointed, IsPointerIn, IsPointerSize}
 use Rattle.ec_select_operations.specs.Pointers.{is_into_data}
 use Rattle.ec_select_functions.specs.Standing.{StandsInMemory, ObjectStands, TablesStand, address_end}
-use Rattle.ec_select_functions.proofs.Wrapped.{Lifts, low_of, lifts_number, kept_below}
+use Rattle.ec_select_functions.proofs.Wrapped.{Lifts, low_of, lifts_number, low_below, low_part, kept_below}
 
 -- ---- where objects stand
 
@@ -949,6 +949,64 @@ far_advanced_is minus n taken w i o e x h il ol wl =
         plus_far w i o (x.lifts.k * e) (x.index * e) (plus_step n x.lifts.k x.index i o e x.lifts.is g) il ol wl
     by_sign true g =
         minus_far w i o (x.lifts.k * e) (x.index * e) (minus_step n x.lifts.k x.index i o e x.lifts.is g) il ol wl
+
+-- ---- sums with known numbers
+
+-- what is taken of a known number is that number modulo 65,536
+pub known_index_is : (signed : Bool) (bytes low : ℕ) (number : ℤ) → IsIntegerSize bytes → low ≡ low_bytes bytes number
+    → IsIndex (number_of_bytes signed bytes low) (known_index signed bytes (low_bytes 16 number))
+known_index_is signed bytes low number size is =
+    subst (λ x. IsIndex (number_of_bytes signed bytes low) x) (ap (index_of signed bytes) is ∙ by_size bytes size)
+    (index_is signed bytes low size (subst (λ x. x < 256 ^ bytes) (sym is) (low_below bytes number)))
+  where
+    by_size : (bytes : ℕ) → IsIntegerSize bytes → index_of signed bytes (low_bytes bytes number) ≡ known_index signed bytes (low_bytes 16 number)
+    by_size bytes s = ⊎_elim one (λ t. ⊎_elim two four t) s
+      where
+        Is : ℕ → Type 0
+        Is b = index_of signed b (low_bytes b number) ≡ known_index signed b (low_bytes 16 number)
+
+        part : (b : ℕ) → b ≤ 16 → low_bytes 16 number % 256 ^ b ≡ low_bytes b number
+        part b l = low_part number b 16 l
+
+        one : bytes ≡ 1 → Is bytes
+        one r = subst Is (sym r) (ap (index_of signed 1) (sym (part 1 (omega arith))))
+
+        two : bytes ≡ 2 → Is bytes
+        two r =
+            let l = part 2 (omega arith) in
+            let same : low_bytes 2 number % 65536 ≡ low_bytes 16 number % 65536 = omega (arith, l) in subst Is (sym r) same
+
+        four : bytes ≡ 4 → Is bytes
+        four r =
+            let l = part 4 (omega arith) in
+            let same : low_bytes 4 number % 65536 ≡ low_bytes 16 number % 65536 = omega (arith, l) in subst Is (sym r) same
+
+-- an offset by known bytes is added where these are added or subtracted
+pub offset_moves : (minus : Bool) (x d : ℕ) → d < 65536 → (x + known_offset minus d) % 65536 ≡ moved_by minus x d
+offset_moves minus x d l =
+    ⊎_elim
+    (λ (k : d < 32768). let small : nat_lt d 32768 ≡ true = lt-ltb d 32768 k in near minus small)
+    (λ (k : 32768 ≤ d). let big : nat_lt d 32768 ≡ false = not_lt d 32768 k in above minus big)
+    (cases_lt d 32768)
+  where
+    near : (minus : Bool) → nat_lt d 32768 ≡ true → (x + known_offset minus d) % 65536 ≡ moved_by minus x d
+    near false small = rw small (omega arith)
+    near true small = rw small (omega (arith, l))
+
+    above : (minus : Bool) → nat_lt d 32768 ≡ false → (x + known_offset minus d) % 65536 ≡ moved_by minus x d
+    above false big = rw big (omega arith)
+    above true big = rw big (omega (arith, l))
+
+pub far_offset_moves : (minus : Bool) (x d : ℕ) → d < 65536 → (x + known_offset minus d) % 16777216 ≡ far_moved_by minus x d
+far_offset_moves false x d l = refl
+far_offset_moves true x d l =
+    let most : extended d ≤ 16777216 = at_end (nat_lt d 32768) in
+    let same : x + (16777216 - extended d) ≡ x + 16777216 - extended d = omega (arith, most) in
+    ap (λ (n : ℕ). n % 16777216) same
+  where
+    at_end : (small : Bool) → (if small then d else d + 16711680) ≤ 16777216
+    at_end true = omega (arith, l)
+    at_end false = omega (arith, l)
 
 -- ---- conversions
 

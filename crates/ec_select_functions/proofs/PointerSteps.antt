@@ -48,6 +48,7 @@ use Rattle.ec_ir.specs.Costs.{op_steps, binary_words, conversion_words, is_bitwi
 use Rattle.ec_ir.specs.Meaning.{Mach, machine, held_as, Frame as Call}
 use Rattle.ec_ir.specs.Operations.{PlainIr, binary_op, conversion, PlainIrFunction}
 use Rattle.ec_ir.specs.Valid.{HasPointersOf}
+use Rattle.ec_ir_known.specs.declared.known.RightNumber.{RightNumber}
 use Rattle.ec_ir.specs.Temporaries.{Content, bits, points, content_of, value_of_type, is_in_space, Held, Temps, held}
 use Rattle.ec_ir.specs.Temporaries.{with_temp, with_content}
 use Rattle.ec_ir.specs.Temporaries.{low_bytes, number_of_bytes}
@@ -63,6 +64,9 @@ use Rattle.ec_select_places.specs.Steps.{scale_index_code, advance_code}
 use Rattle.ec_select_places.specs.Far.{advance_far_code}
 use Rattle.ec_select_places.specs.FarLaws.{IsFarPlace, MayRelate, LeavesWork, far_moved_by}
 use Rattle.ec_select_places.specs.StepLaws.{LeavesZ, Scales, Advances, index_of, moved_by}
+use Rattle.ec_select_pointers.specs.Addresses.{field_code}
+use Rattle.ec_select_pointers.specs.AddressLaws.{HasPut as IsPut}
+use Rattle.ec_select_pointers.specs.Far.{field_far_code}
 use Rattle.ec_select_places.specs.DistanceLaws.{signed_number, IsFrom, Differs}
 use Rattle.ec_select_places.specs.ConversionLaws.{HasPut}
 use Rattle.ec_select_places.specs.Distances.{elements_code}
@@ -75,17 +79,18 @@ use Rattle.ec_select_operations.specs.Code.{Linkage, own_code, tells_next, ops_c
 use Rattle.ec_select_operations.specs.Code.{is_only_tested}
 use Rattle.ec_select_operations.specs.Code.{wanted_bytes}
 use Rattle.ec_select_operations.specs.Code.{move_code, conversion_code, is_far, moved_code, offset_code, is_difference}
-use Rattle.ec_select_operations.specs.Code.{related_bytes}
+use Rattle.ec_select_operations.specs.Code.{related_bytes, member_code, known_index, known_bytes, known_offset, known_offset_code}
 use Rattle.ec_select_operations.specs.Code.{pointers_code}
 use Rattle.ec_select_functions.specs.Covered.{IsPointerBinary, IsPointerConversion}
 use Rattle.ec_select_operations.specs.Homes.{HasHome}
-use Rattle.ec_select_operations.specs.Needs.{Need, Facts, is_fixed, facts_of, before, needs, wanted, at_least, without, all_or_none}
+use Rattle.ec_select_operations.specs.Needs.{Need, Facts, is_fixed, is_whole, facts_of, before, needs, wanted, at_least, without, all_or_none}
+use Rattle.ec_select_operations.specs.Needs.{first_wanted, second_wanted, first_bytes, number_taken, moves_pointer, right_taken, right_needed}
 use Rattle.ec_select_operations.specs.Places.{Apart, IsClear}
 use Rattle.ec_select_operations.specs.Pointers.{is_into_data, IsPointerIn, IsPointerSize, home_of}
 use Rattle.ec_select_functions.specs.Relation.{FramesStand, Matches, HoldsContent}
 use Rattle.ec_select_functions.proofs.Checked.{checked_on, performed}
 use Rattle.ec_select_functions.proofs.Follow.{Follows, after, from_held, next_next, held_is}
-use Rattle.ec_select_functions.proofs.Going.{passes}
+use Rattle.ec_select_functions.proofs.Going.{goes_past}
 use Rattle.ec_select_functions.proofs.Match.{kept_left, wanted_most, read_first, at_width, written_wide, least_here}
 use Rattle.ec_select_functions.proofs.Match.{less_value}
 use Rattle.ec_select_functions.proofs.Match.{least_other}
@@ -101,7 +106,7 @@ use Rattle.ec_select_functions.proofs.PointerNumbers.{places_core, low_address, 
 use Rattle.ec_select_functions.proofs.PointerNumbers.{MayCompare, compared_alike, converted_home, far_advanced_is}
 use Rattle.ec_select_functions.proofs.PointerNumbers.{places_compare, comparison_is}
 use Rattle.ec_select_functions.proofs.PointerNumbers.{Distance, difference_is, IsMoved, moved_is, IsIndex, index_is}
-use Rattle.ec_select_functions.proofs.PointerNumbers.{moved_elements}
+use Rattle.ec_select_functions.proofs.PointerNumbers.{moved_elements, offset_moves, far_offset_moves, known_index_is}
 use Rattle.ec_select_functions.proofs.PointerNumbers.{advanced_is, in_space_is, low_numbers, low_is_offset, embedded_is}
 use Rattle.ec_select_functions.proofs.Related.{told_matches}
 use Rattle.ec_select_functions.proofs.Setting.{Setting, together}
@@ -141,6 +146,11 @@ moved_pointer p n q bytes z i w =
       size = i.size;
       of = subst (λ (d : PlainObject). HasPointersOf d n) same i.of;
     }
+
+-- a pointer with whole addresses of flash has three bytes
+far_bytes : (core : Core) (bytes : ℕ) → is_far core bytes ≡ true → bytes ≡ 3
+far_bytes Small bytes h = absurd cc
+far_bytes Large bytes h = eqb-true bytes 3 h
 
 -- ---- operands
 
@@ -477,6 +487,223 @@ module _ (p : PlainProgram) (e : Env) (slots : ℕ) (home : Temp → Location) (
           ∙ mv.same k r0 (subst (λ (n : ℕ). Outside (base t) n k) same o)
           ∙ sc.same k r0 r1 (λ u. let z = low_off u in omega arith) (λ u. let z = high_off (omega arith) in omega arith)
 
+  -- ---- pointers that are moved by known numbers
+
+  -- the code moves a pointer by so many elements, of which an index of so many bytes is known to hold the number
+  pub known_matches : (core : Core) → core ≡ e.core → (minus signed : Bool) (t a : Temp) (bytes number size c : ℕ) (k : ℤ)
+      (q : ObjectPointer) (z : PointerValue) (need need0 : Need) (m : Mach) (v : View) → HasHome slots t → HasHome slots a
+      → t.bytes ≡ a.bytes → IsPointerIn p a.bytes q
+      → value v.at (base a) a.bytes ≡ number_of (place_of p place a.bytes (Some q))
+      → IsIndex k (known_index signed bytes number) → IsMoved p q (moved_elements minus k *ℤ pos size) z
+      → ((u : ℕ) → u ≢ t.at → need u ≤ need0 u) → Shown need0 m v
+      → Shown need (machine (with_content t (content_of t.bytes (Pointer z)) m.temps) (worked c m.state))
+      (block e (move_code (home a) (home t) a.bytes
+      ++ member_code core a.bytes (home t) (known_offset minus (known_bytes signed bytes number size))) v)
+  known_matches core one_core minus signed t a bytes number_known size c k q z need need0 m v it ia same i number ix moves more h =
+      subst (λ (x : PointerValue). Shown need (machine (with_content t (content_of t.bytes (Pointer x)) m.temps)
+      (worked c m.state)) (block e (move ++ member) v)) (sym moves.is)
+      (subst (λ (x : View). Shown need (machine (with_content t (points moves.to) m.temps) (worked c m.state)) x)
+      (sym (block-append e move member v))
+      (written_wide p e slots home base place y t (points moves.to) need need0 m (worked c m.state) v v2 it h more
+      frame held numbers2 refl (put.seen ∙ mv.seen ∙ h.seen)
+      (kept_left y.inputs m.state v v2 (put.inputs ∙ mv.inputs) h.left) (put.safe ∙ mv.safe ∙ h.safe)))
+    where
+      taken : ℕ
+      taken = known_index signed bytes number_known
+
+      distance : ℕ
+      distance = known_bytes signed bytes number_known size
+
+      few : distance < 65536
+      few = mod_below (taken * (size % 65536)) 65536 (omega arith)
+
+      offset : ℕ
+      offset = known_offset minus distance
+
+      move : List AsmItem
+      move = move_code (home a) (home t) a.bytes
+
+      member : List AsmItem
+      member = member_code core a.bytes (home t) offset
+
+      v1 : View
+      v1 = block e move v
+
+      v2 : View
+      v2 = block e member v1
+
+      two : 2 ≤ a.bytes
+      two = ⊎_elim (λ (r : a.bytes ≡ 2). omega arith) (λ (r : a.bytes ≡ 3). omega arith) i.size
+
+      clear_t : IsClear (base t) t.bytes
+      clear_t = y.layout.temps_work t it
+
+      some_a : 2 ≤ base a
+      some_a = (y.layout.temps_at a ia).clear
+
+      some_t : 2 ≤ base t
+      some_t = (y.layout.temps_at t it).clear
+
+      to_stands : StandsFrom e (home t) a.bytes (base t) Own
+      to_stands = subst (λ (n : ℕ). StandsFrom e (home t) n (base t) Own) same (y.layout.temps_at t it)
+
+      off_target : (n : ℕ) → n ≤ a.bytes → Outside (base t) n 30
+      off_target n l = (leaves_z (base t) t.bytes n (omega (arith, l, same)) clear_t).low
+
+      mv : Brought v (base a) (base t) a.bytes v1
+      mv = move_brings e (home a) (home t) a.bytes (base a) (base t) v (y.layout.temps_at a ia) to_stands
+          (read_first p e slots home base place y t a a.bytes it ia (omega arith)) h.bytes
+
+      frame1 : Frame v v1 (base t) a.bytes
+      frame1 j x z w o = mv.same j x o
+
+      numbers1 : HoldsNumbers v1
+      numbers1 = numbers_kept v v1 (base t) a.bytes h.bytes frame1
+          (λ j l. subst (λ (n : ℕ). n < 256) (sym (mv.there j l)) (held_row v (base a) a.bytes some_a h.bytes j l))
+          (subst (λ (n : ℕ). n < 256) (sym (mv.same 30 (omega arith) (off_target a.bytes (omega arith)))) (h.bytes 30 (omega arith)))
+
+      -- the pointer before, at its new place
+      number_before : value v1.at (base t) a.bytes ≡ number_of (place_of p place a.bytes (Some q))
+      number_before = row_value v1.at v.at (base a) (base t) a.bytes mv.there ∙ number
+
+      -- the pointer that it becomes
+      moved_in : IsPointerIn p a.bytes moves.to
+      moved_in = moved_pointer p a.bytes q (moved_elements minus k *ℤ pos size) z i moves
+
+      to_number : ℕ
+      to_number = number_of (place_of p place a.bytes (Some moves.to))
+
+      object : place moves.to.object ≡ place q.object
+      object = ap place moves.object
+
+      -- by its low two bytes
+      near : is_far core a.bytes ≡ false → IsPut v1 (base t) a.bytes to_number (block e (field_code (home t) offset) v1)
+      near is_near =
+          record {
+            number_is = ⊎_elim without_tag with_tag i.size;
+            numbers = low.numbers;
+            same = λ j work o. low.same j work (narrower (base t) a.bytes 2 j two o);
+            inputs = low.inputs;
+            safe = low.safe;
+            seen = low.seen;
+          }
+        where
+          w : View
+          w = block e (field_code (home t) offset) v1
+
+          low : IsPut v1 (base t) 2 ((value v1.at (base t) 2 + offset) % 65536) w
+          low = y.pointers.fields e (home t) offset (base t) v1 (stands_less e (home t) a.bytes 2 (base t) Own two to_stands)
+              (off_target 2 two) numbers1
+
+          place_from : ℕ
+          place_from = place q.object + q.offset
+
+          small_from : place_from < 65536
+          small_from = low_address p place have core a.bytes q (one_core ∙ sym have_core) i is_near
+
+          small_to : place q.object + moves.to.offset < 65536
+          small_to = subst (λ (n : ℕ). n + moves.to.offset < 65536) object
+              (low_address p place have core a.bytes moves.to (one_core ∙ sym have_core) moved_in is_near)
+
+          -- the address before, and the address behind
+          address_before : value v1.at (base t) 2 ≡ place_from
+          address_before =
+              less_value v1.at (base t) a.bytes 2 (number_of (place_of p place a.bytes (Some q))) two
+              (held_row v1 (base t) a.bytes some_t numbers1)
+              (number_before ∙ sym (kept_below (number_of (place_of p place a.bytes (Some q))) (256 ^ a.bytes)
+              (number_below p place have a.bytes (Some q) i.size i)))
+              ∙ low_is_offset p place have a.bytes q small_from
+
+          address_behind : value w.at (base t) 2 ≡ place q.object + moves.to.offset
+          address_behind =
+              low.number_is ∙ ap (λ (n : ℕ). (n + offset) % 65536) address_before ∙ offset_moves minus place_from distance few
+              ∙ advanced_is minus k taken (place q.object) q.offset moves.to.offset size ix moves.offset small_from small_to
+
+          without_tag : a.bytes ≡ 2 → value w.at (base t) a.bytes ≡ to_number
+          without_tag r =
+              subst (λ (n : ℕ). value w.at (base t) n ≡ number_of (place_of p place n (Some moves.to))) (sym r)
+              (address_behind ∙ ap (λ (o : ℕ). o + moves.to.offset) (sym object) ∙ omega arith)
+
+          third : (x y z w a b t : ℕ) → x ≡ b → y ≡ w → z ≡ a → z + w * 65536 ≡ a + t * 65536 → x + y * 65536 ≡ b + t * 65536
+          third x y z w a b t p q r s = omega (arith, p, q, r, s)
+
+          with_tag : a.bytes ≡ 3 → value w.at (base t) a.bytes ≡ to_number
+          with_tag r =
+              let outside = off_target 3 (omega (arith, r)) in
+              let other : base t + 2 ≢ 30 = λ s. let o = outside (omega (arith, s)) in omega (arith, o, s) in
+              let last : w.at (base t + 2) ≡ v1.at (base t + 2) = low.same (base t + 2) other (λ o. omega arith) in
+              let full : value v1.at (base t) 3 ≡ number_of (place_of p place 3 (Some q)) =
+              subst (λ (n : ℕ). value v1.at (base t) n ≡ number_of (place_of p place n (Some q))) r number_before in
+              let tag3 : tag_byte 3 (home_of p moves.to.object) ≡ tag_byte 3 (home_of p q.object) =
+              ap (λ (o : ℕ). tag_byte 3 (home_of p o)) moves.object in
+              subst (λ (n : ℕ). value w.at (base t) n ≡ number_of (place_of p place n (Some moves.to))) (sym r)
+              (third (value w.at (base t) 2) (w.at (base t + 2)) (value v1.at (base t) 2) (v1.at (base t + 2))
+              place_from (place q.object + moves.to.offset) (tag_byte 3 (home_of p q.object))
+              address_behind last address_before full ∙ (rw (object, tag3) refl))
+
+      -- by all three
+      far : is_far core a.bytes ≡ true → IsPut v1 (base t) a.bytes to_number (block e (field_far_code (home t) offset) v1)
+      far is_so =
+          let three = far_bytes core a.bytes is_so in
+          let limit : (n : ℕ) → n ≡ 3 → IsPut v1 (base t) 3 (number_of (place_of p place n (Some moves.to))) w
+          → IsPut v1 (base t) n (number_of (place_of p place n (Some moves.to))) w =
+          λ n r. subst (λ (j : ℕ). IsPut v1 (base t) j (number_of (place_of p place n (Some moves.to))) w) (sym r) in
+          limit a.bytes three (advanced three)
+        where
+          w : View
+          w = block e (field_far_code (home t) offset) v1
+
+          from : ℕ
+          from = place q.object + tag_byte a.bytes (home_of p q.object) * 65536
+
+          tag : tag_byte a.bytes (home_of p moves.to.object) ≡ tag_byte a.bytes (home_of p q.object)
+          tag = ap (λ (o : ℕ). tag_byte a.bytes (home_of p o)) moves.object
+
+          advanced : a.bytes ≡ 3 → IsPut v1 (base t) 3 to_number w
+          advanced three =
+              let stands : StandsFrom e (home t) 3 (base t) Own = subst (λ (n : ℕ). StandsFrom e (home t) n (base t) Own) three to_stands in
+              let whole = y.pointers.far.fields e (home t) offset (base t) v1 stands (off_target 3 (omega (arith, three))) numbers1 in
+              let full : value v1.at (base t) 3 ≡ from + q.offset =
+              subst (λ (n : ℕ). value v1.at (base t) n ≡ number_of (place_of p place a.bytes (Some q))) three number_before ∙ omega arith in
+              let limit = subst (λ (n : ℕ). to_number < 256 ^ n) three (number_below p place have a.bytes (Some moves.to) i.size moved_in) in
+              let is_to : from + moves.to.offset ≡ to_number = (rw (object, tag) (omega arith)) in
+              let small : from + moves.to.offset < 16777216 = omega (arith, limit, is_to) in
+              let behind : far_moved_by minus (from + q.offset) distance ≡ from + moves.to.offset =
+              far_advanced_is minus k taken from q.offset moves.to.offset size ix moves.offset
+              (offset_small p place have q i.pointed) (offset_small p place have moves.to moves.pointed) small in
+              let number : (value v1.at (base t) 3 + offset) % 16777216 ≡ to_number =
+              ap (λ (n : ℕ). (n + offset) % 16777216) full ∙ far_offset_moves minus (from + q.offset) distance few ∙ behind ∙ is_to in
+              subst (λ (n : ℕ). IsPut v1 (base t) 3 n w) number whole
+
+      put : IsPut v1 (base t) a.bytes to_number v2
+      put = by_core (is_far core a.bytes) refl
+        where
+          by_core : (b : Bool) → is_far core a.bytes ≡ b
+              → IsPut v1 (base t) a.bytes to_number (block e (if b then field_far_code (home t) offset else field_code (home t) offset) v1)
+          by_core true q = far q
+          by_core false q = near q
+
+      numbers2 : HoldsNumbers v2
+      numbers2 = put.numbers numbers1
+
+      new_number : value v2.at (base t) t.bytes ≡ number_of (place_of p place t.bytes (Some moves.to))
+      new_number = subst (λ (n : ℕ). value v2.at (base t) n ≡ number_of (place_of p place n (Some moves.to))) (sym same) put.number_is
+
+      target : IsPointerIn p t.bytes moves.to
+      target = subst (λ (n : ℕ). IsPointerIn p n moves.to) (sym same) moved_in
+
+      held : HoldsContent p place v2.at (base t) (wanted need t) t.bytes (points moves.to)
+      held = holds_pointer v2.at (base t) (wanted need t) t.bytes (Some moves.to) target
+          (less_value v2.at (base t) t.bytes (wanted need t) (number_of (place_of p place t.bytes (Some moves.to)))
+          (wanted_most need t) (held_row v2 (base t) t.bytes some_t numbers2)
+          (new_number ∙ sym (kept_below (number_of (place_of p place t.bytes (Some moves.to))) (256 ^ t.bytes)
+          (number_below p place have t.bytes (Some moves.to) target.size target))))
+
+      frame : Wide v v2 (base t) t.bytes
+      frame j r0 r1 low_off high_off o =
+          let off : Outside (base t) a.bytes j = subst (λ (n : ℕ). Outside (base t) n j) same o in
+          put.same j (λ (x : j ≡ 30). let z = high_off (omega (arith, x)) in omega (arith, z, x)) off ∙ mv.same j r0 off
+
   -- ---- differences
 
   -- the code counts the elements between two pointers
@@ -745,24 +972,33 @@ module _ (p : PlainProgram) (functions : List PlainIrFunction) (e : Env) (slots 
   -- an operation whose code stands at its use, and those behind it
   abbrev own_items : PlainIr → List PlainIr → List AsmItem
   own_items i rest =
-      own_code p home link None (tells_next at i rest) (at.known (i ∷ rest)) (needs at rest) i
-      ++ ops_code p home link at (tells_next at i rest) rest
+      own_code p home link None (tells_next at None i rest) (at.known (i ∷ rest)) (needs at rest) i
+      ++ ops_code p home link at (tells_next at None i rest) rest
 
-  -- its code, where it has been told nothing, tells nothing, and takes no number
+  -- its code, where it has been told nothing and tells nothing, and its second operand may be known to hold a number
+  abbrev known_code : Option RightNumber → PlainIr → List PlainIr → List AsmItem
+  known_code known i rest = own_code p home link None None known (needs at rest) i
+
+  -- where it takes no number
   abbrev code_of : PlainIr → List PlainIr → List AsmItem
-  code_of i rest = own_code p home link None None None (needs at rest) i
+  code_of i rest = known_code None i rest
 
-  -- an operation that takes no number, and those behind it
+  -- an operation whose second operand may be known to hold a number, and those behind it
   abbrev plain_told : PlainIr → List PlainIr → Option Told
-  plain_told i rest = tells None i (slice_get rest 0) (slice_index (wanted_bytes at rest) 0)
+  plain_told i rest = tells None None i (slice_get rest 0) (slice_get rest 1) (slice_index (wanted_bytes at rest) 0)
 
-  abbrev plain_items : PlainIr → List PlainIr → List AsmItem
-  plain_items i rest =
-      own_code p home link None (plain_told i rest) None (needs at rest) i ++ ops_code p home link at (plain_told i rest) rest
+  abbrev known_items : Option RightNumber → PlainIr → List PlainIr → List AsmItem
+  known_items known i rest =
+      own_code p home link None (plain_told i rest) known (needs at rest) i ++ ops_code p home link at (plain_told i rest) rest
 
-  -- what is needed before it
-  abbrev plain_needs : PlainIr → List PlainIr → Need
-  plain_needs i rest = before labels None i (needs at rest)
+  -- what is needed before an operator that shifts no fixed-point number
+  abbrev moving_needs : Option RightNumber → (op : BinOp) (t a : Temp) (aty : PlainType) (b : Temp) (bty : PlainType) → List PlainIr → Need
+  moving_needs known op t a aty b bty rest =
+      at_least a.at
+      (first_wanted (is_whole aty || is_whole bty) op
+      (first_bytes (number_taken known (is_whole aty || is_whole bty) op) op a.bytes) (wanted (needs at rest) t))
+      (right_needed (right_taken known (moves_pointer op aty bty) (is_whole aty || is_whole bty) op) b.at
+      (second_wanted (is_whole aty || is_whole bty) op b.bytes (wanted (needs at rest) t)) (without t.at (needs at rest)))
 
   abbrev R : ℕ → List PlainIr → Mach → Outcome Value
   R n rest m = checked_on functions p y.inputs n all stack rest m
@@ -793,30 +1029,32 @@ module _ (p : PlainProgram) (functions : List PlainIrFunction) (e : Env) (slots 
   pointer_content bytes (Some q) i = i
 
   -- straight code that leaves the result, and what comes after it
-  straight_passes : (i : PlainIr) (code : List AsmItem) (t : Temp) (content : Content) (rest : List PlainIr)
+  straight_passes : (known : Option RightNumber) (i : PlainIr) (code : List AsmItem) (t : Temp) (content : Content) (rest : List PlainIr)
       (n pc : ℕ) (m : Mach) (v : View)
-      → code_of i rest ≡ code → all_straight code ≡ true → code_steps code ≤ 640 → 640 ≤ op_steps i
-      → HasAt e (code_of i rest ++ items rest) pc end
+      → known_code known i rest ≡ code → all_straight code ≡ true → code_steps code ≤ 640 → 640 ≤ op_steps i
+      → HasAt e (known_code known i rest ++ items rest) pc end
       → M (needs at rest) (resulted t content (op_steps i) m) (block e code v) → Rest (suc n) rest
       → G (suc n) m.state.work pc v (R (suc n) rest (resulted t content (op_steps i) m))
-  straight_passes i code t content rest n pc m v is straight few room stands matches f =
+  straight_passes known i code t content rest n pc m v is straight few room stands matches f =
       let m1 = resulted t content (op_steps i) m in
-      let steps : code_steps (code_of i rest) ≡ code_steps code = ap code_steps is in
-      passes p functions e slots home base place y labels all end results me link stack i rest (suc n) (suc n)
+      let own = known_code known i rest in
+      let steps : code_steps own ≡ code_steps code = ap code_steps is in
+      goes_past p functions e slots home base place y labels all end results me link stack own (items rest) (suc n) (suc n)
       m.state.work m1.state.work pc v (R (suc n) rest m1) stands
       (ap all_straight is ∙ straight) (omega arith) (omega (arith, steps, few, room))
       (λ mid u. f mid m1 _ u (subst (λ (w : List AsmItem). M (needs at rest) m1 (block e w v)) (sym is) matches))
 
   -- no code where no byte of the result is needed
-  nothing_passes : (i : PlainIr) (t : Temp) (content : Content) (rest : List PlainIr) (n pc : ℕ) (need0 : Need) (m : Mach) (v : View)
-      → HasHome slots t → code_of i rest ≡ [] → (wanted (needs at rest) t == 0) ≡ true → IsContent t.bytes content
-      → HasAt e (code_of i rest ++ items rest) pc end → ((u : ℕ) → u ≢ t.at → needs at rest u ≤ need0 u) → M need0 m v
+  nothing_passes : (known : Option RightNumber) (i : PlainIr) (t : Temp) (content : Content) (rest : List PlainIr) (n pc : ℕ) (need0 : Need)
+      (m : Mach) (v : View)
+      → HasHome slots t → known_code known i rest ≡ [] → (wanted (needs at rest) t == 0) ≡ true → IsContent t.bytes content
+      → HasAt e (known_code known i rest ++ items rest) pc end → ((u : ℕ) → u ≢ t.at → needs at rest u ≤ need0 u) → M need0 m v
       → 640 ≤ op_steps i → Rest (suc n) rest → G (suc n) m.state.work pc v (R (suc n) rest (resulted t content (op_steps i) m))
-  nothing_passes i t content rest n pc need0 m v it empty none fits stands more h room f =
+  nothing_passes known i t content rest n pc need0 m v it empty none fits stands more h room f =
       let zero_wanted : wanted (needs at rest) t ≡ 0 = eqb-true (wanted (needs at rest) t) 0 none in
       let here = subst (λ (k : ℕ). HoldsContent p place v.at (base t) k t.bytes content) (sym zero_wanted)
       (none_holds v.at (base t) t.bytes content fits) in
-      straight_passes i [] t content rest n pc m v empty refl (omega arith) room stands
+      straight_passes known i [] t content rest n pc m v empty refl (omega arith) room stands
       (written_wide p e slots home base place y t content (needs at rest) need0 m (worked (op_steps i) m.state) v v
       it h more (λ k a b c d o. refl) here h.bytes refl h.seen h.left h.safe) f
 
@@ -933,7 +1171,7 @@ module _ (p : PlainProgram) (functions : List PlainIrFunction) (e : Env) (slots 
           by_need : (k : Bool) → (w == 0) ≡ k → G (suc n) m.state.work pc v
               (R (suc n) rest (resulted t (content_of t.bytes (Pointer z)) (op_steps i) m))
           by_need true k =
-              nothing_passes i t (content_of t.bytes (Pointer z)) rest n pc need0 m v it
+              nothing_passes None i t (content_of t.bytes (Pointer z)) rest n pc need0 m v it
               (code_is ∙ ap (λ j. if j then [] else code) k) k fits stands more h room f
           by_need false k =
               let l = there k in
@@ -948,12 +1186,100 @@ module _ (p : PlainProgram) (functions : List PlainIrFunction) (e : Env) (slots 
               let most_scale = short.0.at_most in
               let most_advance = moved_form.1 in
               let most = ia.most in
-              straight_passes i code t (content_of t.bytes (Pointer z)) rest n pc m v (code_is ∙ ap (λ j. if j then [] else code) k)
+              straight_passes None i code t (content_of t.bytes (Pointer z)) rest n pc m v (code_is ∙ ap (λ j. if j then [] else code) k)
               (straight-append scale (move_code (home a) (home t) a.bytes ++ moved) short.0.straight behind)
               (omega (arith, steps, steps1, steps2, most_scale, most_advance, most)) room stands
               (offset_matches p e slots home base place y link.core one_core minus signed t a b size (op_steps i) low
               (number_of_bytes signed b.bytes low) o z (needs at rest) need0 m v
               it ia ib same into number index (index_is signed b.bytes low sb g.1) moves more h) f
+
+  -- the same where the number of elements is known, of which nothing is needed
+  known_passes : (i : PlainIr) (minus signed : Bool) (t a b : Temp) (number : RightNumber) (size low : ℕ) (x : PointerValue)
+      (rest : List PlainIr) (n pc : ℕ) (need0 : Need) (m : Mach) (v : View) → link.core ≡ e.core → HasHome slots t → HasHome slots a
+      → t.bytes ≡ a.bytes → IsPointerSize a.bytes → IsIntegerSize b.bytes → low ≡ low_bytes b.bytes number.number
+      → known_code (Some number) i rest
+      ≡ known_offset_code link.core minus signed (home a) (home t) a.bytes b.bytes (low_bytes 16 number.number) size (wanted (needs at rest) t)
+      → 640 ≤ op_steps i → HoldsPointer m a x → ((wanted (needs at rest) t == 0) ≡ false → a.bytes ≤ wanted need0 a)
+      → HasAt e (known_code (Some number) i rest ++ items rest) pc end → ((u : ℕ) → u ≢ t.at → needs at rest u ≤ need0 u)
+      → M need0 m v → Rest (suc n) rest
+      → G (suc n) m.state.work pc v (Onward n rest t m (worked (op_steps i) m.state)
+      (as_pointer (sum_of_pointer x (referent_of p x (worked (op_steps i) m.state))
+      (moved_elements minus (number_of_bytes signed b.bytes low)) size)))
+  known_passes i minus signed t a b number size low x rest n pc need0 m v one_core it ia same sa sb is code_is room qa there stands more h f =
+      by_pointer x qa (sum_of_pointer x (referent_of p x st) elements size) refl
+    where
+      st : State
+      st = worked (op_steps i) m.state
+
+      w : ℕ
+      w = wanted (needs at rest) t
+
+      elements : ℤ
+      elements = moved_elements minus (number_of_bytes signed b.bytes low)
+
+      bits_known : ℕ
+      bits_known = low_bytes 16 number.number
+
+      offset : ℕ
+      offset = known_offset minus (known_bytes signed b.bytes bits_known size)
+
+      member : List AsmItem
+      member = member_code link.core a.bytes (home t) offset
+
+      code : List AsmItem
+      code = move_code (home a) (home t) a.bytes ++ member
+
+      member_form : (all_straight member ≡ true) × (code_steps member ≤ 9)
+      member_form = by_far (is_far link.core a.bytes)
+        where
+          far : List AsmItem
+          far = field_far_code (home t) offset
+
+          near : List AsmItem
+          near = field_code (home t) offset
+
+          by_far : (b : Bool) → (all_straight (if b then far else near) ≡ true) × (code_steps (if b then far else near) ≤ 9)
+          by_far true = ((y.pointers.far.straight 0 offset (home t) (home t) 0).1, (y.pointers.far.take 0 offset (home t) (home t) 0).1.1)
+          by_far false =
+              let take = (y.pointers.take 0 offset None (home t) (home t) 0).1.1 in
+              ((y.pointers.straight 0 offset None (home t) (home t) 0).1, omega (arith, take))
+
+      by_pointer : (x : PointerValue) → HoldsPointer m a x → (r : Result PointerValue Undefined)
+          → sum_of_pointer x (referent_of p x st) elements size ≡ r
+          → G (suc n) m.state.work pc v (Onward n rest t m st (as_pointer r))
+      by_pointer x q (Err point) u = tt
+      by_pointer None q (Ok z) u = absurd cc
+      by_pointer (Some o) q (Ok z) u = by_need (w == 0) refl
+        where
+          into : IsPointerIn p a.bytes o
+          into = addressed need0 m v a (Some o) h ia q
+
+          moves : IsMoved p o (elements *ℤ pos size) z
+          moves = moved_is p o st (elements *ℤ pos size) z into.pointed u
+
+          fits : IsContent t.bytes (content_of t.bytes (Pointer z))
+          fits = subst (λ (k : PointerValue). IsContent t.bytes (content_of t.bytes (Pointer k))) (sym moves.is)
+              (subst (λ (k : ℕ). IsPointerIn p k moves.to) (sym same) (moved_pointer p a.bytes o (elements *ℤ pos size) z into moves))
+
+          index : IsIndex (number_of_bytes signed b.bytes low) (known_index signed b.bytes bits_known)
+          index = known_index_is signed b.bytes low number.number sb is
+
+          by_need : (k : Bool) → (w == 0) ≡ k → G (suc n) m.state.work pc v
+              (R (suc n) rest (resulted t (content_of t.bytes (Pointer z)) (op_steps i) m))
+          by_need true k =
+              nothing_passes (Some number) i t (content_of t.bytes (Pointer z)) rest n pc need0 m v it
+              (code_is ∙ ap (λ j. if j then [] else code) k) k fits stands more h room f
+          by_need false k =
+              let number_at = whole_number need0 m v a (Some o) h ia q sa (there k) in
+              let steps = steps-append (move_code (home a) (home t) a.bytes) member in
+              let steps1 = move_steps (home a) (home t) a.bytes in
+              let steps2 = member_form.1 in
+              let most = ia.most in
+              straight_passes (Some number) i code t (content_of t.bytes (Pointer z)) rest n pc m v (code_is ∙ ap (λ j. if j then [] else code) k)
+              (straight-append (move_code (home a) (home t) a.bytes) member (move_straight (home a) (home t) a.bytes) member_form.0)
+              (omega (arith, steps, steps1, steps2, most)) room stands
+              (known_matches p e slots home base place y link.core one_core minus signed t a b.bytes bits_known size (op_steps i)
+              (number_of_bytes signed b.bytes low) o z (needs at rest) need0 m v it ia same into number_at index moves more h) f
 
   offset_is : (op : BinOp) (count : PlainType) → HaveOffsetTypes op count → (a : Operand) (x : PointerValue) (k : ℤ)
       → offset_result op a x k ≡ as_pointer (sum_of_pointer x a.of (moved_elements (is_difference op) k) a.element)
@@ -994,6 +1320,55 @@ module _ (p : PlainProgram) (functions : List PlainIrFunction) (e : Env) (slots 
 
       same : t.bytes ≡ a.bytes
       same = k.result_bytes ∙ ap scalar_size k.types.1 ∙ sym k.left_bytes
+
+  -- what is needed before an operator that takes a number
+  abbrev first_needed : (t a : Temp) → ℕ → Need → Need
+  first_needed t a w need = at_least a.at (all_or_none a.bytes w) (without t.at need)
+
+  known_first : (op : BinOp) (number : RightNumber) (ty : PlainType) (mode : Mode) (t a : Temp) (space : SpaceId) (const : Bool)
+      (to : PlainType) (b : Temp) (signed : Bool) (bytes : ℕ)
+      (rest : List PlainIr) (n pc : ℕ) (m : Mach) (v : View)
+      → IsPointerBinary p slots op t a b ty (pointer space const to) (integer signed bytes)
+      → ((low : ℕ) → m.temps b.at ≡ Some (record { bytes = b.bytes; content = bits low }) → low ≡ low_bytes b.bytes number.number)
+      → HasAt e (known_code (Some number) (binary_op op ty mode t a (pointer space const to) b (integer signed bytes)) rest ++ items rest) pc end
+      → M (first_needed t a (wanted (needs at rest) t) (needs at rest)) m v
+      → link.core ≡ e.core → Rest (suc n) rest → G (suc n) m.state.work pc v
+      (P n (binary_op op ty mode t a (pointer space const to) b (integer signed bytes)) rest m)
+  known_first op number ty mode t a space const to b signed bytes rest n pc m v k held stands h one_core f =
+      from_pointer p place e space const to a m.temps st _ (suc n) m.state.work pc v
+      (λ x qa into. from_numeric p place e (integer signed bytes) b m.temps st _ (suc n) m.state.work pc v tt (sym k.right_bytes)
+      (λ low qb.
+      subst (λ r. G (suc n) m.state.work pc v (Onward n rest t m st r))
+      (sym (offset_is op (integer signed bytes) k.types.0 (operand_of p (pointer space const to) (Pointer x) st)
+      x (number_of_bytes signed b.bytes low)))
+      (known_passes i (is_difference op) signed t a b number (size_of_type p.structs to) low x rest n pc
+      (first_needed t a w (needs at rest)) m v one_core k.result k.left
+      same (pointer_size a.bytes space k.left_bytes) (subst IsIntegerSize (sym k.right_bytes) k.right_known) (held low qb) refl
+      (binary_room op ty (pointer space const to) (integer signed bytes)) qa there stands more h f)))
+    where
+      i : PlainIr
+      i = binary_op op ty mode t a (pointer space const to) b (integer signed bytes)
+
+      st : State
+      st = worked (op_steps i) m.state
+
+      w : ℕ
+      w = wanted (needs at rest) t
+
+      same : t.bytes ≡ a.bytes
+      same = k.result_bytes ∙ ap scalar_size k.types.1 ∙ sym k.left_bytes
+
+      there : (w == 0) ≡ false → a.bytes ≤ wanted (first_needed t a w (needs at rest)) a
+      there some =
+          let all_bytes = all_when a.bytes w some in
+          let l = least_here a.at (all_or_none a.bytes w) (without t.at (needs at rest)) in
+          omega (arith, all_bytes, l)
+
+      more : (u : ℕ) → u ≢ t.at → needs at rest u ≤ first_needed t a w (needs at rest) u
+      more u d =
+          let r = without_other t.at u (needs at rest) d in
+          let s = least_other a.at (all_or_none a.bytes w) u (without t.at (needs at rest)) in
+          omega arith
 
   pointer_second : (ty : PlainType) (mode : Mode) (t a : Temp) (signed : Bool) (bytes : ℕ) (b : Temp)
       (space : SpaceId) (const : Bool) (to : PlainType)
@@ -1076,7 +1451,7 @@ module _ (p : PlainProgram) (functions : List PlainIrFunction) (e : Env) (slots 
 
           by_need : (j : Bool) → (w == 0) ≡ j → G (suc n) m.state.work pc v (R (suc n) rest (resulted t content (op_steps i) m))
           by_need true j =
-              nothing_passes i t content rest n pc need0 m v k.result
+              nothing_passes None i t content rest n pc need0 m v k.result
               (ap (λ d. if d then [] else elements_code (home a) (home b) (home t) size) j) j
               (low_below t.bytes number) stands
               (other_needed t a b w (needs at rest)) h room f
@@ -1092,7 +1467,7 @@ module _ (p : PlainProgram) (functions : List PlainIrFunction) (e : Env) (slots 
               (whole_number need0 m v b z h k.right qb (subst IsPointerSize (sym same) size_a) (second_there t a b w (needs at rest) j)) in
               let short = y.pointers.elements_short (home a) (home b) (home t) size in
               let most = short.at_most in
-              straight_passes i (elements_code (home a) (home b) (home t) size) t content rest n pc m v
+              straight_passes None i (elements_code (home a) (home b) (home t) size) t content rest n pc m v
               (ap (λ d. if d then [] else elements_code (home a) (home b) (home t) size) j)
               short.straight (omega (arith, most)) room stands
               (difference_matches p e slots home base place y t a b size (op_steps i) x z number (needs at rest)
@@ -1243,7 +1618,7 @@ module _ (p : PlainProgram) (functions : List PlainIrFunction) (e : Env) (slots 
           by_need : (j : Bool) → (w == 0) ≡ j → G (suc n) m.state.work pc v
               (R (suc n) rest (resulted t (bits (low_bytes t.bytes (pos (from_bool truth)))) (op_steps i) m))
           by_need true j =
-              nothing_passes i t (bits (low_bytes t.bytes (pos (from_bool truth)))) rest n pc need0 m v k.result
+              nothing_passes None i t (bits (low_bytes t.bytes (pos (from_bool truth)))) rest n pc need0 m v k.result
               (code_is ∙ none exchanged) j (low_below t.bytes (pos (from_bool truth))) stands
               (other_needed t a b w (needs at rest)) h room f
             where
@@ -1335,22 +1710,28 @@ module _ (p : PlainProgram) (functions : List PlainIrFunction) (e : Env) (slots 
 
   -- ---- all of them
 
+  -- the second operand of a binary operator holds the number that it is known to hold
+  abbrev HoldsKnown : Option RightNumber → Temp → Mach → Type 0
+  HoldsKnown known b m =
+      (number : RightNumber) → known ≡ Some number → (low : ℕ) → m.temps b.at ≡ Some (record { bytes = b.bytes; content = bits low })
+      → low ≡ low_bytes b.bytes number.number
+
   -- what is shown of a binary operator
-  abbrev IsShown : (op : BinOp) (ty : PlainType) (mode : Mode) (t a : Temp) (aty : PlainType) (b : Temp) (bty : PlainType)
-      (rest : List PlainIr) (n pc : ℕ) (m : Mach) (v : View) → Type 0
-  IsShown op ty mode t a aty b bty rest n pc m v =
-      IsPointerBinary p slots op t a b ty aty bty
-      → HasAt e (plain_items (binary_op op ty mode t a aty b bty) rest) pc end → M
-      (plain_needs (binary_op op ty mode t a aty b bty) rest) m v
+  abbrev IsShown : (known : Option RightNumber) (op : BinOp) (ty : PlainType) (mode : Mode) (t a : Temp) (aty : PlainType) (b : Temp)
+      (bty : PlainType) (rest : List PlainIr) (n pc : ℕ) (m : Mach) (v : View) → Type 0
+  IsShown known op ty mode t a aty b bty rest n pc m v =
+      HoldsKnown known b m → IsPointerBinary p slots op t a b ty aty bty
+      → HasAt e (known_items known (binary_op op ty mode t a aty b bty) rest) pc end
+      → M (moving_needs known op t a aty b bty rest) m v
       → link.core ≡ e.core → Rest (suc n) rest → G (suc n) m.state.work pc v (P n (binary_op op ty mode t a aty b bty) rest m)
 
   -- where an operand is a pointer, nothing is told
-  untold : (op : BinOp) (ty : PlainType) (mode : Mode) (t a : Temp) (aty : PlainType) (b : Temp) (bty : PlainType)
-      (rest : List PlainIr) (pc : ℕ)
-      → is_apart (family_of op) mode ty aty bty ≡ true → HasAt e (plain_items (binary_op op ty mode t a aty b bty) rest) pc end
-      → HasAt e (code_of (binary_op op ty mode t a aty b bty) rest ++ items rest) pc end
-  untold op ty mode t a aty b bty rest pc apart stands =
-      subst (λ (x : Option Told). HasAt e (own_code p home link None x None (needs at rest)
+  untold : (known : Option RightNumber) (op : BinOp) (ty : PlainType) (mode : Mode) (t a : Temp) (aty : PlainType) (b : Temp)
+      (bty : PlainType) (rest : List PlainIr) (pc : ℕ)
+      → is_apart (family_of op) mode ty aty bty ≡ true → HasAt e (known_items known (binary_op op ty mode t a aty b bty) rest) pc end
+      → HasAt e (known_code known (binary_op op ty mode t a aty b bty) rest ++ items rest) pc end
+  untold known op ty mode t a aty b bty rest pc apart stands =
+      subst (λ (x : Option Told). HasAt e (own_code p home link None x known (needs at rest)
       (binary_op op ty mode t a aty b bty) ++ ops_code p home link at x rest) pc end)
       (none (is_only_tested t (slice_get rest 0) (slice_index (wanted_bytes at rest) 0))) stands
     where
@@ -1359,40 +1740,70 @@ module _ (p : PlainProgram) (functions : List PlainIrFunction) (e : Env) (slots 
       none true = ap (λ z. told_by z (family_of op) (is_signed aty)) apart
       none false = refl
 
-  pub pointer_binary_follows : (op : BinOp) (ty : PlainType) (mode : Mode) (t a : Temp) (aty : PlainType) (b : Temp) (bty : PlainType)
-      (rest : List PlainIr) (n pc : ℕ) (m : Mach) (v : View) → IsPointerBinary p slots op t a b ty aty bty
-      → HasAt e (plain_items (binary_op op ty mode t a aty b bty) rest) pc end → M
-      (plain_needs (binary_op op ty mode t a aty b bty) rest) m v
+  -- two pointers, of which the second one is known to hold no number of elements
+  both_follow : (known : Option RightNumber) (op : BinOp) (ty : PlainType) (mode : Mode) (t a : Temp) (space : SpaceId) (const : Bool)
+      (to : PlainType) (b : Temp) (space2 : SpaceId) (const2 : Bool) (to2 : PlainType) (rest : List PlainIr) (n pc : ℕ) (m : Mach) (v : View)
+      → IsShown known op ty mode t a (pointer space const to) b (pointer space2 const2 to2) rest n pc m v
+  both_follow None op ty mode t a space const to b space2 const2 to2 rest n pc m v held k stands h one_core f =
+      two_pointers op ty mode t a space const to b space2 const2 to2 rest n pc m v k
+      (untold None op ty mode t a (pointer space const to) b (pointer space2 const2 to2) rest pc refl stands) h one_core f
+  both_follow (Some x) op ty mode t a space const to b space2 const2 to2 rest n pc m v held k stands h one_core f =
+      two_pointers op ty mode t a space const to b space2 const2 to2 rest n pc m v k
+      (untold (Some x) op ty mode t a (pointer space const to) b (pointer space2 const2 to2) rest pc refl stands) h one_core f
+
+  first_follows : (known : Option RightNumber) (op : BinOp) (ty : PlainType) (mode : Mode) (t a : Temp) (space : SpaceId) (const : Bool)
+      (to : PlainType) (b : Temp) (signed : Bool) (bytes : ℕ) (rest : List PlainIr) (n pc : ℕ) (m : Mach) (v : View)
+      → IsShown known op ty mode t a (pointer space const to) b (integer signed bytes) rest n pc m v
+  first_follows None op ty mode t a space const to b signed bytes rest n pc m v held k stands h one_core f =
+      pointer_first op ty mode t a space const to b signed bytes rest n pc m v k
+      (untold None op ty mode t a (pointer space const to) b (integer signed bytes) rest pc refl stands) h one_core f
+  first_follows (Some x) Add ty mode t a space const to b signed bytes rest n pc m v held k stands h one_core f =
+      known_first Add x ty mode t a space const to b signed bytes rest n pc m v k (held x refl)
+      (untold (Some x) Add ty mode t a (pointer space const to) b (integer signed bytes) rest pc refl stands) h one_core f
+  first_follows (Some x) Sub ty mode t a space const to b signed bytes rest n pc m v held k stands h one_core f =
+      known_first Sub x ty mode t a space const to b signed bytes rest n pc m v k (held x refl)
+      (untold (Some x) Sub ty mode t a (pointer space const to) b (integer signed bytes) rest pc refl stands) h one_core f
+  first_follows (Some x) op ty mode t a space const to b signed bytes rest n pc m v held k stands h one_core f = absurd k.types.0
+
+  second_follows : (known : Option RightNumber) (op : BinOp) (ty : PlainType) (mode : Mode) (t a : Temp) (signed : Bool) (bytes : ℕ)
+      (b : Temp) (space : SpaceId) (const : Bool) (to : PlainType) (rest : List PlainIr) (n pc : ℕ) (m : Mach) (v : View)
+      → IsShown known op ty mode t a (integer signed bytes) b (pointer space const to) rest n pc m v
+  second_follows None Add ty mode t a signed bytes b space const to rest n pc m v held k stands h one_core f =
+      pointer_second ty mode t a signed bytes b space const to rest n pc m v k
+      (untold None Add ty mode t a (integer signed bytes) b (pointer space const to) rest pc refl stands) h one_core f
+  second_follows (Some x) Add ty mode t a signed bytes b space const to rest n pc m v held k stands h one_core f =
+      pointer_second ty mode t a signed bytes b space const to rest n pc m v k
+      (untold (Some x) Add ty mode t a (integer signed bytes) b (pointer space const to) rest pc refl stands) h one_core f
+  second_follows known op ty mode t a signed bytes b space const to rest n pc m v held k stands h one_core f = absurd k.types.0
+
+  pub pointer_binary_follows : (known : Option RightNumber) (op : BinOp) (ty : PlainType) (mode : Mode) (t a : Temp) (aty : PlainType)
+      (b : Temp) (bty : PlainType) (rest : List PlainIr) (n pc : ℕ) (m : Mach) (v : View) → HoldsKnown known b m
+      → IsPointerBinary p slots op t a b ty aty bty
+      → HasAt e (known_items known (binary_op op ty mode t a aty b bty) rest) pc end
+      → M (moving_needs known op t a aty b bty rest) m v
       → link.core ≡ e.core → Rest (suc n) rest → G (suc n) m.state.work pc v (P n (binary_op op ty mode t a aty b bty) rest m)
-  pointer_binary_follows op ty mode t a aty b bty rest n pc m v = by_types aty bty
+  pointer_binary_follows known op ty mode t a aty b bty rest n pc m v = by_types aty bty
     where
-      first : (space : SpaceId) (const : Bool) (to z : PlainType) → IsShown op ty mode t a (pointer space const to) b z rest n pc m v
-      first space const to (pointer space2 const2 to2) k stands h one_core f =
-          two_pointers op ty mode t a space const to b space2 const2 to2 rest n pc m v k
-          (untold op ty mode t a (pointer space const to) b (pointer space2 const2 to2) rest pc refl stands) h one_core f
-      first space const to (integer signed bytes) k stands h one_core f =
-          pointer_first op ty mode t a space const to b signed bytes rest n pc m v k
-          (untold op ty mode t a (pointer space const to) b (integer signed bytes) rest pc refl stands) h one_core f
-      first space const to (fixed kind saturates) k stands h one_core f = absurd (no_count op (fixed kind saturates) (λ i. i) k.types.0)
-      first space const to void k stands h one_core f = absurd (no_count op void (λ i. i) k.types.0)
-      first space const to (array of len) k stands h one_core f = absurd (no_count op (array of len) (λ i. i) k.types.0)
-      first space const to (struct index) k stands h one_core f = absurd (no_count op (struct index) (λ i. i) k.types.0)
+      first : (space : SpaceId) (const : Bool) (to z : PlainType)
+          → IsShown known op ty mode t a (pointer space const to) b z rest n pc m v
+      first space const to (pointer space2 const2 to2) held k stands h one_core f =
+          both_follow known op ty mode t a space const to b space2 const2 to2 rest n pc m v held k stands h one_core f
+      first space const to (integer signed bytes) held k stands h one_core f =
+          first_follows known op ty mode t a space const to b signed bytes rest n pc m v held k stands h one_core f
+      first space const to (fixed kind saturates) held k stands h one_core f = absurd (no_count op (fixed kind saturates) (λ i. i) k.types.0)
+      first space const to void held k stands h one_core f = absurd (no_count op void (λ i. i) k.types.0)
+      first space const to (array of len) held k stands h one_core f = absurd (no_count op (array of len) (λ i. i) k.types.0)
+      first space const to (struct index) held k stands h one_core f = absurd (no_count op (struct index) (λ i. i) k.types.0)
 
-      second : (op : BinOp) (signed : Bool) (bytes : ℕ) (space : SpaceId) (const : Bool) (to : PlainType)
-          → IsShown op ty mode t a (integer signed bytes) b (pointer space const to) rest n pc m v
-      second Add signed bytes space const to k stands h one_core f =
-          pointer_second ty mode t a signed bytes b space const to rest n pc m v k
-          (untold Add ty mode t a (integer signed bytes) b (pointer space const to) rest pc refl stands) h one_core f
-      second op signed bytes space const to k stands h one_core f = absurd k.types.0
-
-      by_types : (x z : PlainType) → IsShown op ty mode t a x b z rest n pc m v
-      by_types (pointer space const to) z k stands h one_core f = first space const to z k stands h one_core f
-      by_types (integer signed bytes) (pointer space const to) k stands h one_core f = second op signed bytes space const to k stands h one_core f
-      by_types (fixed kind saturates) (pointer space const to) k stands h one_core f = absurd k.types.1
-      by_types void (pointer space const to) k stands h one_core f = absurd k.types.1
-      by_types (array of len) (pointer space const to) k stands h one_core f = absurd k.types.1
-      by_types (struct index) (pointer space const to) k stands h one_core f = absurd k.types.1
-      by_types x z k stands h one_core f = absurd (let g = k.pointer in cc)
+      by_types : (x z : PlainType) → IsShown known op ty mode t a x b z rest n pc m v
+      by_types (pointer space const to) z held k stands h one_core f = first space const to z held k stands h one_core f
+      by_types (integer signed bytes) (pointer space const to) held k stands h one_core f =
+          second_follows known op ty mode t a signed bytes b space const to rest n pc m v held k stands h one_core f
+      by_types (fixed kind saturates) (pointer space const to) held k stands h one_core f = absurd k.types.1
+      by_types void (pointer space const to) held k stands h one_core f = absurd k.types.1
+      by_types (array of len) (pointer space const to) held k stands h one_core f = absurd k.types.1
+      by_types (struct index) (pointer space const to) held k stands h one_core f = absurd k.types.1
+      by_types x z held k stands h one_core f = absurd (let g = k.pointer in cc)
 
   -- ---- conversions
 
@@ -1471,7 +1882,7 @@ module _ (p : PlainProgram) (functions : List PlainIrFunction) (e : Env) (slots 
 
               by_need : (j : Bool) → (w == 0) ≡ j → G (suc n) m.state.work pc v (R (suc n) rest (resulted t content (op_steps i) m))
               by_need true j =
-                  nothing_passes i t content rest n pc need0 m v k.result
+                  nothing_passes None i t content rest n pc need0 m v k.result
                   (code_is ∙ ap (λ d. if d then [] else embed) j) j (pointer_content t.bytes x target) stands
                   more h room f
               by_need false j =
@@ -1479,7 +1890,7 @@ module _ (p : PlainProgram) (functions : List PlainIrFunction) (e : Env) (slots 
                   let number = whole_number need0 m v a x h k.from q size_a (omega (arith, all_bytes, there)) in
                   let short = (y.pointers.embeddings_short (is_into_data (pointer from const2 to2)) (home a) (home t)).0 in
                   let few = short.at_most in
-                  straight_passes i embed t content rest n pc m v (code_is ∙ ap (λ d. if d then [] else embed) j)
+                  straight_passes None i embed t content rest n pc m v (code_is ∙ ap (λ d. if d then [] else embed) j)
                   short.straight (omega (arith, few)) room stands
                   (embedded_matches p e slots home base place y from const2 to2 t a (op_steps i) x (needs at rest)
                   need0 m v k.result k.from sizes.0 sizes.1
@@ -1492,7 +1903,7 @@ module _ (p : PlainProgram) (functions : List PlainIrFunction) (e : Env) (slots 
               (omega (arith, enough, there, most, less))).0 in
               let steps = move_steps (home a) (home t) w in
               let eight = k.result.most in
-              straight_passes i (move_code (home a) (home t) w) t content rest n pc m v
+              straight_passes None i (move_code (home a) (home t) w) t content rest n pc m v
               (ap (λ (d : Bool). if d then (if w == 0 then [] else embed) else move_code (home a) (home t) w) b)
               (move_straight (home a) (home t) w) (omega (arith, steps, most, eight)) room stands
               (moved_matches p e slots home base place y t a (op_steps i) x (needs at rest) need0 m v k.result

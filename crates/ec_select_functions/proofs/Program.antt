@@ -59,6 +59,7 @@ use Rattle.ec_select_functions.proofs.Match.{HadValue, had_value, kept_frames}
 use Rattle.ec_select_functions.proofs.Numbers.{signed_word}
 use Rattle.ec_select_functions.proofs.Returned.{HandsOn, Left, Returns, go_on, pointer_is, return_follows}
 use Rattle.ec_select_functions.proofs.Safe.{safe_earlier}
+use Rattle.ec_select_functions.proofs.Behind.{functions_go}
 use Rattle.ec_select_functions.proofs.Going.{Ready, are_ready}
 use Rattle.ec_select_functions.proofs.Steps.{follows}
 
@@ -94,15 +95,16 @@ module _ (p : PlainIrProgram) (e : Env) (place entry_of : ℕ → ℕ) (w : Worl
       let stands = x.stands in
       let ready : Ready D p.functions e g.slots hs bs place setting labels g.code x.end w.selected.results f link stack stands.0 g.code =
       record {
-        covered = are_ready D e w.cells w.selected.results f (called_in g.code) g.slots link g.code x.covered
-            (functions_use w.cells p w.valid f g a.is) (λ i there l q. (x.routines i l there q, x.callers i l there q));
+        covered = are_ready D e w.cells w.selected.results f (called_in g.code) g.slots link g.code g.code x.covered
+            (functions_use w.cells p w.valid f g a.is) (functions_go w.cells p w.valid f g a.is)
+            (λ i there l q. (x.routines i l there q, x.callers i l there q));
         live = x.live;
         inside = λ b q. q;
         here = record { active = a.runs; stacked = stacked; core = refl };
         stands = stands.2;
       } in
       follows D p.functions e g.slots hs bs place setting labels g.code x.end w.selected.results f link stack stands.0 ready n
-      (below n (omega arith) f g s aside was a stack stacked (λ j l. returns j (omega arith)))
+      (λ i k. below i (omega (arith, k)) f g s aside was a stack stacked (λ j l. returns j (omega (arith, k, l))))
       (call_follows p e place entry_of w f g s aside was a stack n below (λ j l. returns j (omega arith)))
       (return_follows p e place entry_of w f g s aside was a stack n (returns n (omega arith)))
 
@@ -382,8 +384,9 @@ module _ (laws : CodeLaws) (cells : ℕ) (p : PlainIrProgram) (place entry_of : 
           let ready : Ready program_data p.functions e g.slots hs (base_of p e place entry_of w p.main) place
           (setting_of p e place entry_of w p.main g (sp v) set_aside v.at a) labels g.code x.end selected.results p.main
           link [] s.pc g.code = record {
-            covered = are_ready program_data e cells selected.results p.main (called_in g.code) g.slots link g.code x.covered
-                (functions_use cells p valid p.main g is) (λ i there l q. (x.routines i l there q, x.callers i l there q));
+            covered = are_ready program_data e cells selected.results p.main (called_in g.code) g.slots link g.code g.code x.covered
+                (functions_use cells p valid p.main g is) (functions_go cells p valid p.main g is)
+                (λ i there l q. (x.routines i l there q, x.callers i l there q));
             live = x.live;
             inside = λ b q. q;
             here = record { active = a.runs; stacked = refl; core = refl };

@@ -1,7 +1,7 @@
 -- Accesses through pointers: what the code brings, and what comes of the operation.
 use Rattle.std.proofs.Common.{◌≡◌, ℕ, zero, suc, ◌+◌, ◌*◌, ◌%◌, ◌<◌, ◌≤◌, Bool, true, false, Ok, Err}
 use Rattle.std.proofs.Common.{⊎_elim, refl, sym, ap, ◌∙◌, subst, arith, Some, None, Option, List}
-use Rattle.std.specs.Prelude.{Result, ◌==◌, ◌&&◌, if◌then◌else◌, slice_get, option_map, option_and_then}
+use Rattle.std.specs.Prelude.{Result, ◌==◌, ◌&&◌, ◌||◌, if◌then◌else◌, [], ◌∷◌, slice_get, option_map, option_and_then}
 use Rattle.std.proofs.lemmas.Bool.{cases_lt, eqb-true, and_parts}
 use Rattle.ec_space.specs.declared.Core.{Core}
 use Rattle.ec_space.specs.declared.Core.TheVariants.{Small, Large}
@@ -41,11 +41,11 @@ use Rattle.ec_select_pointers.specs.Accesses.{load_table_code}
 use Rattle.ec_select_pointers.specs.AccessLaws.{each, Brings, RunBrings, LeavesZ, AreData, AreFlash, HasPointer}
 use Rattle.ec_select_pointers.specs.Far.{load_far_code, load_far_table_code, load_any_far_code}
 use Rattle.ec_select_pointers.specs.FarLaws.{HasPage, AreFarFlash}
-use Rattle.ec_select_operations.specs.Code.{load_code, banked_code}
+use Rattle.ec_select_operations.specs.Code.{load_either_code, load_code, banked_code}
 use Rattle.ec_select_functions.specs.Covered.{IsInto}
 use Rattle.ec_select_operations.specs.Homes.{HasHome}
 use Rattle.ec_select_operations.specs.Places.{ObjectLeaf, IsClear}
-use Rattle.ec_select_operations.specs.Pointers.{IsPointed}
+use Rattle.ec_select_operations.specs.Pointers.{is_table, has_tables, IsPointed}
 use Rattle.ec_select_functions.specs.Standing.{address_end}
 use Rattle.ec_select_functions.proofs.Accesses.{leaf_found, bytes_of, leaf_inside}
 use Rattle.ec_select_functions.proofs.Accesses.{after_read, after_write}
@@ -67,6 +67,24 @@ leaves_z a n m l clear = record {
     outside k high low q =
         ⊎_elim (λ (r : a < 26). let z = clear.high.left r in omega arith)
         (λ (r : 26 ≤ a). let z = clear.high.right r in absurd (omega arith)) (cases_lt a 26)
+
+-- an object in the flash bank is a table of the program
+table_home : (home : Home) → bank_of home ≡ FlashBank → is_table home ≡ true
+table_home FlashHome h = refl
+table_home FarHome h = refl
+table_home DataHome h = cc
+
+pub table_among : (objects : List PlainObject) (o : ℕ) (d : PlainObject) (bank : Bank) → slice_get objects o ≡ Some d
+    → bank_of d.home ≡ bank → bank ≡ FlashBank → has_tables objects ≡ true
+table_among [] o d bank is kept flash = absurd (cc)
+table_among (x ∷ xs) zero d bank is kept flash =
+    let same : x ≡ d = cc in
+    let table : is_table x.home ≡ true = table_home x.home (ap (λ y. bank_of y.home) same ∙ kept ∙ flash) in
+    rw table refl
+table_among (x ∷ xs) (suc o) d bank is kept flash = one_of (is_table x.home) (table_among xs o d bank is kept flash) where
+  one_of : (b : Bool) → has_tables xs ≡ true → (b || has_tables xs) ≡ true
+  one_of true more = refl
+  one_of false more = more
 
 -- what stands in the flash bank is not written
 in_flash : (home : Home) → bank_of home ≡ FlashBank → is_read_only home ≡ true
@@ -342,33 +360,51 @@ module _ (p : PlainProgram) (e : Env) (slots : ℕ) (home : Temp → Location) (
       let near = near_flash kept from to.bytes end there in
       loads_flash ptr to from pc mid v ip it two (low_is (value v.at (base ptr) 2) from to.bytes a.low near.room it.some) near stands
 
-  -- through a pointer into a space, which holds the home
-  pub loads : (core : Core) (space : SpaceId) (bank : Bank) (kept : Home) (ptr to : Temp) (from pc mid : ℕ) (v : View)
-      → e.core ≡ core → reaches space bank ≡ true → holds space kept ≡ true
+  -- from the data bank by the low two bytes
+  loads_by_low : (ptr to : Temp) (from pc mid : ℕ) (v : View) → HasHome slots ptr → HasHome slots to → 2 ≤ ptr.bytes
+      → IsAddressedBy v.at (base ptr) ptr.bytes from DataBank → AreData e from to.bytes → IsReadFirst from (base to) to.bytes
+      → HasAt e (load_data_code (home ptr) (home to) to.bytes) pc mid → Loads DataBank from pc mid v to
+  loads_by_low ptr to from pc mid v ip it two a there far stands =
+      loads_data ptr to from pc mid v ip it two (low_is (value v.at (base ptr) 2) from to.bytes a.low there.room it.some) there far stands
+
+  -- from the bank that a pointer of three bytes tells, where some object stands in flash; else it is the data bank
+  loads_either : (core : Core) (tables : Bool) (bank : Bank) (kept : Home) (ptr to : Temp) (from pc mid : ℕ) (v : View)
+      → e.core ≡ core → (bank ≡ FlashBank → tables ≡ true) → HasHome slots ptr → HasHome slots to → ptr.bytes ≡ 3
+      → IsAddressedBy v.at (base ptr) ptr.bytes from bank → IsThere bank kept from (base to) to.bytes
+      → HasAt e (load_either_code core tables (home ptr) (home to) to.bytes) pc mid → Loads bank from pc mid v to
+  loads_either Small true bank kept ptr to from pc mid v same t ip it three a there stands =
+      loads_by_tag bank kept ptr to from pc mid v same ip it three a there stands
+  loads_either Large true bank kept ptr to from pc mid v same t ip it three a there stands =
+      loads_by_top bank kept ptr to from pc mid v same ip it three a there stands
+  loads_either core false FlashBank kept ptr to from pc mid v same t ip it three a there stands =
+      let no : false ≡ true = t refl in absurd (cc)
+  loads_either core false DataBank kept ptr to from pc mid v same t ip it three a there stands =
+      loads_by_low ptr to from pc mid v ip it (omega (arith, three)) a there.0 there.1 stands
+
+  -- through a pointer into a space, which holds the home. One into flash is there only with a table
+  pub loads : (core : Core) (tables : Bool) (space : SpaceId) (bank : Bank) (kept : Home) (ptr to : Temp) (from pc mid : ℕ) (v : View)
+      → e.core ≡ core → (bank ≡ FlashBank → tables ≡ true) → reaches space bank ≡ true → holds space kept ≡ true
       → IsInto slots space ptr → HasHome slots to → IsAddressedBy v.at (base ptr) ptr.bytes from bank
-      → IsThere bank kept from (base to) to.bytes → HasAt e (load_code core space (home ptr) (home to) to.bytes) pc mid
+      → IsThere bank kept from (base to) to.bytes → HasAt e (load_code core tables space (home ptr) (home to) to.bytes) pc mid
       → Loads bank from pc mid v to
-  loads core Flash FlashBank kept ptr to from pc mid v same h held into it a there stands =
+  loads core tables Flash FlashBank kept ptr to from pc mid v same t h held into it a there stands =
       let q = into.1 in
       loads_near kept ptr to from pc mid v (near_end e.core Flash kept refl held) into.0 it (omega (arith, q)) a there stands
-  loads core Flash DataBank kept ptr to from pc mid v same h held into it a there stands = absurd (cc)
-  loads Small FarFlash FlashBank kept ptr to from pc mid v same h held into it a there stands =
+  loads core tables Flash DataBank kept ptr to from pc mid v same t h held into it a there stands = absurd (cc)
+  loads Small tables FarFlash FlashBank kept ptr to from pc mid v same t h held into it a there stands =
       let q = into.1 in
       loads_near kept ptr to from pc mid v (small_end e.core kept same) into.0 it (omega (arith, q)) a there stands
-  loads Large FarFlash FlashBank kept ptr to from pc mid v same h held into it a there stands =
+  loads Large tables FarFlash FlashBank kept ptr to from pc mid v same t h held into it a there stands =
       let q = into.1 in
       let whole = a.whole q in
       loads_far ptr to from pc mid v same into.0 it (omega (arith, q)) (omega (arith, whole)) (far_flash kept from to.bytes there) stands
-  loads core FarFlash DataBank kept ptr to from pc mid v same h held into it a there stands = absurd (cc)
-  loads core Data FlashBank kept ptr to from pc mid v same h held into it a there stands = absurd (cc)
-  loads core Data DataBank kept ptr to from pc mid v same h held into it a there stands =
+  loads core tables FarFlash DataBank kept ptr to from pc mid v same t h held into it a there stands = absurd (cc)
+  loads core tables Data FlashBank kept ptr to from pc mid v same t h held into it a there stands = absurd (cc)
+  loads core tables Data DataBank kept ptr to from pc mid v same t h held into it a there stands =
       let q = into.1 in
-      loads_data ptr to from pc mid v into.0 it (omega (arith, q))
-      (low_is (value v.at (base ptr) 2) from to.bytes a.low there.0.room it.some) there.0 there.1 stands
-  loads Small Generic bank kept ptr to from pc mid v same h held into it a there stands =
-      loads_by_tag bank kept ptr to from pc mid v same into.0 it into.1 a there stands
-  loads Large Generic bank kept ptr to from pc mid v same h held into it a there stands =
-      loads_by_top bank kept ptr to from pc mid v same into.0 it into.1 a there stands
+      loads_by_low ptr to from pc mid v into.0 it (omega (arith, q)) a there.0 there.1 stands
+  loads core tables Generic bank kept ptr to from pc mid v same t h held into it a there stands =
+      loads_either core tables bank kept ptr to from pc mid v same t into.0 it into.1 a there stands
 
   -- what a load from an object of the flash bank brings
   abbrev pub BringsTable : (l : ObjectLeaf p FlashBank) (to : Temp) (v : View) → List AsmItem → Type 0

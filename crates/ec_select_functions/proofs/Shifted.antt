@@ -7,7 +7,8 @@ use Rattle.std.specs.Int.{int_div_euclid}
 use Rattle.std.proofs.lemmas.Int.{ints}
 use Rattle.std.proofs.lemmas.Nat.{mod_below, div-add-mod'}
 use Rattle.std.proofs.lemmas.Bool.{cases_Bool, and_parts}
-use Rattle.std.proofs.Math.Nat.{div-le_self}
+use Rattle.std.proofs.lemmas.Bool.Decides.{nat_tests}
+use Rattle.std.proofs.Math.Nat.{div-le_self, pow-le-pow_right}
 use Rattle.ec_asm.specs.declared.pieces.Location.{Location}
 use Rattle.ec_asm.specs.declared.pieces.Location.TheVariants.{InRegisters}
 use Rattle.ec_asm.specs.View.{View}
@@ -124,6 +125,24 @@ pub right_low : (s1 s : Bool) (b x c : ℕ) → x < 256 ^ b
 right_low false s b x c l = right_low_plain s b x c l
 right_low true s b x c l =
     ⊎_elim (λ t. rw t (right_low_negative s b x c l)) (λ t. rw t (right_low_plain s b x c l)) (cases_Bool (nat_le (256 ^ b) (2 * x)))
+
+-- a number below 256 of several bytes, whose top bit is 0
+pub record ByteShift (s : Bool) (n x c : ℕ) : Type 0 where
+  pub is : shifted_by (Right s) n x c ≡ x / 2 ^ c
+  pub below : x / 2 ^ c < 256
+
+pub byte_shift : (s : Bool) (n x c : ℕ) → 1 < n → x < 256 → ByteShift s n x c
+byte_shift s n x c more l = record { is = by_sign s; below = quotient_below x (2 ^ c) 256 l }
+  where
+    grows : 65536 ≤ 256 ^ n
+    grows = pow-le-pow_right {n = 256} (omega arith) {i = 2} {j = n} (omega (arith, more))
+
+    small : nat_le (256 ^ n) (2 * x) ≡ false
+    small = grind (arith, nat_tests, grows, l)
+
+    by_sign : (s : Bool) → shifted_by (Right s) n x c ≡ x / 2 ^ c
+    by_sign false = refl
+    by_sign true = ap (λ (b : Bool). if b then 256 ^ n - 1 - (256 ^ n - 1 - x) / 2 ^ c else x / 2 ^ c) small
 
 -- ---- both
 

@@ -1,13 +1,13 @@
 -- One operation after another: what the code of each operation does for it.
 use Rattle.std.proofs.Common.{◌≡◌, ◌≢◌, ℕ, zero, suc, ◌+◌, ◌-◌, ◌*◌, ◌%◌, ◌^◌, ◌<◌, ◌≤◌, min, Bool, true, false, not, ℤ}
 use Rattle.std.proofs.Common.{pos, ◌*ℤ◌, unsigned_abs, Ok, Err, List, [], ◌∷◌, ◌++◌, ◌&&◌, ◌||◌, ⊎_elim, refl, sym}
-use Rattle.std.proofs.Common.{ap, ◌∙◌, subst, arith, ◌/◌, Some, None, Option, append_assoc}
+use Rattle.std.proofs.Common.{ap, ◌∙◌, subst, arith, ◌/◌, Some, None, Option, append_assoc, append-nil}
 use Rattle.std.specs.Prelude.{max, Result, ◌==◌, nat_le, if◌then◌else◌, slice_get, slice_index, Contains, IsSomeAnd, ◌⊎◌}
 use Rattle.std.proofs.lemmas.List.Elements.{Contains-append_right}
 use Rattle.ec_ir.specs.Valid.{called_in}
 use Rattle.std.specs.Int.{from_bool}
 use Rattle.std.specs.Ordering.{int_eq}
-use Rattle.std.proofs.lemmas.Bool.{cases_Bool, cases_lt, eqb-true, eq-eqb, leb-true, ne_eqb, and_parts, or_cases, or_right}
+use Rattle.std.proofs.lemmas.Bool.{cases_Bool, cases_lt, eqb-true, eq-eqb, leb-true, le-leb, ne_eqb, and_parts, or_cases, or_right}
 use Rattle.std.proofs.lemmas.Nat.{mod_below, mul-le}
 use Rattle.ec_fx.specs.declared.formats.FxKind.{FxKind}
 use Rattle.ec_fx.specs.declared.numbers.Mode.{Mode}
@@ -20,7 +20,6 @@ use Rattle.ec_asm.specs.declared.pieces.Operator.{Operator}
 use Rattle.ec_asm.specs.declared.pieces.Operator.TheVariants.{Sum, Difference, BitAnd, BitOr, BitXor}
 use Rattle.ec_asm.specs.View.{View}
 use Rattle.ec_asm.specs.Change.{Env, Own, flag_at}
-use Rattle.ec_asm.specs.Run.{is_flag}
 use Rattle.ec_asm.specs.Items.{HasAt, BranchesAt, block, code_steps, all_straight}
 use Rattle.ec_asm.specs.Pieces.{StandsFrom, Outside, KeepsAll, value, copy_code, operate_code, compare_code}
 use Rattle.ec_asm.specs.PieceLaws.{HoldsNumbers}
@@ -63,13 +62,13 @@ use Rattle.ec_ir_known.specs.declared.known.RightNumber.{RightNumber}
 use Rattle.ec_ir_known.specs.Known.{known_at, is_byte}
 use Rattle.ec_select_numbers.specs.declared.operators.ByNumber.TheVariants.{Subtract}
 use Rattle.ec_select_numbers.specs.ByNumber.{compared_code as compared_with_code}
-use Rattle.ec_select_bytes.specs.Values.{test_code, extend_code, constant_code}
+use Rattle.ec_select_bytes.specs.Values.{test_code, extend_code, widen_code, constant_code}
 use Rattle.ec_select_bytes.proofs.Tests.{tests_keep, tests_tell_zero}
 use Rattle.ec_select_bytes.specs.Complements.{negation_code}
 use Rattle.ec_select_bytes.proofs.Straight.{values_are_straight, values_take, complements_are_straight}
 use Rattle.ec_select_bytes.proofs.Straight.{complements_take}
 use Rattle.ec_select_order.specs.declared.relations.Relation.{Relation}
-use Rattle.ec_select_order.specs.Relations.{stand_so, relation_code, flag_of, is_set, unless_code}
+use Rattle.ec_select_order.specs.Relations.{stand_so, relation_code, flag_of, is_set}
 use Rattle.ec_select_order.specs.Laws.{Tells}
 use Rattle.ec_select_order.proofs.Truths.{relations_are_told, flag_is, fails_in_flag, holds_in_flag}
 use Rattle.ec_select_places.specs.Numbers.{number_of}
@@ -85,8 +84,10 @@ use Rattle.ec_select_operations.specs.declared.families.Family.TheVariants.{Comb
 use Rattle.ec_select_operations.specs.declared.families.Family.TheVariants.{Divided}
 use Rattle.ec_select_operations.specs.declared.families.Told.{Told}
 use Rattle.ec_select_operations.specs.Code.{Linkage, told_of, is_only_tested, tells, tells_next, flag_code, is_signed, compared_signed}
+use Rattle.ec_select_operations.specs.Code.{is_over_jump, turned as turned_round, tested_code}
 use Rattle.ec_select_operations.specs.Code.{op_code, own_code, called_code, linked_code, result_wanted, ops_code, family_of, same_location, reversed_code}
-use Rattle.ec_select_operations.specs.Code.{combined_code, binary_code, turn_code, unary_code, move_code}
+use Rattle.ec_select_operations.specs.Code.{combined_code, binary_code, turn_code, unary_code, move_code, transfer_code}
+use Rattle.ec_select_operations.specs.Code.{branch_code, counted_by_code}
 use Rattle.ec_select_operations.specs.Code.{compared_code, counted_code, taking_code, changed_by_code, integer_binary as integer_code}
 use Rattle.ec_select_operations.specs.Code.{conversion_code, turned_code, shift_of, shifted_bytes, long_code}
 use Rattle.ec_select_functions.specs.Covered.{IsCovered, IsBinary, IsUnary, AreConverted}
@@ -111,7 +112,8 @@ use Rattle.ec_select_fixed.proofs.Formats.{fixed_number_type}
 use Rattle.ec_select_fixed.proofs.Operators.{IsNumber, as_told, binary_told}
 use Rattle.ec_select_fixed.specs.FixedLaws.{AreOperandSlots, HasOperandBytes}
 use Rattle.ec_select_operations.specs.Needs.{is_fixed, is_whole, first_wanted, second_wanted, only_wanted, right_needed}
-use Rattle.ec_select_operations.specs.Needs.{takes_number, number_taken, compared_bytes, first_bytes}
+use Rattle.ec_select_operations.specs.Needs.{takes_number, number_taken, moves_pointer, compared_bytes, first_bytes}
+use Rattle.ec_select_operations.specs.Needs.{is_counted, count_taken, takes_count, takes_whole, right_taken}
 use Rattle.ec_select_operations.specs.Pointers.{is_pointer, address_number, IsPointerIn}
 use Rattle.ec_select_operations.specs.Code.{pointer_binary, pointer_conversion}
 use Rattle.ec_select_operations.specs.Places.{IsNumeric}
@@ -129,23 +131,28 @@ use Rattle.ec_select_functions.proofs.ByRoutine.{unaries_have_none, divided_numb
 use Rattle.ec_select_functions.proofs.ByRoutine.{can_push}
 use Rattle.ec_select_functions.proofs.Going.{Ready as IsReady, IsRunning, passes as code_passes, goes_past as code_goes_past}
 use Rattle.ec_select_functions.proofs.Going.{IsLinked, AreReady, at_use as used, at_use_behind as used_behind}
+use Rattle.ec_select_functions.proofs.Behind.{GoesBehind}
 use Rattle.ec_select_functions.proofs.MemorySteps.{address_follows, field_follows, load_at_follows, store_at_follows}
 use Rattle.ec_select_functions.proofs.MemorySteps.{load_follows, store_follows}
 use Rattle.ec_select_functions.proofs.PointerNumbers.{place_of, objects_have_places, address_is, address_low}
 use Rattle.ec_select_functions.proofs.PointerNumbers.{number_below}
 use Rattle.ec_select_functions.proofs.PointerSteps.{pointer_binary_follows, pointer_conversion_follows, no_fixed_operand}
 use Rattle.ec_select_functions.proofs.Computed.{stand, constant_matches, copy_matches, binary_matches, moved_numbers}
-use Rattle.ec_select_functions.proofs.Computed.{result_of}
-use Rattle.ec_select_functions.proofs.Taken.{is_changed, TakesSum, TakesOrder, TakesShift, takes, taken_is}
+use Rattle.ec_select_functions.proofs.Computed.{result_of, location_same}
+use Rattle.ec_select_functions.proofs.Taken.{is_changed, TakesSum, TakesOrder, TakesShift, takes, taken_is, compared_some}
+use Rattle.ec_select_functions.proofs.Taken.{whole_unmoved, fixed_unmoved}
 use Rattle.ec_select_functions.proofs.ByNumber.{changed_form, right_held, ByteNumber, byte_value, byte_bytes, number_low, number_matches, number_put}
-use Rattle.ec_select_functions.proofs.ByNumber.{fails_by_number, holds_by_number}
-use Rattle.ec_select_functions.proofs.Extended.{conversion_matches}
+use Rattle.ec_select_functions.proofs.ByNumber.{fails_by_number, holds_by_number, AreTested, tested_held}
+use Rattle.ec_select_functions.proofs.Extended.{Converted, converted, conversion_matches}
 use Rattle.ec_select_functions.proofs.FixedRuns.{answer_passes, by_itself, slots_of, operand_slots_of}
 use Rattle.ec_select_functions.proofs.Carried.{brought_passes}
 use Rattle.ec_select_functions.proofs.Checked.{is_known, checked_on, performed, checked}
+use Rattle.ec_select_functions.proofs.Counts.{IsCounted, counted_is, never_on_integers, not_counted, right_none, right_same}
+use Rattle.ec_select_functions.proofs.Counts.{unmoved_takes, uncounted_takes}
+use Rattle.ec_select_functions.proofs.Counts.{TakesCount, count_is_taken}
 use Rattle.ec_select_functions.proofs.Negated.{negated_passes}
-use Rattle.ec_select_functions.proofs.Placed.{binary_roomy, KnownCount, placed_passes}
-use Rattle.ec_select_functions.proofs.Follow.{Follows, after, from_held, from_number}
+use Rattle.ec_select_functions.proofs.Placed.{binary_roomy, KnownCount, located_apart, count_passes, placed_passes}
+use Rattle.ec_select_functions.proofs.Follow.{Follows, after, stay, from_held, from_number}
 use Rattle.ec_select_functions.proofs.Match.{kept_left, wanted_most, read_first, whole, at_width, weaker, written}
 use Rattle.ec_select_functions.proofs.Match.{written_wide}
 use Rattle.ec_select_functions.proofs.Match.{same_content, same_leaf, least_here, least_other, without_other}
@@ -160,11 +167,13 @@ use Rattle.ec_select_functions.proofs.OnIntegers.{whole_of, whole_type, negation
 use Rattle.ec_select_functions.proofs.OnWholes.{IsOnWholes, on_wholes, more_needed, at_most_all}
 use Rattle.ec_select_functions.proofs.Orders.{first_of_two, decided, byte_order}
 use Rattle.ec_select_functions.proofs.Related.{told_matches}
-use Rattle.ec_select_functions.proofs.Truth.{bit_is, not_not, truth_low, held_at, content_of_held, same_temp}
+use Rattle.ec_select_functions.proofs.Truth.{bit_is, not_not, not_zero_bit, truth_low, held_at, content_of_held, same_temp}
+use Rattle.ec_select_functions.proofs.Tested.{TellsTruth, zero_told, turned_told, test_some, comparison_some}
 use Rattle.ec_select_functions.proofs.Multiplied.{product_low}
 use Rattle.ec_select_functions.proofs.Shifted.{count_is, shift_number, shift_low, shift_part, shifted_below}
 use Rattle.ec_select_shifts.specs.declared.shifts.Direction.{Direction}
-use Rattle.ec_select_functions.proofs.Shifted.{turned_leads, counted_leads}
+use Rattle.ec_select_shifts.specs.declared.shifts.Direction.TheVariants.{Right}
+use Rattle.ec_select_functions.proofs.Shifted.{turned_leads, counted_leads, byte_shift}
 use Rattle.ec_select_functions.proofs.Divided.{int_part, quotient_low, not_zero}
 use Rattle.ec_select_functions.proofs.Turned.{turned, turns, unary_matches}
 use Rattle.ec_select_functions.proofs.Wrapped.{low_of_wrapped, low_below, kept_below}
@@ -196,7 +205,8 @@ module _ (p : PlainProgram) (functions : List PlainIrFunction) (e : Env) (slots 
   -- an operation whose code stands at its use and which has been told so much, and those behind it
   abbrev own_told : Option Told → PlainIr → List PlainIr → List AsmItem
   own_told told i rest =
-      own_code p home link told (tells_next at i rest) (at.known (i ∷ rest)) (needs at rest) i ++ items_told (tells_next at i rest) rest
+      own_code p home link told (tells_next at told i rest) (at.known (i ∷ rest)) (needs at rest) i
+      ++ items_told (tells_next at told i rest) rest
 
   abbrev own_items : PlainIr → List PlainIr → List AsmItem
   own_items i rest = own_told None i rest
@@ -205,11 +215,12 @@ module _ (p : PlainProgram) (functions : List PlainIrFunction) (e : Env) (slots 
   abbrev linked_items : Option ℕ → PlainIr → List PlainIr → List AsmItem
   linked_items routine i rest =
       linked_code routine (λ l. called_code home l (result_wanted (needs at rest) i) i)
-      (own_code p home link None (tells_next at i rest) (at.known (i ∷ rest)) (needs at rest) i) ++ items_told (tells_next at i rest) rest
+      (own_code p home link None (tells_next at None i rest) (at.known (i ∷ rest)) (needs at rest) i)
+      ++ items_told (tells_next at None i rest) rest
 
   -- an operation that takes no number, and those behind it
   abbrev plain_told : PlainIr → List PlainIr → Option Told
-  plain_told i rest = tells None i (slice_get rest 0) (slice_index (wanted_bytes at rest) 0)
+  plain_told i rest = tells None None i (slice_get rest 0) (slice_get rest 1) (slice_index (wanted_bytes at rest) 0)
 
   abbrev plain_items : PlainIr → List PlainIr → List AsmItem
   plain_items i rest =
@@ -504,17 +515,13 @@ module _ (p : PlainProgram) (functions : List PlainIrFunction) (e : Env) (slots 
   -- what takes part of the first operand of a comparison, or of a shift by a number
   first_compared : (op : BinOp) (r : Relation) → family_of op ≡ Compared r false → (k : RightNumber) (bytes : ℕ)
       → first_bytes (Some k) op bytes ≡ compared_bytes (Some k) bytes
-  first_compared Lt r h k bytes = refl
-  first_compared Ge r h k bytes = refl
-  first_compared Eq r h k bytes = refl
-  first_compared Ne r h k bytes = refl
-  first_compared op r h k bytes = absurd cc
+  first_compared op r h k bytes = refl
 
-  first_shifted : (op : BinOp) (up : Bool) → family_of op ≡ Shifted up → (number : RightNumber) (bytes k : ℕ) → (k == 0) ≡ false
-      → operand_wanted op (first_bytes (Some number) op bytes) k ≡ shifted_bytes up bytes k
-  first_shifted Shl true h number bytes k q = refl
-  first_shifted Shr false h number bytes k q = all_when bytes k q
-  first_shifted op up h number bytes k q = absurd cc
+  first_shifted : (op : BinOp) (up : Bool) → family_of op ≡ Shifted up → (bytes k : ℕ) → (k == 0) ≡ false
+      → operand_wanted op bytes k ≡ shifted_bytes up bytes k
+  first_shifted Shl true h bytes k q = refl
+  first_shifted Shr false h bytes k q = all_when bytes k q
+  first_shifted op up h bytes k q = absurd cc
 
   -- the words of an operator of temporaries
   relation_big : (op : BinOp) (ty aty bty : PlainType) → 102 ≤ 64 * binary_words op ty aty bty
@@ -1272,6 +1279,60 @@ module _ (p : PlainProgram) (functions : List PlainIrFunction) (e : Env) (slots 
           (⊎_elim (λ r. dead r low1 low2 below) (λ r. alive r low1 low2 qa qb below (omega (arith, c.1, room)))
           (cases_Bool ((wanted (needs at rest) t) == 0)))
 
+  -- a shift by a known count, where its code is shown to leave what it gives
+  counted_follows : (op : BinOp) (up : Bool) → family_of op ≡ Shifted up → (s s2 : Bool) (mode : Mode) (t a b : Temp)
+      (need0 : Need) (rest : List PlainIr) (n pc : ℕ) (m : Mach) (v : View) → HasHome slots a → HasHome slots b
+      → a.bytes ≡ t.bytes → M need0 m v
+      → ((low1 low2 : ℕ) → m.temps a.at ≡ Some (record { bytes = a.bytes; content = bits low1 })
+      → m.temps b.at ≡ Some (record { bytes = b.bytes; content = bits low2 }) → low1 < 256 ^ t.bytes → low2 < 128
+      → G (suc n) m.state.work pc v
+      (R (suc n) rest (after_operator t (shifted_by (shift_of up s) t.bytes low1 low2)
+      (op_steps (binary_op op (integer s a.bytes) mode t a (integer s a.bytes) b (integer s2 b.bytes))) m)))
+      → G (suc n) m.state.work pc v
+      (P n (binary_op op (integer s a.bytes) mode t a (integer s a.bytes) b (integer s2 b.bytes)) rest m)
+  counted_follows op up is s s2 mode t a b need0 rest n pc m v ia ib same h shown =
+      from_number p place e s a m.temps (worked c m.state) _ (suc n) m.state.work pc v
+      (λ low1 qa. from_number p place e s2 b m.temps (worked c m.state) _ (suc n) m.state.work pc v
+      (λ low2 qb.
+      subst
+      (λ o. G (suc n) m.state.work pc v
+      (next (given o (worked c m.state)) (λ u st3. R (suc n) rest (machine (with_temp t u m.temps) st3))))
+      (sym (shift_value op up is mode s s2 a.bytes b.bytes low1 low2 (worked c m.state) (worked c m.state)))
+      (by_count low1 low2 qa qb (h.temps_hold a _ ia qa refl).1 (h.temps_hold b _ ib qb refl).1
+      (is_count (8 * a.bytes) (number_of_bytes s2 b.bytes low2)) refl)))
+    where
+      c : ℕ
+      c = op_steps (binary_op op (integer s a.bytes) mode t a (integer s a.bytes) b (integer s2 b.bytes))
+
+      sh : Direction
+      sh = shift_of up s
+
+      by_count : (low1 low2 : ℕ) → m.temps a.at ≡ Some (record { bytes = a.bytes; content = bits low1 })
+          → m.temps b.at ≡ Some (record { bytes = b.bytes; content = bits low2 }) → low1 < 256 ^ a.bytes → low2 < 256 ^ b.bytes
+          → (x : Bool) → is_count (8 * a.bytes) (number_of_bytes s2 b.bytes low2) ≡ x
+          → G (suc n) m.state.work pc v
+          (next
+          (given
+          (as_number
+          (if x then Ok
+          (wrapped (record { signed = s; bytes = a.bytes })
+          (shift_number up (number_of_bytes s a.bytes low1) (unsigned_abs (number_of_bytes s2 b.bytes low2)))) else Err ShiftCount))
+          (worked c m.state))
+          (λ u st3. R (suc n) rest (machine (with_temp t u m.temps) st3)))
+      by_count low1 low2 qa qb below1 below2 false q = tt
+      by_count low1 low2 qa qb below1 below2 true q =
+          let x = count_is s2 b.bytes low2 (8 * a.bytes) below2 q in
+          let turns = unsigned_abs (number_of_bytes s2 b.bytes low2) in
+          let room = ia.most in
+          let z = wrapped (record { signed = s; bytes = a.bytes }) (shift_number up (number_of_bytes s a.bytes low1) turns) in
+          let below : low1 < 256 ^ t.bytes = subst (λ i. low1 < 256 ^ i) same below1 in
+          let number0 : low_bytes a.bytes z ≡ shifted_by sh a.bytes low1 low2 =
+          shift_low up s a.bytes low1 turns below1 ∙ ap (shifted_by sh a.bytes low1) x.0 in
+          let number : low_bytes t.bytes z ≡ shifted_by sh t.bytes low1 low2 =
+          subst (λ i. low_bytes i z ≡ shifted_by sh i low1 low2) same number0 in
+          subst (λ i. G (suc n) m.state.work pc v (R (suc n) rest (after_operator t i c m))) (sym number)
+          (shown low1 low2 qa qb below (omega (arith, x.1, room)))
+
   -- the same with a known count
   shifted_number_follows : (op : BinOp) (up : Bool) → family_of op ≡ Shifted up → (s s2 : Bool) (mode : Mode) (t a b : Temp) (k : ℤ)
       (wide : ℕ) (rest : List PlainIr) (n pc : ℕ) (m : Mach) (v : View) → HasHome slots t → HasHome slots a → HasHome slots b
@@ -1284,15 +1345,9 @@ module _ (p : PlainProgram) (functions : List PlainIrFunction) (e : Env) (slots 
       → G (suc n) m.state.work pc v
       (P n (binary_op op (integer s a.bytes) mode t a (integer s a.bytes) b (integer s2 b.bytes)) rest m)
   shifted_number_follows op up is s s2 mode t a b k wide rest n pc m v it ia ib same known wants stands h f =
-      from_number p place e s a m.temps (worked c m.state) _ (suc n) m.state.work pc v
-      (λ low1 qa. from_number p place e s2 b m.temps (worked c m.state) _ (suc n) m.state.work pc v
-      (λ low2 qb.
-      subst
-      (λ o. G (suc n) m.state.work pc v
-      (next (given o (worked c m.state)) (λ u st3. R (suc n) rest (machine (with_temp t u m.temps) st3))))
-      (sym (shift_value op up is mode s s2 a.bytes b.bytes low1 low2 (worked c m.state) (worked c m.state)))
-      (by_count low1 low2 qa qb (h.temps_hold a _ ia qa refl).1 (h.temps_hold b _ ib qb refl).1
-      (is_count (8 * a.bytes) (number_of_bytes s2 b.bytes low2)) refl)))
+      counted_follows op up is s s2 mode t a b need0 rest n pc m v ia ib same h
+      (λ low1 low2 qa qb below small.
+      ⊎_elim (λ r. dead r low1 low2 below) (λ r. alive r low1 low2 qa qb below small) (cases_Bool (w == 0)))
     where
       c : ℕ
       c = op_steps (binary_op op (integer s a.bytes) mode t a (integer s a.bytes) b (integer s2 b.bytes))
@@ -1395,31 +1450,128 @@ module _ (p : PlainProgram) (functions : List PlainIrFunction) (e : Env) (slots 
               after p place e g.steps (suc n) (suc n) m.state.work m1.state.work pc parts.0 v g.last (R (suc n) rest m1) g.goes
               (omega arith) (omega (arith, take, fits, big)) (f parts.0 m1 g.last parts.2 matches)
 
-      by_count : (low1 low2 : ℕ) → m.temps a.at ≡ Some (record { bytes = a.bytes; content = bits low1 })
-          → m.temps b.at ≡ Some (record { bytes = b.bytes; content = bits low2 }) → low1 < 256 ^ a.bytes → low2 < 256 ^ b.bytes
-          → (x : Bool) → is_count (8 * a.bytes) (number_of_bytes s2 b.bytes low2) ≡ x
-          → G (suc n) m.state.work pc v
-          (next
-          (given
-          (as_number
-          (if x then Ok
-          (wrapped (record { signed = s; bytes = a.bytes })
-          (shift_number up (number_of_bytes s a.bytes low1) (unsigned_abs (number_of_bytes s2 b.bytes low2)))) else Err ShiftCount))
-          (worked c m.state))
-          (λ u st3. R (suc n) rest (machine (with_temp t u m.temps) st3)))
-      by_count low1 low2 qa qb below1 below2 false q = tt
-      by_count low1 low2 qa qb below1 below2 true q =
-          let x = count_is s2 b.bytes low2 (8 * a.bytes) below2 q in
-          let turns = unsigned_abs (number_of_bytes s2 b.bytes low2) in
-          let room = ia.most in
-          let z = wrapped (record { signed = s; bytes = a.bytes }) (shift_number up (number_of_bytes s a.bytes low1) turns) in
-          let below : low1 < 256 ^ t.bytes = subst (λ i. low1 < 256 ^ i) same below1 in
-          let number0 : low_bytes a.bytes z ≡ shifted_by sh a.bytes low1 low2 =
-          shift_low up s a.bytes low1 turns below1 ∙ ap (shifted_by sh a.bytes low1) x.0 in
-          let number : low_bytes t.bytes z ≡ shifted_by sh t.bytes low1 low2 =
-          subst (λ i. low_bytes i z ≡ shifted_by sh i low1 low2) same number0 in
-          subst (λ i. G (suc n) m.state.work pc v (R (suc n) rest (after_operator t i c m))) (sym number)
-          (⊎_elim (λ r. dead r low1 low2 below) (λ r. alive r low1 low2 qa qb below (omega (arith, x.1, room))) (cases_Bool (w == 0)))
+  -- a number in the lowest byte of a temporary, above which bytes become 0
+  cleared : (t : Temp) (w low : ℕ) (v : View) → HasHome slots t → 1 ≤ t.bytes → w ≤ t.bytes → low < 256 → HoldsNumbers v
+      → value v.at (base t) 1 ≡ low
+      → Converted p e slots home base place y false t 1 w low v (block e (extend_code false (home t) 1 w) v)
+  cleared t w low v it some most below numbers is =
+      subst (λ x. Converted p e slots home base place y false t 1 w low v (block e x v)) stays
+      (converted p e slots home base place y false t (home t) (base t) 1 w low v it (omega arith)
+      (stand p e slots home base place y t 1 it some) (λ k l z. absurd (omega (arith, z))) most below numbers
+      (low_part_of (min w 1) (omega arith)))
+    where
+      stays : conversion_code false (home t) (home t) 1 w ≡ extend_code false (home t) 1 w
+      stays =
+          ap (λ (x : Bool). (if x then [] else transfer_code (home t) (home t) (min w 1)) ++ extend_code false (home t) 1 w)
+          (location_same (home t) (home t) refl)
+
+      low_part_of : (k : ℕ) → k ≤ 1 → value v.at (base t) k ≡ low % 256 ^ k
+      low_part_of zero l = omega arith
+      low_part_of (suc zero) l = is ∙ sym (kept_below low (256 ^ 1) below)
+      low_part_of (suc (suc k)) l = absurd (omega arith)
+
+  -- a number below 256 is shifted to the right by a known count as one byte
+  shifted_byte_follows : (op : BinOp) → family_of op ≡ Shifted false → (s s2 : Bool) (mode : Mode) (t a b : Temp) (k : ℤ)
+      (wide : ℕ) (rest : List PlainIr) (n pc : ℕ) (m : Mach) (v : View) → HasHome slots t → HasHome slots a → HasHome slots b
+      → a.bytes ≡ t.bytes → IsKnown b k m → 1 < a.bytes
+      → ((low : ℕ) → m.temps a.at ≡ Some (record { bytes = a.bytes; content = bits low }) → low < 256)
+      → ((wanted (needs at rest) t == 0) ≡ false → wide ≡ 1)
+      → HasAt e ((if wanted (needs at rest) t == 0 then []
+      else counted_by_code false false (home a) (home t) 1 (wanted (needs at rest) t) (low_bytes 16 k % 256)) ++ items rest) pc end
+      → M (at_least a.at wide (without t.at (needs at rest))) m v → Rest (suc n) rest
+      → G (suc n) m.state.work pc v
+      (P n (binary_op op (integer s a.bytes) mode t a (integer s a.bytes) b (integer s2 b.bytes)) rest m)
+  shifted_byte_follows op is s s2 mode t a b k wide rest n pc m v it ia ib same known more small_operand wants stands h f =
+      counted_follows op false is s s2 mode t a b need0 rest n pc m v ia ib same h
+      (λ low1 low2 qa qb below small.
+      ⊎_elim (λ r. dead r low1 low2 below) (λ r. alive r low1 low2 qa qb below small) (cases_Bool (w == 0)))
+    where
+      c : ℕ
+      c = op_steps (binary_op op (integer s a.bytes) mode t a (integer s a.bytes) b (integer s2 b.bytes))
+
+      w : ℕ
+      w = wanted (needs at rest) t
+
+      count : ℕ
+      count = low_bytes 16 k % 256
+
+      code : List AsmItem
+      code = if w == 0 then [] else counted_by_code false false (home a) (home t) 1 w count
+
+      need0 : Need
+      need0 = at_least a.at wide (without t.at (needs at rest))
+
+      need1 : Need
+      need1 = at_least a.at 1 (without t.at (needs at rest))
+
+      still : (ka : ℕ) (u : ℕ) → u ≢ t.at → needs at rest u ≤ at_least a.at ka (without t.at (needs at rest)) u
+      still ka u d =
+          let x = without_other t.at u (needs at rest) d in
+          let z = least_other a.at ka u (without t.at (needs at rest)) in
+          omega (arith, x, z)
+
+      after_shift : (low1 low2 : ℕ) → Mach
+      after_shift low1 low2 = after_operator t (shifted_by (Right s) t.bytes low1 low2) c m
+
+      dead : (w == 0) ≡ true → (low1 low2 : ℕ) → low1 < 256 ^ t.bytes
+          → G (suc n) m.state.work pc v (R (suc n) rest (after_shift low1 low2))
+      dead q low1 low2 below =
+          let empty : code ≡ [] =
+          ap (λ (x : Bool). if x then [] else counted_by_code false false (home a) (home t) 1 w count) q in
+          no_code_passes code t (shifted_by (Right s) t.bytes low1 low2) c rest n pc need0 m v it empty (eqb-true w 0 q)
+          (shifted_below (Right s) t.bytes low1 low2 below) stands (still wide) h f
+
+      alive : (w == 0) ≡ false → (low1 low2 : ℕ) → m.temps a.at ≡ Some (record { bytes = a.bytes; content = bits low1 })
+          → m.temps b.at ≡ Some (record { bytes = b.bytes; content = bits low2 }) → low1 < 256 ^ t.bytes → low2 < 128
+          → G (suc n) m.state.work pc v (R (suc n) rest (after_shift low1 low2))
+      alive q low1 low2 qa qb below small =
+          let z = byte_shift s t.bytes low1 low2 (omega (arith, more, same)) (small_operand low1 qa) in
+          let h1 = subst (λ x. M (at_least a.at x (without t.at (needs at rest))) m v) (wants q) h in
+          let first = counted_code (Right false) (home a) (home t) 1 low2 in
+          let second = extend_code false (home t) 1 w in
+          let is_code : code ≡ first ++ second =
+          ap (λ (x : Bool). if x then [] else counted_by_code false false (home a) (home t) 1 w count) q
+          ∙ ap (λ x. counted_code (Right false) (home a) (home t) 1 x ++ second) (count_at low2 qb small) in
+          let stand1 : HasAt e ((first ++ second) ++ items rest) pc end = subst (λ x. HasAt e (x ++ items rest) pc end) is_code stands in
+          let parts = has_parts e (first ++ second) (items rest) pc end stand1 in
+          let s1 = has_parts e first second pc parts.0 parts.1 in
+          let most = wanted_most (needs at rest) t in
+          let some = ia.some in
+          let here = least_here a.at 1 (without t.at (needs at rest)) in
+          let left : value v.at (base a) 1 ≡ low1 =
+          (at_width p e slots home base place y need1 m v a _ 1 h1 ia qa refl (omega (arith, here, some))).0
+          ∙ kept_below low1 (256 ^ 1) (small_operand low1 qa) in
+          let g =
+          counted_leads p e slots home base place y (Right false) t a 0 low1 low2 pc s1.0 v it ia (omega (arith, some, same)) some left small
+          h1.bytes s1.1 in
+          let last = block e second g.last in
+          let x = cleared t w (low1 / 2 ^ low2) g.last it (omega (arith, some, same)) most z.below g.numbers g.number_is in
+          let here_at : value last.at (base t) w ≡ shifted_by (Right s) t.bytes low1 low2 % 256 ^ w =
+          x.result ∙ ap (λ j. j % 256 ^ w) (sym z.is) in
+          let frame : Frame v last (base t) t.bytes =
+          λ i d r u o. x.frame i d r u (narrower (base t) t.bytes w i most o)
+          ∙ g.same i d r u (narrower (base t) t.bytes 1 i (omega (arith, some, same)) o) in
+          let matches =
+          written p e slots home base place y t (bits (shifted_by (Right s) t.bytes low1 low2)) (needs at rest) need1 m
+          (worked c m.state) v last it h1 (still 1) frame (here_at, shifted_below (Right s) t.bytes low1 low2 below) x.numbers refl
+          (x.quiet.seen ∙ g.seen ∙ h1.seen) (kept_left y.inputs m.state v last (x.quiet.inputs ∙ g.inputs) h1.left)
+          (x.quiet.safe ∙ g.safe ∙ h1.safe) in
+          let m1 = after_shift low1 low2 in
+          let take1 = g.at_most in
+          let take2 = (values_take (home t) 0 1 w).2 false in
+          let room = it.most in
+          let big = shift_big op false is (integer s a.bytes) (integer s a.bytes) (integer s2 b.bytes) in
+          after p place e (g.steps + code_steps second) (suc n) (suc n) m.state.work m1.state.work pc parts.0 v last (R (suc n) rest m1)
+          (goes_on_to e g.steps (code_steps second) pc s1.0 parts.0 v g.last last g.goes
+          (block_goes e second s1.0 parts.0 g.last ((values_are_straight (home t) 0 1 w).2 false) s1.2))
+          (omega arith) (omega (arith, take1, take2, small, most, room, big)) (f parts.0 m1 last parts.2 matches)
+        where
+          count_at : (low2 : ℕ) → m.temps b.at ≡ Some (record { bytes = b.bytes; content = bits low2 }) → low2 < 128 → count ≡ low2
+          count_at low2 qb small =
+              let some = ib.some in
+              let eight = ib.most in
+              number_low k 1 b.bytes some (omega (arith, eight)) ∙ ap (λ x. x % 256 ^ 1) (sym (known low2 qb))
+              ∙ kept_below low2 (256 ^ 1) (omega (arith, small))
 
   -- ---- quotients and remainders
 
@@ -1826,19 +1978,20 @@ module _ (p : PlainProgram) (functions : List PlainIrFunction) (e : Env) (slots 
       let w = at_width p e slots home base place y need m v a _ a.bytes h ia q refl (omega (arith, least, all)) in
       subst (λ (x : ℕ). value v.at (base a) x ≡ low) same (w.0 ∙ kept_below low (256 ^ a.bytes) w.1)
 
-  -- what is shown of code for an operator on operands of which one is fixed-point at least, where their bytes have a result
+  -- what is shown of code for an operator on operands of which one is fixed-point at least, where their bytes have a result. The
+  -- second operand stands there, or is known to hold a number: `second` tells it by what the operand holds
   abbrev FixedBinaryRuns : BinOp → PlainType → Mode → (t a : Temp) → PlainType → Temp → PlainType → List PlainIr → (n pc : ℕ) → Mach → View
-      → List AsmItem → Type 0
-  FixedBinaryRuns op ty mode t a aty b bty rest n pc m v code =
+      → List AsmItem → (second : ℕ → ℕ) → Type 0
+  FixedBinaryRuns op ty mode t a aty b bty rest n pc m v code second =
       (r : Value) (low : ℕ) → m.temps b.at ≡ Some (record { bytes = b.bytes; content = bits low })
-      → value v.at (base b) (scalar_size bty) ≡ low
+      → second low ≡ low
       → IsNumber
       (arithmetic_value op (number_type ty) mode
       (fixed_operand_in (format_in aty) (scalar_size aty) (value v.at (base a) (scalar_size aty)))
-      (fixed_operand_in (format_in bty) (scalar_size bty) (value v.at (base b) (scalar_size bty)))) r
+      (fixed_operand_in (format_in bty) (scalar_size bty) (second low))) r
       → (wanted (needs at rest) t == 0) ≡ false → (mid : ℕ) → HasAt e code pc mid
       → ((number : ℕ) (v2 : View)
-      → IsBinaryResult op ty mode aty bty (value v.at (base a) (scalar_size aty)) (value v.at (base b) (scalar_size bty)) number
+      → IsBinaryResult op ty mode aty bty (value v.at (base a) (scalar_size aty)) (second low) number
       → M (needs at rest)
       (machine (with_content t (bits number) m.temps) (worked (op_steps (binary_op op ty mode t a aty b bty)) m.state)) v2
       → G (suc n) (m.state.work + op_steps (binary_op op ty mode t a aty b bty)) mid v2
@@ -1846,13 +1999,18 @@ module _ (p : PlainProgram) (functions : List PlainIrFunction) (e : Env) (slots 
       → G (suc n) m.state.work pc v
       (R (suc n) rest (machine (with_temp t r m.temps) (worked (op_steps (binary_op op ty mode t a aty b bty)) m.state)))
 
-  -- such code, which is none where no byte of the result is needed, does what the operator does
-  fixed_binary_passes : (op : BinOp) (ty : PlainType) (mode : Mode) (t a : Temp) (aty : PlainType) (b : Temp) (bty : PlainType)
-      (rest : List PlainIr) (n pc : ℕ) (m : Mach) (v : View) (code : List AsmItem) → IsFixedBinary slots op t a b ty aty bty
-      → ((wanted (needs at rest) t == 0) ≡ true → code ≡ []) → HasAt e (code ++ items rest) pc end
-      → M (plain_needs (binary_op op ty mode t a aty b bty) rest) m v → FixedBinaryRuns op ty mode t a aty b bty rest n pc m v code
+  -- such code, which is none where no byte of the result is needed, does what the operator does, where all bytes of the first
+  -- operand are needed
+  fixed_operands_pass : (op : BinOp) (ty : PlainType) (mode : Mode) (t a : Temp) (aty : PlainType) (b : Temp) (bty : PlainType)
+      (rest : List PlainIr) (n pc : ℕ) (m : Mach) (v : View) (code : List AsmItem) (second : ℕ → ℕ) (need0 : Need)
+      → IsFixedBinary slots op t a b ty aty bty
+      → ((wanted (needs at rest) t == 0) ≡ true → code ≡ []) → HasAt e (code ++ items rest) pc end → M need0 m v
+      → ((u : ℕ) → u ≢ t.at → needs at rest u ≤ need0 u) → all_or_none a.bytes (wanted (needs at rest) t) ≤ need0 a.at
+      → ((low : ℕ) → m.temps b.at ≡ Some (record { bytes = b.bytes; content = bits low })
+      → (wanted (needs at rest) t == 0) ≡ false → second low ≡ low)
+      → FixedBinaryRuns op ty mode t a aty b bty rest n pc m v code second
       → Rest (suc n) rest → G (suc n) m.state.work pc v (P n (binary_op op ty mode t a aty b bty) rest m)
-  fixed_binary_passes op ty mode t a aty b bty rest n pc m v code k none stands h runs f =
+  fixed_operands_pass op ty mode t a aty b bty rest n pc m v code second need0 k none stands h more least_a there runs f =
       from_typed p place e aty a m.temps st _ (suc n) m.state.work pc v (fixed_numeric aty suited.first)
       (λ low1 qa. from_typed p place e bty b m.temps st _ (suc n) m.state.work pc v (fixed_numeric bty suited.second)
       (λ low2 qb. by_result low1 low2 qa qb (binary_result op ty mode (left low1) (right low2)) refl))
@@ -1888,18 +2046,6 @@ module _ (p : PlainProgram) (functions : List PlainIrFunction) (e : Env) (slots 
       by_result low1 low2 qa qb (Err point) q = tt
       by_result low1 low2 qa qb (Ok r) q = by_need (w == 0) refl
         where
-          ka : ℕ
-          ka = first_wanted (is_whole aty || is_whole bty) op a.bytes w
-
-          kb : ℕ
-          kb = second_wanted (is_whole aty || is_whole bty) op b.bytes w
-
-          wx : (is_whole aty || is_whole bty) ≡ true
-          wx = either_fixed is_whole type_whole aty bty k.types.fixed
-
-          more : (u : ℕ) → u ≢ t.at → need u ≤ plain_needs i rest u
-          more u d = other_needed op t a b ka kb need u d
-
           m1 : Mach
           m1 = machine (with_temp t r m.temps) st
 
@@ -1912,8 +2058,8 @@ module _ (p : PlainProgram) (functions : List PlainIrFunction) (e : Env) (slots 
 
           -- bytes that hold the result of the operands' bytes are those of r
           reached : (mid number : ℕ) (v2 : View) → HasAt e (items rest) mid end
-              → value v.at (base a) (scalar_size aty) ≡ low1 → value v.at (base b) (scalar_size bty) ≡ low2
-              → IsBinaryResult op ty mode aty bty (value v.at (base a) (scalar_size aty)) (value v.at (base b) (scalar_size bty)) number
+              → value v.at (base a) (scalar_size aty) ≡ low1 → second low2 ≡ low2
+              → IsBinaryResult op ty mode aty bty (value v.at (base a) (scalar_size aty)) (second low2) number
               → M need (machine (with_content t (bits number) m.temps) st) v2
               → G (suc n) (m.state.work + c) mid v2 (R (suc n) rest m1)
           reached mid number v2 onward x_is y_is g matches =
@@ -1934,30 +2080,46 @@ module _ (p : PlainProgram) (functions : List PlainIrFunction) (e : Env) (slots 
           by_need : (x : Bool) → (w == 0) ≡ x → G (suc n) m.state.work pc v (R (suc n) rest m1)
           by_need true z =
               let go =
-              no_code_passes code t (low_bytes t.bytes number.number) c rest n pc (plain_needs i rest) m v k.result (none z)
+              no_code_passes code t (low_bytes t.bytes number.number) c rest n pc need0 m v k.result (none z)
               (eqb-true w 0 z) (low_below t.bytes number.number) stands more h f in
               subst (λ (x : Value). G (suc n) m.state.work pc v (R (suc n) rest (machine (with_temp t x m.temps) st)))
               (sym number.result) go
           by_need false z =
               let parts = has_parts e code (items rest) pc end stands in
-              let need0 = plain_needs i rest in
-              let least_a : all_or_none a.bytes w ≤ need0 a.at = subst (λ (x : Bool). first_wanted x op a.bytes w ≤ need0 a.at) wx
-              (least_here a.at ka (at_least b.at kb (without t.at need))) in
-              let inner = least_here b.at kb (without t.at need) in
-              let outer = least_other a.at ka b.at (at_least b.at kb (without t.at need)) in
-              let least_b : all_or_none b.bytes w ≤ need0 b.at = subst (λ (x : Bool). second_wanted x op b.bytes w ≤ need0 b.at) wx
-              (omega arith) in
               let x_is : value v.at (base a) (scalar_size aty) ≡ low1 =
               all_there a w low1 (scalar_size aty) need0 m v k.left k.left_bytes z least_a qa h in
-              let y_is : value v.at (base b) (scalar_size bty) ≡ low2 =
-              all_there b w low2 (scalar_size bty) need0 m v k.right k.right_bytes z least_b qb h in
+              let y_is : second low2 ≡ low2 = there low2 qb z in
               let given =
               λ (x1 x2 : ℕ). IsNumber
               (arithmetic_value op (number_type ty) mode (fixed_operand_in (format_in aty) (scalar_size aty) x1)
               (fixed_operand_in (format_in bty) (scalar_size bty) x2)) r in
               runs r low2 qb y_is
-              (subst (λ x1. given x1 (value v.at (base b) (scalar_size bty))) (sym x_is) (subst (λ x2. given low1 x2) (sym y_is) number))
+              (subst (λ x1. given x1 (second low2)) (sym x_is) (subst (λ x2. given low1 x2) (sym y_is) number))
               z parts.0 parts.1 (λ number v2 g matches. reached parts.0 number v2 parts.2 x_is y_is g matches)
+
+  -- the same where all bytes of the second operand are needed too
+  fixed_binary_passes : (op : BinOp) (ty : PlainType) (mode : Mode) (t a : Temp) (aty : PlainType) (b : Temp) (bty : PlainType)
+      (rest : List PlainIr) (n pc : ℕ) (m : Mach) (v : View) (code : List AsmItem) → IsFixedBinary slots op t a b ty aty bty
+      → ((wanted (needs at rest) t == 0) ≡ true → code ≡ []) → HasAt e (code ++ items rest) pc end
+      → M (plain_needs (binary_op op ty mode t a aty b bty) rest) m v
+      → FixedBinaryRuns op ty mode t a aty b bty rest n pc m v code (λ low. value v.at (base b) (scalar_size bty))
+      → Rest (suc n) rest → G (suc n) m.state.work pc v (P n (binary_op op ty mode t a aty b bty) rest m)
+  fixed_binary_passes op ty mode t a aty b bty rest n pc m v code k none stands h runs f =
+      let need = needs at rest in
+      let w = wanted need t in
+      let need0 = plain_needs (binary_op op ty mode t a aty b bty) rest in
+      let ka = first_wanted (is_whole aty || is_whole bty) op a.bytes w in
+      let kb = second_wanted (is_whole aty || is_whole bty) op b.bytes w in
+      let wx = either_fixed is_whole type_whole aty bty k.types.fixed in
+      let least_a : all_or_none a.bytes w ≤ need0 a.at = subst (λ (x : Bool). first_wanted x op a.bytes w ≤ need0 a.at) wx
+      (least_here a.at ka (at_least b.at kb (without t.at need))) in
+      let inner = least_here b.at kb (without t.at need) in
+      let outer = least_other a.at ka b.at (at_least b.at kb (without t.at need)) in
+      let least_b : all_or_none b.bytes w ≤ need0 b.at = subst (λ (x : Bool). second_wanted x op b.bytes w ≤ need0 b.at) wx
+      (omega (arith, inner, outer)) in
+      fixed_operands_pass op ty mode t a aty b bty rest n pc m v code (λ low. value v.at (base b) (scalar_size bty)) need0 k none stands
+      h (λ u d. other_needed op t a b ka kb need u d) least_a
+      (λ low qb z. all_there b w low (scalar_size bty) need0 m v k.right k.right_bytes z least_b qb h) runs f
 
   -- the number is held that the second operand is known to hold
   abbrev HoldsKnown : Option RightNumber → Temp → Mach → Type 0
@@ -2023,7 +2185,7 @@ module _ (p : PlainProgram) (functions : List PlainIrFunction) (e : Env) (slots 
       code_is =
           ap (λ z. code_by_kind z (fixed_binary known None op ty aty bty mode (home a) (home b) (home t) a.bytes w)
           (code_by_kind (is_pointer aty || is_pointer bty)
-          (pointer_binary link.core (is_pointer aty) (is_pointer bty) p op aty bty (home a) (home b) (home t) a.bytes b.bytes w)
+          (pointer_binary known link.core (is_pointer aty) (is_pointer bty) p op aty bty (home a) (home b) (home t) a.bytes b.bytes w)
           (integer_code known None op (is_signed aty) (is_signed bty) (home a) (home b) (home t) a.bytes w))) fx
           ∙ ap
           (λ z. if z then binary_code (family_of op) (is_signed aty) (is_signed bty) (home a) (home b) (home t) a.bytes w
@@ -2062,7 +2224,7 @@ module _ (p : PlainProgram) (functions : List PlainIrFunction) (e : Env) (slots 
           let no = λ (x : List AsmItem). ap (λ (q : Bool). if q then [] else x) z in
           code_is ∙ cases_of stops (no whole) (no (code ++ copy_code answer_location (home t) w))
 
-      runs : FixedBinaryRuns op ty mode t a aty b bty rest n pc m v own
+      runs : FixedBinaryRuns op ty mode t a aty b bty rest n pc m v own (λ low. value v.at (base b) (scalar_size bty))
       runs r low2 qb y_is number z mid there onward = by_code stops refl (subst (λ x. HasAt e x pc mid) code_is there)
         where
           m1 : Mach
@@ -2098,6 +2260,101 @@ module _ (p : PlainProgram) (functions : List PlainIrFunction) (e : Env) (slots 
               let room = binary_roomy op ty aty bty in
               answer_passes p e slots home base place y code (64 * binary_room op ty aty bty) size c (suc n) pc mid t need
               (plain_needs i rest) m v (R (suc n) rest m1) holds k.result same h more z there run (omega (arith, room, same)) onward
+
+  -- a shift that takes a known count, of which nothing is needed
+  fixed_counted_follows : (number : RightNumber) (op : BinOp) (ty : PlainType) (mode : Mode) (t a : Temp) (aty : PlainType)
+      (b : Temp) (bty : PlainType) (rest : List PlainIr) (n pc : ℕ) (m : Mach) (v : View) → IsKnown b number.number m
+      → IsFixedBinary slots op t a b ty aty bty → IsCounted op mode ty aty bty t b
+      → HasAt e (known_items (Some number) (binary_op op ty mode t a aty b bty) rest) pc end
+      → M (at_least a.at (first_wanted (is_whole aty || is_whole bty) op a.bytes (wanted (needs at rest) t)) (without t.at (needs at rest)))
+      m v
+      → Rest (suc n) rest → G (suc n) m.state.work pc v (P n (binary_op op ty mode t a aty b bty) rest m)
+  fixed_counted_follows number op ty mode t a aty b bty rest n pc m v known k counted stands h f =
+      fixed_operands_pass op ty mode t a aty b bty rest n pc m v own (λ low. low) need0 k none stand h more least_a (λ low qb z. refl)
+      runs f
+    where
+      i : PlainIr
+      i = binary_op op ty mode t a aty b bty
+
+      c : ℕ
+      c = op_steps i
+
+      need : Need
+      need = needs at rest
+
+      w : ℕ
+      w = wanted need t
+
+      ka : ℕ
+      ka = first_wanted (is_whole aty || is_whole bty) op a.bytes w
+
+      need0 : Need
+      need0 = at_least a.at ka (without t.at need)
+
+      fx : (is_fixed aty || is_fixed bty) ≡ true
+      fx = either_fixed is_fixed type_fixed aty bty k.types.fixed
+
+      wx : (is_whole aty || is_whole bty) ≡ true
+      wx = either_fixed is_whole type_whole aty bty k.types.fixed
+
+      apart : is_on_integers (family_of op) mode ty aty bty ≡ false
+      apart = never_on_integers op mode ty aty bty counted.shift
+
+      is_apart_so : is_apart (family_of op) mode ty aty bty ≡ true
+      is_apart_so = ap (λ z. z && not (is_on_integers (family_of op) mode ty aty bty)) wx ∙ ap not apart
+
+      own : List AsmItem
+      own = own_code p home link None None (Some number) need i
+
+      whole : List AsmItem
+      whole = placed_whole (Some number) op (is_signed aty) (home a) (home b) (home t) (a.bytes - 1)
+
+      others : List AsmItem
+      others = answer_code (fixed_binary_code op ty aty bty mode (home a) (home b) answer_location work_location) (home t) w
+
+      stops : (is_placed op mode ty aty bty && not (same_location (home b) (home t))) ≡ true
+      stops = ap (λ z. z && not (same_location (home b) (home t))) counted.placed
+          ∙ located_apart p e slots home base place y t b k.result k.right counted.apart
+
+      code_is : own ≡ (if w == 0 then [] else whole)
+      code_is =
+          ap (λ z. code_by_kind z (fixed_binary (Some number) None op ty aty bty mode (home a) (home b) (home t) a.bytes w)
+          (code_by_kind (is_pointer aty || is_pointer bty)
+          (pointer_binary (Some number) link.core (is_pointer aty) (is_pointer bty) p op aty bty (home a) (home b) (home t) a.bytes b.bytes w)
+          (integer_code (Some number) None op (is_signed aty) (is_signed bty) (home a) (home b) (home t) a.bytes w))) fx
+          ∙ ap
+          (λ z. if z then binary_code (family_of op) (is_signed aty) (is_signed bty) (home a) (home b) (home t) a.bytes w
+          else (if is_placed op mode ty aty bty && not (same_location (home b) (home t))
+          then placed_binary (Some number) op (is_signed aty) (home a) (home b) (home t) a.bytes w else others)) apart
+          ∙ ap (λ z. if z then placed_binary (Some number) op (is_signed aty) (home a) (home b) (home t) a.bytes w else others) stops
+
+      stand : HasAt e (own ++ items rest) pc end
+      stand = subst (λ x. HasAt e (own_code p home link None x (Some number) need i ++ items_told x rest) pc end)
+          (untold_by (is_only_tested t (slice_get rest 0) (slice_index (wanted_bytes at rest) 0))
+          (is_apart (family_of op) mode ty aty bty) (family_of op) (is_signed aty) is_apart_so) stands
+
+      more : (u : ℕ) → u ≢ t.at → need u ≤ need0 u
+      more u d = let x = without_other t.at u need d in let z = least_other a.at ka u (without t.at need) in omega (arith, x, z)
+
+      least_a : all_or_none a.bytes w ≤ need0 a.at
+      least_a = subst (λ (x : Bool). first_wanted x op a.bytes w ≤ need0 a.at) wx (least_here a.at ka (without t.at need))
+
+      none : (w == 0) ≡ true → own ≡ []
+      none z = code_is ∙ ap (λ (q : Bool). if q then [] else whole) z
+
+      runs : FixedBinaryRuns op ty mode t a aty b bty rest n pc m v own (λ low. low)
+      runs r low2 qb same result z mid there onward =
+          let code_there : HasAt e whole pc mid =
+          subst (λ (x : Bool). HasAt e (if x then [] else whole) pc mid) z (subst (λ x. HasAt e x pc mid) code_is there) in
+          let some = k.right.some in
+          let eight = k.right.most in
+          let below : low2 < 256 ^ scalar_size bty =
+          subst (λ (x : ℕ). low2 < 256 ^ x) k.right_bytes (h.temps_hold b _ k.right qb refl).1 in
+          let low : low_bytes 16 number.number % 256 ≡ low2 % 256 =
+          number_low number.number 1 b.bytes some (omega (arith, eight)) ∙ ap (λ x. x % 256 ^ 1) (sym (known low2 qb)) in
+          count_passes p e slots home base place y op counted.shift number low2 ty aty bty mode c (suc n) pc mid t a b need need0 m v
+          (R (suc n) rest (machine (with_temp t r m.temps) (worked c m.state))) r below low k counted.placed result h more code_there
+          (omega arith) onward
 
   -- a call of its routine
   fixed_binary_called : (l : ℕ) (op : BinOp) (ty : PlainType) (mode : Mode) (t a : Temp) (aty : PlainType) (b : Temp) (bty : PlainType)
@@ -2135,6 +2392,7 @@ module _ (p : PlainProgram) (functions : List PlainIrFunction) (e : Env) (slots 
       code = call_with_two (home a) (home b) a.bytes b.bytes l
 
       runs : FixedBinaryRuns op ty mode t a aty b bty rest n pc m v (answer_code code (home t) w)
+          (λ low. value v.at (base b) (scalar_size bty))
       runs r low2 qb y_is number z mid there onward =
           let size = scalar_size ty in
           let same : size ≡ t.bytes = sym k.result_bytes in
@@ -2985,16 +3243,16 @@ module _ (p : PlainProgram) (functions : List PlainIrFunction) (e : Env) (slots 
 
   -- behind an operation that is no label
   onward : (told : Option Told) (i : PlainIr) (ops : List PlainIr) (pc : ℕ) → HasAt e (items_told told (i ∷ ops)) pc end
-      → (mid : ℕ) × HasAt e (items_told (tells_next at i ops) ops) mid end
+      → (mid : ℕ) × HasAt e (items_told (tells_next at told i ops) ops) mid end
   onward told i ops pc stands =
-      let s = has_parts e (op_code p home link told (tells_next at i ops) (at.known (i ∷ ops)) (needs at ops) i)
-      (items_told (tells_next at i ops) ops) pc
+      let s = has_parts e (op_code p home link told (tells_next at told i ops) (at.known (i ∷ ops)) (needs at ops) i)
+      (items_told (tells_next at told i ops) ops) pc
       end stands in
       (s.0, s.2)
 
   -- operations of which the first one may have been told something
   record Walked (told : Option Told) (pc : ℕ) (rest : List PlainIr) : Type 0 where
-    covered : AreReady p e y.cells results me y.called slots link rest
+    covered : AreReady p e y.cells results me y.called slots link all rest
     live : IsLiveBy at rest
     inside : (b : ℕ) → Contains (called_in rest) b → Contains (called_in all) b
     here : IsRunning p functions e slots home base place y labels all end results me link stack
@@ -3045,7 +3303,7 @@ module _ (p : PlainProgram) (functions : List PlainIrFunction) (e : Env) (slots 
   found told (binary_op op ty mode t a aty b bty ∷ ops) pc l rest r f =
       let s =
       onward told (binary_op op ty mode t a aty b bty) ops pc r.stands in found
-      (tells_next at (binary_op op ty mode t a aty b bty) ops) ops s.0 l rest
+      (tells_next at told (binary_op op ty mode t a aty b bty) ops) ops s.0 l rest
       (record { covered = r.covered.1; live = r.live; inside = r.inside; here = r.here; stands = s.1 }) f
   found told (conversion t ty mode a aty ∷ ops) pc l rest r f =
       let s =
@@ -3057,7 +3315,7 @@ module _ (p : PlainProgram) (functions : List PlainIrFunction) (e : Env) (slots 
       (record { covered = r.covered.1; live = r.live; inside = r.inside; here = r.here; stands = s.1 }) f
   found told (branch_zero t k ∷ ops) pc l rest r f =
       let s =
-      onward told (branch_zero t k) ops pc r.stands in found None ops s.0 l rest
+      onward told (branch_zero t k) ops pc r.stands in found (tells_next at told (branch_zero t k) ops) ops s.0 l rest
       (record { covered = r.covered.1; live = r.live; inside = r.inside; here = r.here; stands = s.1 }) f
   found told (return_from t ∷ ops) pc l rest r f =
       let s =
@@ -3192,12 +3450,12 @@ module _ (p : PlainProgram) (functions : List PlainIrFunction) (e : Env) (slots 
         safe = k.safe ∙ h.safe;
       }
 
-  -- all is kept by a test
-  tested : (need : Need) (m : Mach) (v : View) (t : Temp) → HasHome slots t → M need m v
-      → M need m (block e (test_code (home t) t.bytes) v)
-  tested need m v t it h =
-      kept_matches need m v (block e (test_code (home t) t.bytes) v)
-      (tests_keep e (home t) t.bytes (base t) v (y.layout.temps_at t it) h.bytes) h
+  -- all is kept by a test of some bytes
+  tested : (need : Need) (m : Mach) (v : View) (t : Temp) (size : ℕ) → HasHome slots t → size ≤ t.bytes → M need m v
+      → M need m (block e (test_code (home t) size) v)
+  tested need m v t size it l h =
+      kept_matches need m v (block e (test_code (home t) size) v)
+      (tests_keep e (home t) size (base t) v (stand p e slots home base place y t size it l) h.bytes) h
 
   zero_flag : (n : ℕ) → 1 ≤ n → (q : Location) (a : ℕ) (v : View) → StandsFrom e q n a Own → HoldsNumbers v
       → (block e (test_code q n) v).flags.z ≡ from_bool (value v.at a n == 0)
@@ -3229,133 +3487,306 @@ module _ (p : PlainProgram) (functions : List PlainIrFunction) (e : Env) (slots 
       is ∙ ap (λ k. k % 256 ^ bytes) number ∙ kept_below (number_of (place_of p place bytes (Some q))) (256 ^ bytes) below in
       ne_eqb x 0 (λ z. absurd (omega (arith, whole, low, z)))
 
-  pub branch_follows : (start l : ℕ) (t : Temp) (rest : List PlainIr) (n pc : ℕ) (m : Mach) (v : View)
-      → Ready start all → AreReady p e y.cells results me y.called slots link rest → IsLiveBy at rest
-      → ((b : ℕ) → Contains (called_in rest) b → Contains (called_in all) b) → HasHome slots t
-      → HasAt e (own_items (branch_zero t l) rest) pc end
-      → M (at_least t.at t.bytes (either (needs at rest) (labels l))) m v → Onward n
+  -- operations that are left behind one that computes
+  pub record Behind (rest : List PlainIr) : Type 0 where
+    pub covered : AreReady p e y.cells results me y.called slots link all rest
+    pub live : IsLiveBy at rest
+    pub inside : (b : ℕ) → Contains (called_in rest) b → Contains (called_in all) b
+
+  -- what is shown from any operation on, for so many operations that count and for fewer
+  abbrev pub Onwards : ℕ → Type 0
+  Onwards n = (j : ℕ) → j ≤ n → Onward j
+
+  -- nothing is done
+  stays : (n n1 w w1 pc : ℕ) (v : View) (o : Outcome Value) → n1 ≤ n → w ≤ w1 → G n w1 pc v o → G n1 w pc v o
+  stays n n1 w w1 pc v o least most f =
+      after p place e 0 n n1 w w1 pc pc v v o (record { by = refl }) (omega (arith, least)) (omega (arith, most)) f
+
+  -- ---- a branch over a jump
+
+  -- the operations behind a branch to a label are a jump and this label
+  record IsOverJump (l : ℕ) (rest : List PlainIr) : Type 0 where
+    k : ℕ
+    behind : List PlainIr
+    is : rest ≡ jump k ∷ (label l ∷ behind)
+
+  over_jump : (l : ℕ) (rest : List PlainIr) → is_over_jump l (slice_get rest 0) (slice_get rest 1) ≡ true → IsOverJump l rest
+  over_jump l (jump k ∷ (label j ∷ behind)) q =
+      record { k = k; behind = behind; is = ap (λ x. jump k ∷ (label x ∷ behind)) (eqb-true j l q) }
+  over_jump l (jump k ∷ (i ∷ behind)) q = absurd cc
+  over_jump l (jump k ∷ []) q = absurd cc
+  over_jump l [] q = absurd cc
+  over_jump l (i ∷ rest) q = absurd cc
+
+  -- a jump that was told something, where it is made
+  told_jump_follows : (start k : ℕ) (rest : List PlainIr) (told : Told) (n w pc to : ℕ) (m : Mach) (v : View) → Ready start all
+      → BranchesAt e (not (is_set told.relation)) (flag_of told.relation told.signed) (link.label_of k) pc to
+      → flag_at v.flags (flag_of told.relation told.signed) ≡ if_bit (not (is_set told.relation)) → w ≤ m.state.work
+      → M (labels k) m v → Onwards n → G n w pc v (R n (jump k ∷ rest) m)
+  told_jump_follows start k rest told zero w pc to m v ready branch made most h f =
+      stays 0 0 w m.state.work pc v (R 0 (jump k ∷ rest) m) (omega arith) most (stay p place e pc v m.state h.seen h.safe)
+  told_jump_follows start k rest told (suc n) w pc to m v ready branch made most h f =
+      let set = not (is_set told.relation) in
+      let flag = flag_of told.relation told.signed in
+      let b = branch_taken e set flag (link.label_of k) pc to v (flag_is told.relation told.signed) made branch in
+      let least = b.at_least in
+      let few = b.at_most in
+      stays (suc n) (suc n) w m.state.work pc v (R (suc n) (jump k ∷ rest) m) (omega arith) most
+      (checked functions p y.inputs place e n (suc n) m.state.work pc v all stack (jump k) rest m
+      (λ held. jumps start k n (op_steps (jump k)) b.steps pc m v v ready (branch_has_word e set flag (link.label_of k) pc to branch) b.goes
+      (omega (arith, least)) (omega (arith, few)) h (f n (omega arith))))
+
+  -- behind a branch that told the jump behind it how operands stand where it goes to its label
+  turned_follows : (start l : ℕ) (t : Temp) (rest : List PlainIr) (told : Told) (n w pc : ℕ) (m : Mach) (v : View) (none : Bool)
+      → Ready start all → Behind rest → GoesBehind all (branch_zero t l) rest → IsOverJump l rest → TellsTruth none told v
+      → HasAt e (items_told (Some told) rest) pc end → w + 2 ≤ m.state.work + op_steps (branch_zero t l)
+      → M (needs at rest) m v → M (labels l) m v → Onwards n → G n w pc v (branched n l t rest m none)
+  turned_follows start l t rest told n w pc m v none ready r go over tells stands most here there f =
+      subst
+      (λ x. Behind x → GoesBehind all (branch_zero t l) x → HasAt e (items_told (Some told) x) pc end → M (needs at x) m v
+      → G n w pc v (branched n l t x m none)) (sym over.is) at_jump r go stands here
+    where
+      k : ℕ
+      k = over.k
+
+      behind : List PlainIr
+      behind = over.behind
+
+      own : List PlainIr
+      own = jump k ∷ (label l ∷ behind)
+
+      c : ℕ
+      c = op_steps (branch_zero t l)
+
+      m1 : Mach
+      m1 = machine m.temps (worked c m.state)
+
+      set : Bool
+      set = not (is_set told.relation)
+
+      flag : ℕ
+      flag = flag_of told.relation told.signed
+
+      by_truth : Behind own → GoesBehind all (branch_zero t l) own → M (labels k) m v → (to : ℕ)
+          → BranchesAt e set flag (link.label_of k) pc to → HasAt e (items behind) to end → (b : Bool) → none ≡ b
+          → G n w pc v (branched n l t own m b)
+      by_truth r go here to branch to_end true q =
+          let b = branch_passed e set flag (link.label_of k) pc to v (flag_is told.relation told.signed)
+          (tells.holds q ∙ ap if_bit (sym (not_not (is_set told.relation)))) branch in
+          let matches = weaker p e slots home base place y (labels l) (needs at behind) m v there r.live.0 in
+          subst
+          (λ o. G n w pc v (jump_to o (λ q u. checked_on functions p y.inputs n q.code q.stack q.rest u) all stack m1))
+          (sym (go k behind refl))
+          (after p place e 1 n n w m1.state.work pc to v v (R n behind m1) b (omega arith) (omega (arith, most))
+          (f n (omega arith) to behind m1 v
+          (record { covered = r.covered.1.1; live = r.live.1; inside = r.inside; here = ready.here; stands = to_end })
+          (again (needs at behind) m v c matches)))
+      by_truth r go here to branch to_end false q =
+          told_jump_follows start k (label l ∷ behind) told n w pc to m1 v ready branch (tells.fails q) (omega (arith, most))
+          (again (labels k) m v c here) f
+
+      at_jump : Behind own → GoesBehind all (branch_zero t l) own → HasAt e (items_told (Some told) own) pc end → M (labels k) m v
+          → G n w pc v (branched n l t own m none)
+      at_jump r go stands here =
+          let s = at_use_behind [] (Some told) (jump k) (label l ∷ behind) pc r.covered.0.1 (λ l none. none) stands in
+          let s1 = at_use_behind [] None (label l) behind s.0 r.covered.1.0.1 (λ l none. none) s.2 in
+          by_truth r go here s.0 s.1 (subst (λ i. HasAt e (items behind) i end) s1.1.1 s1.2) none refl
+
+  -- ---- a branch
+
+  -- a test of so many bytes, which tells a jump behind it or branches, and what comes then
+  abbrev branch_items : (l : ℕ) (t : Temp) (size : ℕ) → List PlainIr → (over : Bool) → List AsmItem
+  branch_items l t size rest over =
+      tested_code None (if over then Some (turned_round None) else None) (home t) size (link.label_of l)
+      ++ items_told (if over then Some (turned_round None) else None) rest
+
+  pub branch_follows : (start l : ℕ) (t : Temp) (size : ℕ) (rest : List PlainIr) (n pc : ℕ) (m : Mach) (v : View)
+      → Ready start all → Behind (branch_zero t l ∷ rest) → HasHome slots t → AreTested t size m.temps
+      → HasAt e (branch_items l t size rest (is_over_jump l (slice_get rest 0) (slice_get rest 1))) pc end
+      → M (at_least t.at size (either (needs at rest) (labels l))) m v → Onwards n
       → G (suc n) m.state.work pc v (P n (branch_zero t l) rest m)
-  branch_follows start l t rest n pc m v ready covered live inside it stands h f =
-      let need = needs at rest in
-      let both = either need (labels l) in
-      let need0 = at_least t.at t.bytes both in
+  branch_follows start l t size rest n pc m v ready r it by stands h f =
+      let need0 = at_least t.at size both in
+      let within = by.within in
       let c = op_steps (branch_zero t l) in
-      let st = worked c m.state in
-      let test = test_code (home t) t.bytes in
-      let jumper = BranchTo true 1 (link.label_of l) ∷ [] in
-      let s = has_parts e (test ++ jumper) (items rest) pc end stands in
-      let s1 = has_parts e test jumper pc s.0 s.1 in
-      let to_end : HasAt e (items rest) s1.2.0 end = subst (λ x. HasAt e (items rest) x end) s1.2.2 s.2 in
-      let v1 = block e test v in
-      let straight = (values_are_straight (home t) 0 0 t.bytes).1 in
-      let goes = block_goes e test pc s1.0 v straight s1.1 in
-      let take : code_steps test ≤ 1 + 2 * t.bytes = (values_take (home t) 0 0 t.bytes).1 in
-      let kept = tested need0 m v t it h in
+      let kept = tested need0 m v t size it within h in
       let here : M need m v1 =
       weaker p e slots home base place y need0 need m v1 kept
-      (λ u. let a = either_left need (labels l) u in let b = least_other t.at t.bytes u both in omega (arith, a, b)) in
+      (λ u. let a = either_left need (labels l) u in let b = least_other t.at size u both in omega (arith, a, b)) in
       let there : M (labels l) m v1 =
       weaker p e slots home base place y need0 (labels l) m v1 kept
-      (λ u. let a = either_right need (labels l) u in let b = least_other t.at t.bytes u both in omega (arith, a, b)) in
-      from_held p place e t m.temps st _ (suc n) m.state.work pc v
+      (λ u. let a = either_right need (labels l) u in let b = least_other t.at size u both in omega (arith, a, b)) in
+      from_held p place e t m.temps (worked c m.state) _ (suc n) m.state.work pc v
       (λ x q w.
-      let content = whole p e slots home base place y both m v t x h it q w in
-      by_content s1.0 s1.2.0 goes take s1.2.1 to_end here there x.content content)
+      let enough = least_here t.at size both in
+      let content = at_width p e slots home base place y need0 m v t x size h it q w (omega (arith, enough, within)) in
+      by_content here there (is_over_jump l (slice_get rest 0) (slice_get rest 1)) refl stands x.content
+      (q ∙ ap (λ (j : ℕ). Some (record { bytes = j; content = x.content })) w) content)
     where
-      test : List AsmItem
-      test = test_code (home t) t.bytes
+      need : Need
+      need = needs at rest
 
-      by_flag : (mid to : ℕ) → Goes e (code_steps test) pc v mid (block e test v) → code_steps test ≤ 1 + 2 * t.bytes
-          → BranchesAt e true 1 (link.label_of l) mid to → HasAt e (items rest) to end → M (needs at rest) m (block e test v)
-          → M (labels l) m (block e test v) → (b : Bool) → (block e test v).flags.z ≡ from_bool b
+      both : Need
+      both = either need (labels l)
+
+      test : List AsmItem
+      test = test_code (home t) size
+
+      v1 : View
+      v1 = block e test v
+
+      k : ℕ
+      k = code_steps test
+
+      few : k ≤ 1 + 2 * t.bytes
+      few =
+          let most = (values_take (home t) 0 0 size).1 in
+          let within = by.within in
+          omega (arith, most, within)
+
+      some : 1 ≤ k
+      some = test_some (home t) size by.some
+
+      behind : Behind rest
+      behind = record { covered = r.covered.1; live = r.live; inside = r.inside }
+
+      by_flag : (mid to : ℕ) → Goes e k pc v mid v1 → BranchesAt e true 1 (link.label_of l) mid to → HasAt e (items rest) to end
+          → M need m v1 → M (labels l) m v1 → (b : Bool) → v1.flags.z ≡ from_bool b
           → G (suc n) m.state.work pc v (branched n l t rest m b)
-      by_flag mid to goes take branch to_end here there true set =
+      by_flag mid to goes branch to_end here there true set =
           let c = op_steps (branch_zero t l) in
-          let k = code_steps test in
-          let v1 = block e test v in
           let b = branch_taken e true 1 (link.label_of l) mid to v1 refl set branch in
           let least = b.at_least in
           let most = b.at_most in
           let all_goes = goes_on_to e k b.steps pc mid (e.word_of (link.label_of l)) v v1 v1 goes b.goes in
           jumps start l n c (k + b.steps) pc m v v1 ready (branch_has_word e true 1 (link.label_of l) mid to branch) all_goes
-          (omega arith) (omega (arith, take, most)) there f
-      by_flag mid to goes take branch to_end here there false clear =
+          (omega (arith, least)) (omega (arith, few, most)) there (f n (omega arith))
+      by_flag mid to goes branch to_end here there false clear =
           let c = op_steps (branch_zero t l) in
-          let k = code_steps test in
-          let v1 = block e test v in
           let m1 = machine m.temps (worked c m.state) in
           let b = branch_passed e true 1 (link.label_of l) mid to v1 refl clear branch in
           after p place e (k + 1) n (suc n) m.state.work m1.state.work pc to v v1 (R n rest m1)
-          (goes_on_to e k 1 pc mid to v v1 v1 goes b) (omega arith) (omega (arith, take))
-          (f to rest m1 v1 (record { covered = covered; live = live; inside = inside; here = ready.here; stands = to_end })
-          (again (needs at rest) m v1 c here))
+          (goes_on_to e k 1 pc mid to v v1 v1 goes b) (omega arith) (omega (arith, few))
+          (f n (omega arith) to rest m1 v1
+          (record { covered = behind.covered; live = behind.live; inside = behind.inside; here = ready.here; stands = to_end })
+          (again need m v1 c here))
 
-      told_by_flag : (block e test v).flags.z ≡ from_bool (value v.at (base t) t.bytes == 0)
-      told_by_flag = zero_flag t.bytes it.some (home t) (base t) v (y.layout.temps_at t it) h.bytes
+      by_over : M need m v1 → M (labels l) m v1 → (over : Bool) → is_over_jump l (slice_get rest 0) (slice_get rest 1) ≡ over
+          → HasAt e (branch_items l t size rest over) pc end → (b : Bool) → v1.flags.z ≡ from_bool b
+          → G (suc n) m.state.work pc v (branched n l t rest m b)
+      by_over here there true q stands b z =
+          let s = has_parts e test (items_told (Some (turned_round None)) rest) pc end stands in
+          let goes = block_goes e test pc s.0 v (values_are_straight (home t) 0 0 size).1 s.1 in
+          after p place e k n (suc n) m.state.work (m.state.work + k) pc s.0 v v1 (branched n l t rest m b) goes (omega (arith, some))
+          (omega arith)
+          (turned_follows start l t rest (turned_round None) n (m.state.work + k) s.0 m v1 b ready behind r.covered.0.3 (over_jump l rest q)
+          (zero_told b v1 z) s.2 (omega (arith, few)) here there f)
+      by_over here there false q stands b z =
+          let jumper = BranchTo true 1 (link.label_of l) ∷ [] in
+          let s = has_parts e (test ++ jumper) (items rest) pc end stands in
+          let s1 = has_parts e test jumper pc s.0 s.1 in
+          let to_end : HasAt e (items rest) s1.2.0 end = subst (λ x. HasAt e (items rest) x end) s1.2.2 s.2 in
+          let goes = block_goes e test pc s1.0 v (values_are_straight (home t) 0 0 size).1 s1.1 in
+          by_flag s1.0 s1.2.0 goes s1.2.1 to_end here there b z
 
-      by_content : (mid to : ℕ) → Goes e (code_steps test) pc v mid (block e test v) → code_steps test ≤ 1 + 2 * t.bytes
-          → BranchesAt e true 1 (link.label_of l) mid to → HasAt e (items rest) to end → M (needs at rest) m (block e test v)
-          → M (labels l) m (block e test v) → (x : Content) → HoldsContent p place v.at (base t) t.bytes t.bytes x
+      told_by_flag : v1.flags.z ≡ from_bool (value v.at (base t) size == 0)
+      told_by_flag =
+          zero_flag size by.some (home t) (base t) v (stand p e slots home base place y t size it by.within) h.bytes
+
+      by_content : M need m v1 → M (labels l) m v1 → (over : Bool) → is_over_jump l (slice_get rest 0) (slice_get rest 1) ≡ over
+          → HasAt e (branch_items l t size rest over) pc end → (x : Content)
+          → m.temps t.at ≡ Some (record { bytes = t.bytes; content = x }) → HoldsContent p place v.at (base t) size t.bytes x
           → G (suc n) m.state.work pc v (branched n l t rest m (is_zero x))
-      by_content mid to goes take branch to_end here there (points q) content =
-          let some = not_null t.bytes (value v.at (base t) t.bytes) q content.0 content.1 in
-          by_flag mid to goes take branch to_end here there false (told_by_flag ∙ ap from_bool some)
-      by_content mid to goes take branch to_end here there (bits low) content =
-          let number : value v.at (base t) t.bytes ≡ low = content.0 ∙ kept_below low (256 ^ t.bytes) content.1 in
-          by_flag mid to goes take branch to_end here there (low == 0) (told_by_flag ∙ ap (λ x. from_bool (x == 0)) number)
+      by_content here there over q stands (points x) holds content =
+          let z = value v.at (base t) size in
+          let number = subst (λ j. z ≡ address_number p place t.bytes x.object x.offset % 256 ^ j) (by.pointer x holds) content.0 in
+          by_over here there over q stands false (told_by_flag ∙ ap from_bool (not_null t.bytes z x number content.1))
+      by_content here there over q stands (bits low) holds content =
+          let number : value v.at (base t) size ≡ low = content.0 ∙ kept_below low (256 ^ size) (by.number low holds content.1) in
+          by_over here there over q stands (low == 0) (told_by_flag ∙ ap (λ x. from_bool (x == 0)) number)
 
   -- ---- a comparison that only the next operation tests
 
-  -- the branch on a truth value that a flag tells: it is taken where the flag is `set`
-  told_branch_follows : (start l : ℕ) (t : Temp) (truth set : Bool) (flag : ℕ) (rest : List PlainIr) (n pc to : ℕ) (m : Mach)
-      (v : View) → Ready start all → Ready to rest → HasHome slots t
+  abbrev so_told : Relation → Bool → Told
+  so_told r s = record { relation = r; signed = s }
+
+  -- the branch on a truth value that a flag tells
+  told_branch_follows : (start l : ℕ) (t : Temp) (truth : Bool) (told : Told) (rest : List PlainIr) (n pc : ℕ) (m : Mach)
+      (v : View) → Ready start all → Behind (branch_zero t l ∷ rest) → HasHome slots t
       → m.temps t.at ≡ Some (record { bytes = t.bytes; content = bits (low_bytes t.bytes (pos (from_bool truth))) })
-      → is_flag flag ≡ true → (truth ≡ false → flag_at v.flags flag ≡ if_bit set)
-      → (truth ≡ true → flag_at v.flags flag ≡ if_bit (not set)) → BranchesAt e set flag (link.label_of l) pc to
-      → M (needs at rest) m v → M (labels l) m v → Onward n
-      → G (suc n) m.state.work pc v (P n (branch_zero t l) rest m)
-  told_branch_follows start l t truth set flag rest n pc to m v ready ready1 it holds is fails stays branch here there f =
-      from_held p place e t m.temps (worked (op_steps (branch_zero t l)) m.state) _ (suc n) m.state.work pc v
+      → TellsTruth truth told v → HasAt e (own_told (Some told) (branch_zero t l) rest) pc end
+      → M (needs at rest) m v → M (labels l) m v → Onwards n
+      → G n m.state.work pc v (P n (branch_zero t l) rest m)
+  told_branch_follows start l t truth told rest n pc m v ready r it holds tells stands here there f =
+      from_held p place e t m.temps (worked (op_steps (branch_zero t l)) m.state) _ n m.state.work pc v
       (λ x q w.
       let same : x.content ≡ bits (low_bytes t.bytes (pos (from_bool truth))) = content_of_held x _ (sym q ∙ holds) in
-      subst (λ c. G (suc n) m.state.work pc v (branched n l t rest m (is_zero c))) (sym (same ∙ ap bits (truth_low t.bytes it.some truth)))
-      (by_truth truth fails stays))
+      subst (λ c. G n m.state.work pc v (branched n l t rest m (is_zero c))) (sym (same ∙ ap bits (truth_low t.bytes it.some truth)))
+      (subst (λ b. G n m.state.work pc v (branched n l t rest m b)) (not_zero_bit truth)
+      (by_over (is_over_jump l (slice_get rest 0) (slice_get rest 1)) refl stands)))
     where
-      by_truth : (b : Bool) → (b ≡ false → flag_at v.flags flag ≡ if_bit set)
-          → (b ≡ true → flag_at v.flags flag ≡ if_bit (not set))
-          → G (suc n) m.state.work pc v (branched n l t rest m (from_bool b == 0))
-      by_truth false fails stays =
-          let c = op_steps (branch_zero t l) in
-          let b = branch_taken e set flag (link.label_of l) pc to v is (fails refl) branch in
+      c : ℕ
+      c = op_steps (branch_zero t l)
+
+      set : Bool
+      set = not (is_set told.relation)
+
+      flag : ℕ
+      flag = flag_of told.relation told.signed
+
+      size : ℕ
+      size = compared_bytes (at.known (branch_zero t l ∷ rest)) t.bytes
+
+      telling : Bool → Option Told
+      telling over = if over then Some (turned_round (Some told)) else None
+
+      behind : Behind rest
+      behind = record { covered = r.covered.1; live = r.live; inside = r.inside }
+
+      by_truth : (to : ℕ) → BranchesAt e set flag (link.label_of l) pc to → HasAt e (items rest) to end → (b : Bool) → truth ≡ b
+          → G (suc n) m.state.work pc v (branched n l t rest m (not b))
+      by_truth to branch to_end false q =
+          let b = branch_taken e set flag (link.label_of l) pc to v (flag_is told.relation told.signed) (tells.fails q) branch in
           let least = b.at_least in
           let most = b.at_most in
-          jumps start l n c b.steps pc m v v ready (branch_has_word e set flag (link.label_of l) pc to branch) b.goes (omega arith)
-          (omega (arith, most)) there f
-      by_truth true fails stays =
-          let c = op_steps (branch_zero t l) in
+          jumps start l n c b.steps pc m v v ready (branch_has_word e set flag (link.label_of l) pc to branch) b.goes (omega (arith, least))
+          (omega (arith, most)) there (f n (omega arith))
+      by_truth to branch to_end true q =
           let m1 = machine m.temps (worked c m.state) in
-          let b = branch_passed e set flag (link.label_of l) pc to v is (stays refl) branch in
+          let b = branch_passed e set flag (link.label_of l) pc to v (flag_is told.relation told.signed)
+          (tells.holds q ∙ ap if_bit (sym (not_not (is_set told.relation)))) branch in
           after p place e 1 n (suc n) m.state.work m1.state.work pc to v v (R n rest m1) b (omega arith) (omega arith)
-          (f to rest m1 v ready1 (again (needs at rest) m v c here))
+          (f n (omega arith) to rest m1 v
+          (record { covered = behind.covered; live = behind.live; inside = behind.inside; here = ready.here; stands = to_end })
+          (again (needs at rest) m v c here))
+
+      by_over : (over : Bool) → is_over_jump l (slice_get rest 0) (slice_get rest 1) ≡ over
+          → HasAt e (tested_code (Some told) (telling over) (home t) size (link.label_of l) ++ items_told (telling over) rest) pc end
+          → G n m.state.work pc v (branched n l t rest m (not truth))
+      by_over true q stands =
+          turned_follows start l t rest (turned_round (Some told)) n m.state.work pc m v (not truth) ready behind r.covered.0.3
+          (over_jump l rest q) (turned_told truth told v tells) stands (omega arith) here there f
+      by_over false q stands =
+          stays (suc n) n m.state.work m.state.work pc v (branched n l t rest m (not truth)) (omega arith) (omega arith)
+          (by_truth stands.0 stands.1 stands.2 truth refl)
 
   -- the comparison of two temporaries, and the branch behind it
   told_passes : (start l : ℕ) (r : Relation) (s : Bool) (t x1 x2 : Temp) (bytes x z c : ℕ) (rest : List PlainIr) (n pc : ℕ)
-      (need0 : Need) (m : Mach) (v : View) → Ready start all → AreReady p e y.cells results me y.called slots link rest → IsLiveBy at rest
-      → ((b : ℕ) → Contains (called_in rest) b → Contains (called_in all) b) → HasHome slots t → HasHome slots x1
+      (need0 : Need) (m : Mach) (v : View) → Ready start all → Behind (branch_zero t l ∷ rest) → HasHome slots t → HasHome slots x1
       → HasHome slots x2 → x1.bytes ≡ suc bytes → x2.bytes ≡ suc bytes → suc bytes ≤ 16
       → value v.at (base x1) (suc bytes) ≡ x → value v.at (base x2) (suc bytes) ≡ z → 102 ≤ c
       → wanted (either (needs at rest) (labels l)) t ≡ 0
-      → HasAt e (compare_code (home x2) (home x1) (suc bytes) ++ (unless_code r s (link.label_of l) ++ items rest)) pc end
-      → ((k : ℕ) → k ≢ t.at → either (needs at rest) (labels l) k ≤ need0 k) → M need0 m v → Onward n
+      → HasAt e (compare_code (home x2) (home x1) (suc bytes) ++ own_told (Some (so_told r s)) (branch_zero t l) rest) pc end
+      → ((k : ℕ) → k ≢ t.at → either (needs at rest) (labels l) k ≤ need0 k) → M need0 m v → Onwards n
       → G (suc n) m.state.work pc v (R (suc n) (branch_zero t l ∷ rest) (told_machine t (stand_so r s (suc bytes) x z) c m))
-  told_passes start l r s t x1 x2 bytes x z c rest n pc need0 m v ready covered live inside it i1 i2 q1 q2
+  told_passes start l r s t x1 x2 bytes x z c rest n pc need0 m v ready behind it i1 i2 q1 q2
       most xl zu big none stands more h f =
       let both = either (needs at rest) (labels l) in
       let truth = stand_so r s (suc bytes) x z in
       let compared = compare_code (home x2) (home x1) (suc bytes) in
       let v1 = block e compared v in
       let m1 = told_machine t truth c m in
-      let s1 = has_parts e compared (unless_code r s (link.label_of l) ++ items rest) pc end stands in
+      let s1 = has_parts e compared (own_told (Some (so_told r s)) (branch_zero t l) rest) pc end stands in
       let sa : StandsFrom e (home x1) (suc bytes) (base x1) Own =
       subst (λ j. StandsFrom e (home x1) j (base x1) Own) q1 (y.layout.temps_at x1 i1) in
       let sb : StandsFrom e (home x2) (suc bytes) (base x2) Own =
@@ -3371,29 +3802,29 @@ module _ (p : PlainProgram) (functions : List PlainIrFunction) (e : Env) (slots 
       (either_right (needs at rest) (labels l)) in
       let straight = (pieces_are_straight Sum (home x2) (home x1) (suc bytes)).2 in
       let take = (pieces_take Sum (home x2) (home x1) (suc bytes)).2.1 in
+      let some = (pieces_take Sum (home x2) (home x1) (suc bytes)).2.0 in
       let told : stand_so r s (suc bytes) (value v.at (base x1) (suc bytes)) (value v.at (base x2) (suc bytes)) ≡ truth =
       rw (xl, zu) refl in
       let goes = block_goes e compared pc s1.0 v straight s1.1 in
-      after p place e (code_steps compared) (suc n) (suc n) m.state.work m1.state.work pc s1.0 v v1
-      (R (suc n) (branch_zero t l ∷ rest) m1) goes (omega arith) (omega (arith, take, most, big))
-      (checked functions p y.inputs place e n (suc n) m1.state.work s1.0 v1 all stack (branch_zero t l) rest m1
-      (λ held. told_branch_follows start l t truth (not (is_set r)) (flag_of r s) rest n s1.0 s1.2.0 m1 v1 ready
-      (record { covered = covered; live = live; inside = inside; here = ready.here; stands = s1.2.2 }) it (held_at t _ m.temps)
-      (flag_is r s)
-      (λ q. fails_in_flag r s e (home x1) (home x2) bytes (base x1) (base x2) v sa sb h.bytes (told ∙ q) ∙ bit_is (not (is_set r)))
-      (λ q. holds_in_flag r s e (home x1) (home x2) bytes (base x1) (base x2) v sa sb h.bytes (told ∙ q) ∙ bit_is (is_set r)
-      ∙ ap if_bit (sym (not_not (is_set r)))) s1.2.1 here there f))
+      after p place e (code_steps compared) n (suc n) m.state.work m1.state.work pc s1.0 v v1
+      (R (suc n) (branch_zero t l ∷ rest) m1) goes (omega (arith, some)) (omega (arith, take, most, big))
+      (checked functions p y.inputs place e n n m1.state.work s1.0 v1 all stack (branch_zero t l) rest m1
+      (λ held. told_branch_follows start l t truth (so_told r s) rest n s1.0 m1 v1 ready behind it (held_at t _ m.temps)
+      (record {
+        holds = λ q. holds_in_flag r s e (home x1) (home x2) bytes (base x1) (base x2) v sa sb h.bytes (told ∙ q) ∙ bit_is (is_set r);
+        fails = λ q. fails_in_flag r s e (home x1) (home x2) bytes (base x1) (base x2) v sa sb h.bytes (told ∙ q)
+            ∙ bit_is (not (is_set r));
+      }) s1.2 here there f))
 
   -- the same with a number
   told_number_passes : (start l : ℕ) (r : Relation) (s : Bool) (t x1 : Temp) (bytes x z number c : ℕ) (rest : List PlainIr)
-      (n pc : ℕ) (need0 : Need) (m : Mach) (v : View) → Ready start all → AreReady p e y.cells results me y.called slots link rest
-      → IsLiveBy at rest → ((b : ℕ) → Contains (called_in rest) b → Contains (called_in all) b) → HasHome slots t
+      (n pc : ℕ) (need0 : Need) (m : Mach) (v : View) → Ready start all → Behind (branch_zero t l ∷ rest) → HasHome slots t
       → HasHome slots x1 → suc bytes ≤ x1.bytes → value v.at (base x1) (suc bytes) ≡ x → number % 256 ^ suc bytes ≡ z → 102 ≤ c
       → wanted (either (needs at rest) (labels l)) t ≡ 0
-      → HasAt e (compared_with_code (home x1) number (suc bytes) ++ (unless_code r s (link.label_of l) ++ items rest)) pc end
-      → ((k : ℕ) → k ≢ t.at → either (needs at rest) (labels l) k ≤ need0 k) → M need0 m v → Onward n
+      → HasAt e (compared_with_code (home x1) number (suc bytes) ++ own_told (Some (so_told r s)) (branch_zero t l) rest) pc end
+      → ((k : ℕ) → k ≢ t.at → either (needs at rest) (labels l) k ≤ need0 k) → M need0 m v → Onwards n
       → G (suc n) m.state.work pc v (R (suc n) (branch_zero t l ∷ rest) (told_machine t (stand_so r s (suc bytes) x z) c m))
-  told_number_passes start l r s t x1 bytes x z number c rest n pc need0 m v ready covered live inside it i1 q1 xl zu big none
+  told_number_passes start l r s t x1 bytes x z number c rest n pc need0 m v ready behind it i1 q1 xl zu big none
       stands more h f =
       let both = either (needs at rest) (labels l) in
       let truth = stand_so r s (suc bytes) x z in
@@ -3401,7 +3832,7 @@ module _ (p : PlainProgram) (functions : List PlainIrFunction) (e : Env) (slots 
       let code = compared_with_code (home x1) number (suc bytes) in
       let v1 = block e code v in
       let m1 = told_machine t truth c m in
-      let s1 = has_parts e code (unless_code r s (link.label_of l) ++ items rest) pc end stands in
+      let s1 = has_parts e code (own_told (Some (so_told r s)) (branch_zero t l) rest) pc end stands in
       let sa : StandsFrom e (home x1) (suc bytes) (base x1) Own = stand p e slots home base place y x1 (suc bytes) i1 q1 in
       let outside : Outside (base x1) (suc bytes) 30 =
       narrower (base x1) x1.bytes (suc bytes) 30 q1 (work_outside (base x1) x1.bytes (y.layout.temps_work x1 i1)) in
@@ -3418,30 +3849,29 @@ module _ (p : PlainProgram) (functions : List PlainIrFunction) (e : Env) (slots 
       weaker p e slots home base place y both (labels l) m1 v1 matches (either_right (needs at rest) (labels l)) in
       let form = (y.numbers.straight Subtract (home x1) number (suc bytes)).1 in
       let few = form.few_steps in
+      let some = comparison_some (home x1) number bytes in
       let eight = i1.most in
       let told : stand_so r s (suc bytes) (value v.at (base x1) (suc bytes)) (number % 256 ^ suc bytes) ≡ truth = rw (xl, zu) refl in
       let goes = block_goes e code pc s1.0 v form.is_straight s1.1 in
-      after p place e (code_steps code) (suc n) (suc n) m.state.work m1.state.work pc s1.0 v v1
-      (R (suc n) (branch_zero t l ∷ rest) m1) goes (omega arith) (omega (arith, few, eight, q1, big))
-      (checked functions p y.inputs place e n (suc n) m1.state.work s1.0 v1 all stack (branch_zero t l) rest m1
-      (λ held. told_branch_follows start l t truth (not (is_set r)) (flag_of r s) rest n s1.0 s1.2.0 m1 v1 ready
-      (record { covered = covered; live = live; inside = inside; here = ready.here; stands = s1.2.2 }) it (held_at t _ m.temps)
-      (flag_is r s)
-      (λ q. fails_by_number e (home x1) number bytes (base x1) v v1 k r s (told ∙ q) ∙ bit_is (not (is_set r)))
-      (λ q. holds_by_number e (home x1) number bytes (base x1) v v1 k r s (told ∙ q) ∙ bit_is (is_set r)
-      ∙ ap if_bit (sym (not_not (is_set r)))) s1.2.1 here there f))
+      after p place e (code_steps code) n (suc n) m.state.work m1.state.work pc s1.0 v v1
+      (R (suc n) (branch_zero t l ∷ rest) m1) goes (omega (arith, some)) (omega (arith, few, eight, q1, big))
+      (checked functions p y.inputs place e n n m1.state.work s1.0 v1 all stack (branch_zero t l) rest m1
+      (λ held. told_branch_follows start l t truth (so_told r s) rest n s1.0 m1 v1 ready behind it (held_at t _ m.temps)
+      (record {
+        holds = λ q. holds_by_number e (home x1) number bytes (base x1) v v1 k r s (told ∙ q) ∙ bit_is (is_set r);
+        fails = λ q. fails_by_number e (home x1) number bytes (base x1) v v1 k r s (told ∙ q) ∙ bit_is (not (is_set r));
+      }) s1.2 here there f))
 
   pub told_follows : (start l : ℕ) (op : BinOp) (r : Relation) (exchanged : Bool) → family_of op ≡ Compared r exchanged
       → (s : Bool) (ty : PlainType) (mode : Mode) (t a b : Temp) (rest : List PlainIr) (n pc : ℕ) (m : Mach) (v : View)
-      → Ready start all → AreReady p e y.cells results me y.called slots link rest → IsLiveBy at rest
-      → ((c : ℕ) → Contains (called_in rest) c → Contains (called_in all) c) → HasHome slots t → HasHome slots a
+      → Ready start all → Behind (branch_zero t l ∷ rest) → HasHome slots t → HasHome slots a
       → HasHome slots b → b.bytes ≡ a.bytes → wanted (either (needs at rest) (labels l)) t ≡ 0
-      → HasAt e (flag_code (Compared r exchanged) (home a) (home b) a.bytes ++ (unless_code r s (link.label_of l) ++ items rest)) pc end
+      → HasAt e (flag_code (Compared r exchanged) (home a) (home b) a.bytes ++ own_told (Some (so_told r s)) (branch_zero t l) rest) pc end
       → M (plain_needs (binary_op op ty mode t a (integer s a.bytes) b (integer s b.bytes)) (branch_zero t l ∷ rest)) m v
-      → Onward n
+      → Onwards n
       → G (suc n) m.state.work pc v
       (P n (binary_op op ty mode t a (integer s a.bytes) b (integer s b.bytes)) (branch_zero t l ∷ rest) m)
-  told_follows start l op r exchanged is s ty mode t a b rest n pc m v ready covered live inside it ia ib same none stands h f =
+  told_follows start l op r exchanged is s ty mode t a b rest n pc m v ready behind it ia ib same none stands h f =
       compared_numbers op r exchanged is s ty mode t a b (branch_zero t l ∷ rest) n pc
       (plain_needs (binary_op op ty mode t a (integer s a.bytes) b (integer s b.bytes)) (branch_zero t l ∷ rest)) m v ia ib same h
       (λ low1 low2 qa qb below1 below2.
@@ -3454,23 +3884,27 @@ module _ (p : PlainProgram) (functions : List PlainIrFunction) (e : Env) (slots 
       both : Need
       both = either (needs at rest) (labels l)
 
+      size : ℕ
+      size = compared_bytes (at.known (branch_zero t l ∷ rest)) t.bytes
+
       tested_needed : (wanted (needs at (branch_zero t l ∷ rest)) t == 0) ≡ false
       tested_needed =
-          let here = least_here t.at t.bytes (either (needs at rest) (labels l)) in
+          let here = least_here t.at size (either (needs at rest) (labels l)) in
           let some = it.some in
-          ne_eqb (wanted (needs at (branch_zero t l ∷ rest)) t) 0 (λ q. absurd (omega (arith, here, some, q)))
+          let tests = compared_some (at.known (branch_zero t l ∷ rest)) t.bytes it.some in
+          ne_eqb (wanted (needs at (branch_zero t l ∷ rest)) t) 0 (λ q. absurd (omega (arith, here, some, tests, q)))
 
       more : (k : ℕ) → k ≢ t.at
           → either (needs at rest) (labels l) k ≤ operands_needed op t a b a.bytes b.bytes (needs at (branch_zero t l ∷ rest)) k
       more k d =
           let x = other_needed op t a b a.bytes b.bytes (needs at (branch_zero t l ∷ rest)) k d in
-          let z = least_other t.at t.bytes k (either (needs at rest) (labels l)) in
+          let z = least_other t.at size k (either (needs at rest) (labels l)) in
           omega (arith, x, z)
 
       by_side : (low1 low2 : ℕ) → M (operands_needed op t a b a.bytes b.bytes (needs at (branch_zero t l ∷ rest))) m v
           → value v.at (base a) a.bytes ≡ low1 → value v.at (base b) a.bytes ≡ low2 → (x : Bool) (bytes : ℕ)
           → a.bytes ≡ suc bytes
-          → HasAt e (flag_code (Compared r x) (home a) (home b) a.bytes ++ (unless_code r s (link.label_of l) ++ items rest)) pc end
+          → HasAt e (flag_code (Compared r x) (home a) (home b) a.bytes ++ own_told (Some (so_told r s)) (branch_zero t l) rest) pc end
           → G (suc n) m.state.work pc v
           (R (suc n) (branch_zero t l ∷ rest)
           (told_machine t (stand_so r s a.bytes (first_of_two x low1 low2) (first_of_two x low2 low1))
@@ -3486,11 +3920,11 @@ module _ (p : PlainProgram) (functions : List PlainIrFunction) (e : Env) (slots 
           (sym size)
           (told_passes start l r s t a b bytes low1 low2
           (op_steps (binary_op op ty mode t a (integer s a.bytes) b (integer s b.bytes))) rest n pc
-          (operands_needed op t a b a.bytes b.bytes (needs at (branch_zero t l ∷ rest))) m v ready covered live inside it ia ib size
+          (operands_needed op t a b a.bytes b.bytes (needs at (branch_zero t l ∷ rest))) m v ready behind it ia ib size
           (same ∙ size) (omega arith) la lb (relation_big op ty (integer s a.bytes) (integer s b.bytes)) none
           (subst
           (λ j. HasAt e
-          (compare_code (home b) (home a) j ++ (unless_code r s (link.label_of l) ++ items rest)) pc end) size stand) more needed f)
+          (compare_code (home b) (home a) j ++ own_told (Some (so_told r s)) (branch_zero t l) rest) pc end) size stand) more needed f)
       by_side low1 low2 needed left_is right_is true bytes size stand =
           let most = ia.most in
           let la = subst (λ j. value v.at (base a) j ≡ low1) size left_is in
@@ -3502,25 +3936,24 @@ module _ (p : PlainProgram) (functions : List PlainIrFunction) (e : Env) (slots 
           (sym size)
           (told_passes start l r s t b a bytes low2 low1
           (op_steps (binary_op op ty mode t a (integer s a.bytes) b (integer s b.bytes))) rest n pc
-          (operands_needed op t a b a.bytes b.bytes (needs at (branch_zero t l ∷ rest))) m v ready covered live inside it ib ia
+          (operands_needed op t a b a.bytes b.bytes (needs at (branch_zero t l ∷ rest))) m v ready behind it ib ia
           (same ∙ size) size (omega arith) lb la (relation_big op ty (integer s a.bytes) (integer s b.bytes)) none
           (subst
           (λ j. HasAt e
-          (compare_code (home a) (home b) j ++ (unless_code r s (link.label_of l) ++ items rest)) pc end) size stand) more needed f)
+          (compare_code (home a) (home b) j ++ own_told (Some (so_told r s)) (branch_zero t l) rest) pc end) size stand) more needed f)
 
   -- the same with a known number
   told_number_follows : (start l : ℕ) (op : BinOp) (r : Relation) → family_of op ≡ Compared r false
       → (s sign : Bool) (size : ℕ) (ty : PlainType) (mode : Mode) (t a b : Temp) (k : ℤ) (rest : List PlainIr) (n pc : ℕ) (m : Mach)
-      (v : View) → Ready start all → AreReady p e y.cells results me y.called slots link rest → IsLiveBy at rest
-      → ((c : ℕ) → Contains (called_in rest) c → Contains (called_in all) c) → HasHome slots t → HasHome slots a
+      (v : View) → Ready start all → Behind (branch_zero t l ∷ rest) → HasHome slots t → HasHome slots a
       → HasHome slots b → b.bytes ≡ a.bytes → AreComparedBy a b k s size sign m → wanted (either (needs at rest) (labels l)) t ≡ 0
-      → HasAt e (compared_with_code (home a) (low_bytes 16 k) size ++ (unless_code r sign (link.label_of l) ++ items rest)) pc end
+      → HasAt e (compared_with_code (home a) (low_bytes 16 k) size ++ own_told (Some (so_told r sign)) (branch_zero t l) rest) pc end
       → M (at_least a.at (operand_wanted op size (wanted (needs at (branch_zero t l ∷ rest)) t))
       (without t.at (needs at (branch_zero t l ∷ rest)))) m v
-      → Onward n
+      → Onwards n
       → G (suc n) m.state.work pc v
       (P n (binary_op op ty mode t a (integer s a.bytes) b (integer s b.bytes)) (branch_zero t l ∷ rest) m)
-  told_number_follows start l op r is s sign size ty mode t a b k rest n pc m v ready covered live inside it ia ib same by none stands h f =
+  told_number_follows start l op r is s sign size ty mode t a b k rest n pc m v ready behind it ia ib same by none stands h f =
       compared_numbers op r false is s ty mode t a b (branch_zero t l ∷ rest) n pc
       (at_least a.at (operand_wanted op size (wanted need t)) (without t.at need)) m v ia ib same h
       (λ low1 low2 qa qb below1 below2.
@@ -3540,11 +3973,15 @@ module _ (p : PlainProgram) (functions : List PlainIrFunction) (e : Env) (slots 
       need0 : Need
       need0 = at_least a.at size (without t.at need)
 
+      tested_bytes : ℕ
+      tested_bytes = compared_bytes (at.known (branch_zero t l ∷ rest)) t.bytes
+
       tested_needed : (wanted need t == 0) ≡ false
       tested_needed =
-          let here = least_here t.at t.bytes (either (needs at rest) (labels l)) in
+          let here = least_here t.at tested_bytes (either (needs at rest) (labels l)) in
           let some = it.some in
-          ne_eqb (wanted need t) 0 (λ q. absurd (omega (arith, here, some, q)))
+          let tests = compared_some (at.known (branch_zero t l ∷ rest)) t.bytes it.some in
+          ne_eqb (wanted need t) 0 (λ q. absurd (omega (arith, here, some, tests, q)))
 
       all_needed : M need0 m v
       all_needed = subst (λ x. M (at_least a.at x (without t.at need)) m v) (all_wanted op r false is size
@@ -3554,7 +3991,7 @@ module _ (p : PlainProgram) (functions : List PlainIrFunction) (e : Env) (slots 
       more u d =
           let x = without_other t.at u need d in
           let w = least_other a.at size u (without t.at need) in
-          let z = least_other t.at t.bytes u (either (needs at rest) (labels l)) in
+          let z = least_other t.at tested_bytes u (either (needs at rest) (labels l)) in
           omega (arith, x, w, z)
 
       by_size : (low1 low2 : ℕ) → m.temps a.at ≡ Some (record { bytes = a.bytes; content = bits low1 })
@@ -3570,12 +4007,12 @@ module _ (p : PlainProgram) (functions : List PlainIrFunction) (e : Env) (slots 
           subst
           (λ j. G (suc n) m.state.work pc v (R (suc n) (branch_zero t l ∷ rest) (told_machine t (stand_so r sign j low1 low2) c m)))
           (sym is_size)
-          (told_number_passes start l r sign t a bytes low1 low2 number c rest n pc need0 m v ready covered live inside it ia
+          (told_number_passes start l r sign t a bytes low1 low2 number c rest n pc need0 m v ready behind it ia
           (omega (arith, is_size, within))
           (subst (λ j. value v.at (base a) j ≡ low1) is_size left)
           (subst (λ j. number % 256 ^ j ≡ low2) is_size (by.right low2 qb))
           (relation_big op ty (integer s a.bytes) (integer s b.bytes)) none
-          (subst (λ j. HasAt e (compared_with_code (home a) number j ++ (unless_code r sign (link.label_of l) ++ items rest)) pc end)
+          (subst (λ j. HasAt e (compared_with_code (home a) number j ++ own_told (Some (so_told r sign)) (branch_zero t l) rest) pc end)
           is_size stands) more all_needed f)
 
   -- ---- labels
@@ -3609,12 +4046,6 @@ module _ (p : PlainProgram) (functions : List PlainIrFunction) (e : Env) (slots 
   StandsTelling op ty mode t a aty b bty pc told ops =
       HasAt e (own_code p home link None told None (needs at ops) (binary_op op ty mode t a aty b bty) ++ items_told told ops) pc end
 
-  -- operations that are left behind one that computes
-  record Behind (rest : List PlainIr) : Type 0 where
-    covered : AreReady p e y.cells results me y.called slots link rest
-    live : IsLiveBy at rest
-    inside : (b : ℕ) → Contains (called_in rest) b → Contains (called_in all) b
-
   -- what holds of no integer type holds of no operand of an integer operator
   no_kind : (is : PlainType → Bool) → ((s : Bool) (n : ℕ) → is (integer s n) ≡ false) → (x : Family) (t a b : Temp)
       (ty aty bty : PlainType) → IsBinary x slots t a b ty aty bty → (is aty || is bty) ≡ false
@@ -3634,7 +4065,7 @@ module _ (p : PlainProgram) (functions : List PlainIrFunction) (e : Env) (slots 
       by_family (Divided r) k = neither k.0.signed k.0.signed a.bytes b.bytes k.0.left_type k.0.right_type
 
   -- a binary operator, and where it is a comparison that only the branch behind it tests, this branch too
-  integers_follow : (start : ℕ) → Ready start all → (n : ℕ) → Onward n → (op : BinOp) (ty : PlainType) (mode : Mode)
+  integers_follow : (start : ℕ) → Ready start all → (n : ℕ) → Onwards n → (op : BinOp) (ty : PlainType) (mode : Mode)
       (t a : Temp) (aty : PlainType) (b : Temp) (bty : PlainType) (pc : ℕ) (rest : List PlainIr) (m : Mach) (v : View)
       → IsBinary (family_of op) slots t a b ty aty bty → Behind rest
       → HasAt e (plain_items (binary_op op ty mode t a aty b bty) rest) pc end
@@ -3663,35 +4094,26 @@ module _ (p : PlainProgram) (functions : List PlainIrFunction) (e : Env) (slots 
           (second_wanted x op b.bytes (wanted (needs at ops) t)) (needs at ops)) m v) wx h
 
       by_family : (x : Family) → family_of op ≡ x → (told : Told) → told_of x (is_signed aty) ≡ Some told → (l : ℕ) (ops : List PlainIr)
-          → IsBinary x slots t a b ty aty bty → AreReady p e y.cells results me y.called slots link ops → IsLiveBy at ops
-          → ((c : ℕ) → Contains (called_in ops) c → Contains (called_in all) c) → wanted (either (needs at ops) (labels l)) t ≡ 0
-          → HasAt e (flag_code x (home a) (home b) a.bytes ++ (unless_code told.relation told.signed (link.label_of l) ++ items ops)) pc end
+          → IsBinary x slots t a b ty aty bty → Behind (branch_zero t l ∷ ops) → wanted (either (needs at ops) (labels l)) t ≡ 0
+          → HasAt e (flag_code x (home a) (home b) a.bytes ++ own_told (Some told) (branch_zero t l) ops) pc end
           → M (plain_needs (binary_op op ty mode t a aty b bty) (branch_zero t l ∷ ops)) m v
           → G (suc n) m.state.work pc v (P n (binary_op op ty mode t a aty b bty) (branch_zero t l ∷ ops) m)
-      by_family (Compared r exchanged) q told w l ops k covered live inside none stands h =
-          let relation : r ≡ told.relation =
-          (let c : record { relation = r; signed = is_signed aty } ≡ told = cc in ap (λ x. x.relation) c) in
-          let signs : k.signed ≡ told.signed =
-          ap is_signed (sym k.left_type)
-          ∙ (let c : record { relation = r; signed = is_signed aty } ≡ told = cc in ap (λ x. x.signed) c) in
-          let stand : HasAt e
-          (flag_code (Compared r exchanged) (home a) (home b) a.bytes ++
-          (unless_code r k.signed (link.label_of l) ++ items ops)) pc end = subst
-          (λ x. HasAt e
-          (flag_code (Compared r exchanged) (home a) (home b) a.bytes ++ (unless_code x k.signed (link.label_of l) ++ items ops)) pc end)
-          (sym relation)
-          (subst
-          (λ x. HasAt e
-          (flag_code (Compared r exchanged) (home a) (home b) a.bytes ++
-          (unless_code told.relation x (link.label_of l) ++ items ops)) pc end) (sym signs) stands) in
+      by_family (Compared r exchanged) q told w l ops k behind none stands h =
+          let signs : k.signed ≡ is_signed aty = ap is_signed (sym k.left_type) in
+          let same : so_told r k.signed ≡ told = ap (λ x. so_told r x) signs ∙ (let c : so_told r (is_signed aty) ≡ told = cc in c) in
+          let stand : HasAt e (flag_code (Compared r exchanged) (home a) (home b) a.bytes
+          ++ own_told (Some (so_told r k.signed)) (branch_zero t l) ops) pc end = subst
+          (λ (x : Told). HasAt e (flag_code (Compared r exchanged) (home a) (home b) a.bytes
+          ++ own_told (Some x) (branch_zero t l) ops) pc end)
+          (sym same) stands in
           subst (λ x. G (suc n) m.state.work pc v (P n (binary_op op ty mode t a x b bty) (branch_zero t l ∷ ops) m))
           (sym k.left_type)
           (subst
           (λ x. G (suc n) m.state.work pc v
           (P n (binary_op op ty mode t a (integer k.signed a.bytes) b x) (branch_zero t l ∷ ops) m)) (sym k.right_type)
-          (told_follows start l op r exchanged q k.signed ty mode t a b ops n pc m v ready covered live inside
+          (told_follows start l op r exchanged q k.signed ty mode t a b ops n pc m v ready behind
           k.result k.left k.right k.same_bytes none stand (needed (branch_zero t l ∷ ops) h) go))
-      by_family x q told w l ops k covered live inside none stands h = absurd (cc)
+      by_family x q told w l ops k behind none stands h = absurd (cc)
 
       at_branch : (u : Temp) (l : ℕ) (ops : List PlainIr) (told : Told) → (only : Bool)
           → is_only_tested t (Some (branch_zero u l)) (wanted (either (needs at ops) (labels l)) u) ≡ only
@@ -3715,18 +4137,18 @@ module _ (p : PlainProgram) (functions : List PlainIrFunction) (e : Env) (slots 
           let stand = subst (λ x. StandsTelling op ty mode t a aty b bty pc (Some told) (branch_zero x l ∷ ops)) same stands in
           let flags : HasAt e (own ++ after) pc end =
           subst (λ x. HasAt e (code_by_kind x
-          (pointer_binary link.core (is_pointer aty) (is_pointer bty) p op aty bty (home a) (home b) (home t) a.bytes b.bytes w) own
+          (pointer_binary None link.core (is_pointer aty) (is_pointer bty) p op aty bty (home a) (home b) (home t) a.bytes b.bytes w) own
           ++ after) pc end) px
           (subst (λ x. HasAt e (code_by_kind x (fixed_binary None (Some told) op ty aty bty mode (home a) (home b) (home t) a.bytes w)
           (code_by_kind (is_pointer aty || is_pointer bty)
-          (pointer_binary link.core (is_pointer aty) (is_pointer bty) p op aty bty (home a) (home b) (home t) a.bytes b.bytes w) own)
+          (pointer_binary None link.core (is_pointer aty) (is_pointer bty) p op aty bty (home a) (home b) (home t) a.bytes b.bytes w) own)
           ++ after) pc end) fx stand) in
           let branch : HasAt e (own ++ own_told (Some told) (branch_zero t l) ops) pc end =
           at_use_behind own (Some told) (branch_zero t l) ops pc (subst (λ x. Behind (branch_zero x l ∷ ops)) same r).covered.0.1
           (λ l none. none) flags in
           subst (λ x. G (suc n) m.state.work pc v (P n (binary_op op ty mode t a aty b bty) (branch_zero x l ∷ ops) m)) (sym same)
           (by_family (family_of op) refl told (subst (λ x. told_by x (family_of op) (is_signed aty) ≡ Some told) ax q) l ops integers
-          r.covered.1 r.live r.inside none branch h1)
+          (subst (λ x. Behind (branch_zero x l ∷ ops)) same r) none branch h1)
 
       at_next : (ops : List PlainIr) (told : Told) → plain_told (binary_op op ty mode t a aty b bty) ops ≡ Some told
           → Behind ops → M (plain_needs (binary_op op ty mode t a aty b bty) ops) m v
@@ -3880,7 +4302,8 @@ module _ (p : PlainProgram) (functions : List PlainIrFunction) (e : Env) (slots 
       number_is low2 qb = known low2 qb ∙ byte_bytes k b.bytes byte (omega (arith, same, more))
 
   -- a comparison
-  compared_number : (start : ℕ) → Ready start all → (n : ℕ) → Onward n → (op : BinOp) (r : Relation) → family_of op ≡ Compared r false
+  compared_number : (start : ℕ) → Ready start all → (n : ℕ) → Onwards n → (op : BinOp) (r : Relation)
+      → family_of op ≡ Compared r false
       → (ty : PlainType) (mode : Mode) (t a : Temp) (aty : PlainType) (b : Temp) (bty : PlainType) (k : RightNumber) (pc : ℕ)
       (rest : List PlainIr) (m : Mach) (v : View) → AreCompared slots t a b aty bty → IsKnown b k.number m → IsByte a k m
       → NumberCase op ty mode t a aty b bty k pc rest n m v
@@ -3942,10 +4365,10 @@ module _ (p : PlainProgram) (functions : List PlainIrFunction) (e : Env) (slots 
           (λ behind1 stands1 h1.
           let by_flag : Some (record { relation = r; signed = sign }) ≡ Some told = ap (λ x. told_of x sign) (sym is) ∙ z.by in
           let same : record { relation = r; signed = sign } ≡ told = cc in
-          told_number_follows start z.l op r is i.signed sign size ty mode t a b k.number z.rest n pc m v ready behind1.covered.1 behind1.live
-          behind1.inside i.result i.left i.right i.same_bytes by z.none
+          told_number_follows start z.l op r is i.signed sign size ty mode t a b k.number z.rest n pc m v ready behind1
+          i.result i.left i.right i.same_bytes by z.none
           (subst (λ (x : Told). HasAt e (compared_with_code (home a) (low_bytes 16 k.number) size
-          ++ (unless_code x.relation x.signed (link.label_of z.l) ++ items z.rest)) pc end) (sym same)
+          ++ own_told (Some x) (branch_zero t z.l) z.rest) pc end) (sym same)
           (at_use_behind (taken_by (Some told) (branch_zero t z.l ∷ z.rest)) (Some told) (branch_zero t z.l) z.rest pc
           behind1.covered.0.1 (λ l none. none) stands1))
           (compared_needed (branch_zero t z.l ∷ z.rest) h1) go)
@@ -3954,17 +4377,16 @@ module _ (p : PlainProgram) (functions : List PlainIrFunction) (e : Env) (slots 
   -- a shift
   shifted_number : (op : BinOp) (up : Bool) → family_of op ≡ Shifted up → (ty : PlainType) (mode : Mode) (t a : Temp) (aty : PlainType)
       (b : Temp) (bty : PlainType) (k : RightNumber) (pc : ℕ) (rest : List PlainIr) (n : ℕ) (m : Mach) (v : View)
-      → IsBinary (Shifted up) slots t a b ty aty bty → IsKnown b k.number m → NumberCase op ty mode t a aty b bty k pc rest n m v
-  shifted_number op up is ty mode t a aty b bty k pc rest n m v j known =
+      → IsBinary (Shifted up) slots t a b ty aty bty → IsKnown b k.number m → IsByte a k m
+      → NumberCase op ty mode t a aty b bty k pc rest n m v
+  shifted_number op up is ty mode t a aty b bty k pc rest n m v j known byte =
       let i = j.0 in
       let same : a.bytes ≡ t.bytes = i.same_bytes in
       let type : ty ≡ integer i.signed a.bytes = i.result_type ∙ ap (integer i.signed) (sym same) in
       (subst (λ x. NumberCase op x mode t a aty b bty k pc rest n m v) (sym type)
       (subst (λ x. NumberCase op (integer i.signed a.bytes) mode t a x b bty k pc rest n m v) (sym i.left_type)
       (subst (λ x. NumberCase op (integer i.signed a.bytes) mode t a (integer i.signed a.bytes) b x k pc rest n m v) (sym i.count_type)
-      (λ behind stands h f. shifted_number_follows op up is i.signed i.count_signed mode t a b k.number
-      (operand_wanted op (first_bytes (Some k) op a.bytes) (wanted (needs at rest) t)) rest n pc m v i.result i.left i.count same known
-      (λ q. first_shifted op up is k a.bytes (wanted (needs at rest) t) q)
+      (λ behind stands h f. by_way i.signed i.count_signed i.result i.left i.count same up is k.in_byte refl
       (subst (λ x. HasAt e (taking_code (Some k) None x i.signed i.count_signed (home a) (home b) (home t) a.bytes
       (wanted (needs at rest) t) ++ items rest) pc end) is
       (subst (λ x. HasAt e (taking_code (Some k) x (family_of op) i.signed i.count_signed (home a) (home b) (home t) a.bytes
@@ -3974,12 +4396,50 @@ module _ (p : PlainProgram) (functions : List PlainIrFunction) (e : Env) (slots 
       (integer i.count_signed b.bytes)) (compared_signed (Some k) i.signed))
       stands)) h f))))
     where
+      w : ℕ
+      w = wanted (needs at rest) t
+
       untold : (only apart s : Bool) → (if only then told_by apart (family_of op) s else None) ≡ None
       untold false apart s = refl
       untold true true s = refl
       untold true false s = ap (λ x. told_of x s) is
 
-  number_follows : (start : ℕ) → Ready start all → (n : ℕ) → Onward n → (op : BinOp) (ty : PlainType) (mode : Mode)
+      -- no byte becomes 0
+      all_shifted : (s : Bool) → a.bytes ≡ t.bytes
+          → counted_by_code false s (home a) (home t) a.bytes w (low_bytes 16 k.number % 256)
+          ≡ counted_code (Right s) (home a) (home t) a.bytes (low_bytes 16 k.number % 256)
+      all_shifted s same =
+          let most = wanted_most (needs at rest) t in
+          let few : nat_le w a.bytes ≡ true = le-leb w a.bytes (omega (arith, most, same)) in
+          let code = counted_code (Right s) (home a) (home t) a.bytes (low_bytes 16 k.number % 256) in
+          ap (λ (x : Bool). code ++ (if x then [] else widen_code false (home t) a.bytes (w - a.bytes))) few ∙ append-nil code
+
+      by_way : (s s2 : Bool) → HasHome slots t → HasHome slots a → HasHome slots b → a.bytes ≡ t.bytes → (u : Bool)
+          → family_of op ≡ Shifted u → (x : Bool) → k.in_byte ≡ x
+          → HasAt e ((if w == 0 then [] else counted_by_code u (if x then false else s) (home a) (home t)
+          (if x then min 1 a.bytes else a.bytes) w (low_bytes 16 k.number % 256)) ++ items rest) pc end
+          → M (at_least a.at (operand_wanted op (if x then min 1 a.bytes else a.bytes) w) (without t.at (needs at rest))) m v
+          → Rest (suc n) rest
+          → G (suc n) m.state.work pc v
+          (P n (binary_op op (integer s a.bytes) mode t a (integer s a.bytes) b (integer s2 b.bytes)) rest m)
+      by_way s s2 it ia ib same true is x q stands h f =
+          shifted_number_follows op true is s s2 mode t a b k.number
+          (operand_wanted op (if x then min 1 a.bytes else a.bytes) w) rest n pc m v it ia ib same known
+          (λ z. first_shifted op true is (if x then min 1 a.bytes else a.bytes) w z) stands h f
+      by_way s s2 it ia ib same false is false q stands h f =
+          shifted_number_follows op false is s s2 mode t a b k.number (operand_wanted op a.bytes w) rest n pc m v it ia ib same known
+          (λ z. first_shifted op false is a.bytes w z)
+          (subst (λ (x : List AsmItem). HasAt e ((if w == 0 then [] else x) ++ items rest) pc end) (all_shifted s same) stands) h f
+      by_way s s2 it ia ib same false is true q stands h f =
+          let z = byte q in
+          let more = z.0 in
+          let one : min 1 a.bytes ≡ 1 = omega (arith, more) in
+          shifted_byte_follows op is s s2 mode t a b k.number (operand_wanted op (min 1 a.bytes) w) rest n pc m v it ia ib same known more
+          z.2 (λ r. first_shifted op false is (min 1 a.bytes) w r ∙ one)
+          (subst (λ x. HasAt e ((if w == 0 then [] else counted_by_code false false (home a) (home t) x w (low_bytes 16 k.number % 256))
+          ++ items rest) pc end) one stands) h f
+
+  number_follows : (start : ℕ) → Ready start all → (n : ℕ) → Onwards n → (op : BinOp) (ty : PlainType) (mode : Mode)
       (t a : Temp) (aty : PlainType) (b : Temp) (bty : PlainType) (k : RightNumber) (pc : ℕ) (rest : List PlainIr) (m : Mach) (v : View)
       → takes_number op ≡ true → IsBinary (family_of op) slots t a b ty aty bty → IsKnown b k.number m → IsByte a k m
       → NumberCase op ty mode t a aty b bty k pc rest n m v
@@ -3991,7 +4451,7 @@ module _ (p : PlainProgram) (functions : List PlainIrFunction) (e : Env) (slots 
       (λ (x : TakesOrder op). compared_number start ready n go op x.relation x.is ty mode t a aty b bty k pc rest m v
       (subst (λ z. IsBinary z slots t a b ty aty bty) x.is i) known byte)
       (λ (x : TakesShift op). shifted_number op x.up x.is ty mode t a aty b bty k pc rest n m v
-      (subst (λ z. IsBinary z slots t a b ty aty bty) x.is i) known) z)
+      (subst (λ z. IsBinary z slots t a b ty aty bty) x.is i) known byte) z)
       (takes op taken)
 
   -- ---- operators on numbers of one fixed-point format, which are those of the integers of their bytes
@@ -4021,7 +4481,7 @@ module _ (p : PlainProgram) (functions : List PlainIrFunction) (e : Env) (slots 
       ∙ ap (λ z. next (given z st) go) is
 
   -- where the code of an operator is that on integers, it does what that does
-  on_integers_follow : (start : ℕ) → Ready start all → (n : ℕ) → Onward n → (op : BinOp) (ty : PlainType) (mode : Mode)
+  on_integers_follow : (start : ℕ) → Ready start all → (n : ℕ) → Onwards n → (op : BinOp) (ty : PlainType) (mode : Mode)
       (t a : Temp) (aty : PlainType) (b : Temp) (bty : PlainType) (pc : ℕ) (rest : List PlainIr) (m : Mach) (v : View)
       → is_on_integers (family_of op) mode ty aty bty ≡ true → IsOnWholes slots op mode t a b ty aty bty
       → Rest (suc n) rest → Behind rest
@@ -4129,12 +4589,6 @@ module _ (p : PlainProgram) (functions : List PlainIrFunction) (e : Env) (slots 
   other_same true c g x q = absurd cc
   other_same false c g x q = refl
 
-  others_same : (own other : Bool) (c g d x z : List AsmItem) → own ≡ false → other ≡ true
-      → code_by_kind own c (code_by_kind other d x) ≡ code_by_kind own g (code_by_kind other d z)
-  others_same true other c g d x z n q = absurd cc
-  others_same false true c g d x z n q = refl
-  others_same false false c g d x z n q = absurd cc
-
   pointer_whole : (x : PlainType) → is_pointer x ≡ true → is_whole x ≡ true
   pointer_whole (pointer space const to) q = refl
   pointer_whole (integer signed bytes) q = absurd cc
@@ -4151,7 +4605,7 @@ module _ (p : PlainProgram) (functions : List PlainIrFunction) (e : Env) (slots 
       (or_cases (is_pointer x) (is_pointer z) q)
 
   -- an operator whose code stands at its use
-  own_binary_follows : (start : ℕ) → Ready start all → (n : ℕ) → Onward n → (op : BinOp) (ty : PlainType) (mode : Mode)
+  own_binary_follows : (start : ℕ) → Ready start all → (n : ℕ) → Onwards n → (op : BinOp) (ty : PlainType) (mode : Mode)
       (t a : Temp) (aty : PlainType) (b : Temp) (bty : PlainType) (pc : ℕ) (rest : List PlainIr) (m : Mach) (v : View)
       → Ready pc (binary_op op ty mode t a aty b bty ∷ rest) → HasAt e (own_items (binary_op op ty mode t a aty b bty) rest) pc end
       → M (needs at (binary_op op ty mode t a aty b bty ∷ rest)) m v
@@ -4163,9 +4617,9 @@ module _ (p : PlainProgram) (functions : List PlainIrFunction) (e : Env) (slots 
       (λ j. ⊎_elim
       (λ (k : IsFixedBinary slots op t a b ty aty bty). on_fixed k)
       (λ (k : IsPointerBinary p slots op t a b ty aty bty).
-      pointer_binary_follows p functions e slots home base place y labels all end results me link stack op ty mode t a aty b bty
-      rest n pc m v k (pointer_stands (no_fixed_operand p slots op t a b ty aty bty k) k.pointer (either_whole aty bty k.pointer))
-      (own_needs (either_whole aty bty k.pointer)) r.here.core f)
+      pointer_binary_follows p functions e slots home base place y labels all end results me link stack known op ty mode t a aty b bty
+      rest n pc m v (λ number held_so. (right_held (known_at all (i ∷ rest)) a b number m.temps held_so held).number) k
+      (whole_stands (either_whole aty bty k.pointer)) (moving_needs (no_fixed_operand p slots op t a b ty aty bty k)) r.here.core f)
       j)
       r.covered.0.0
     where
@@ -4176,7 +4630,7 @@ module _ (p : PlainProgram) (functions : List PlainIrFunction) (e : Env) (slots 
       known = at.known (i ∷ rest)
 
       telling : Option Told
-      telling = tells_next at i rest
+      telling = tells_next at None i rest
 
       w : ℕ
       w = wanted (needs at rest) t
@@ -4193,8 +4647,8 @@ module _ (p : PlainProgram) (functions : List PlainIrFunction) (e : Env) (slots 
       of_fixed : List AsmItem
       of_fixed = fixed_binary known telling op ty aty bty mode (home a) (home b) (home t) a.bytes w
 
-      of_pointers : List AsmItem
-      of_pointers = pointer_binary link.core (is_pointer aty) (is_pointer bty) p op aty bty (home a) (home b) (home t) a.bytes b.bytes w
+      of_pointers : Option RightNumber → List AsmItem
+      of_pointers x = pointer_binary x link.core (is_pointer aty) (is_pointer bty) p op aty bty (home a) (home b) (home t) a.bytes b.bytes w
 
       -- what it tells where so much of the second operand is taken
       telling_with : Option RightNumber → Option Told
@@ -4215,7 +4669,7 @@ module _ (p : PlainProgram) (functions : List PlainIrFunction) (e : Env) (slots 
           ≡ operator_code (telling_with None) (family_of op) (is_signed aty) (is_signed bty) (home a) (home b) (home t) a.bytes w
       code_on fx on x =
           ap (λ z. code_by_kind z (fixed_binary x (telling_with None) op ty aty bty mode (home a) (home b) (home t) a.bytes w)
-          (code_by_kind is_px of_pointers
+          (code_by_kind is_px (of_pointers x)
           (integer_code x (telling_with None) op (is_signed aty) (is_signed bty) (home a) (home b) (home t) a.bytes w))) fx
           ∙ ap
           (λ z. if z then operator_code (telling_with None) (family_of op) (is_signed aty) (is_signed bty) (home a) (home b) (home t) a.bytes w
@@ -4223,36 +4677,68 @@ module _ (p : PlainProgram) (functions : List PlainIrFunction) (e : Env) (slots 
           then placed_binary x op (is_signed aty) (home a) (home b) (home t) a.bytes w
           else answer_code (fixed_binary_code op ty aty bty mode (home a) (home b) answer_location work_location) (home t) w)) on
 
-      fixed_stands : is_wx ≡ true → HasAt e (known_items known i rest) pc end
-      fixed_stands w =
+      takes : Bool
+      takes = takes_whole op mode ty aty bty t b
+
+      counted : Bool
+      counted = is_counted op mode ty aty bty t b
+
+      whole_stands : is_wx ≡ true → HasAt e (known_items known i rest) pc end
+      whole_stands w =
           subst (λ x. HasAt e (own_code p home link None (telling_with x) known (needs at rest) i ++ items_told (telling_with x) rest) pc end)
           (none_taken op known is_wx w) stands
 
-      pointer_stands : is_fx ≡ false → is_px ≡ true → is_wx ≡ true → HasAt e (plain_items i rest) pc end
-      pointer_stands none q w =
-          subst (λ x. HasAt e (own_code p home link None (telling_with x) None (needs at rest) i ++ items_told (telling_with x) rest) pc end)
-          (none_taken op known is_wx w)
-          (subst (λ x. HasAt e (x ++ items_told telling rest) pc end)
-          (others_same is_fx is_px of_fixed (fixed_binary None telling op ty aty bty mode (home a) (home b) (home t) a.bytes w0) of_pointers
-          (of_integers (number_taken known false op)) (of_integers None) none q) stands)
-        where
-          w0 : ℕ
-          w0 = wanted (needs at rest) t
-
-      needs_with : Option RightNumber → Need
-      needs_with taken =
+      needs_with : (taken second : Option RightNumber) → Need
+      needs_with taken second =
           at_least a.at (first_wanted is_wx op (first_bytes taken op a.bytes) w)
-          (right_needed taken b.at (second_wanted is_wx op b.bytes w) (without t.at (needs at rest)))
+          (right_needed second b.at (second_wanted is_wx op b.bytes w) (without t.at (needs at rest)))
 
-      own_needs : is_wx ≡ true → M (plain_needs i rest) m v
-      own_needs q = subst (λ x. M (needs_with x) m v) (none_taken op known is_wx q) h
+      -- an operator that shifts no fixed-point number takes any number where it moves a pointer
+      moving_needs : is_fx ≡ false → M (needs_with (number_taken known is_wx op) (right_taken known (moves_pointer op aty bty) is_wx op)) m v
+      moving_needs fx =
+          subst (λ x. M (needs_with (number_taken known is_wx op) (right_taken known x is_wx op)) m v)
+          (uncounted_takes op mode ty aty bty t b (not_counted op mode ty aty bty t b fx)) h
 
-      on_fixed : IsFixedBinary slots op t a b ty aty bty → G (suc n) m.state.work pc v (P n i rest m)
-      on_fixed k =
+      -- one that moves no pointer takes a count
+      unmoved_needs : moves_pointer op aty bty ≡ false → M (needs_with (number_taken known is_wx op) (right_taken known counted is_wx op)) m v
+      unmoved_needs q =
+          subst (λ x. M (needs_with (number_taken known is_wx op) (right_taken known x is_wx op)) m v)
+          (unmoved_takes op mode ty aty bty t b q) h
+
+      -- and where both operands are integers, the number that is taken is that of integers
+      taken_needs : is_wx ≡ false → is_fx ≡ false → M (needs_with (number_taken known is_wx op) (number_taken known is_wx op)) m v
+      taken_needs wx fx =
+          subst (λ x. M (needs_with (number_taken known is_wx op) x) m v)
+          (right_same known counted is_wx op (not_counted op mode ty aty bty t b fx)) (unmoved_needs (whole_unmoved op aty bty wx))
+
+      own_needs : moves_pointer op aty bty ≡ false → is_wx ≡ true → count_taken known counted ≡ false → M (plain_needs i rest) m v
+      own_needs unmoved q none =
+          subst (λ x. M (needs_with x None) m v) (none_taken op known is_wx q)
+          (subst (λ x. M (needs_with (number_taken known is_wx op) x) m v)
+          (right_none known counted is_wx op none (none_taken op known is_wx q)) (unmoved_needs unmoved))
+
+      -- a shift by a known count
+      on_count : IsFixedBinary slots op t a b ty aty bty → TakesCount known counted → G (suc n) m.state.work pc v (P n i rest m)
+      on_count k c =
+          let whole = either_fixed is_whole type_whole aty bty k.types.fixed in
+          let needed : M (needs_with None (right_taken known counted is_wx op)) m v =
+          subst (λ x. M (needs_with x (right_taken known counted is_wx op)) m v) (none_taken op known is_wx whole)
+          (unmoved_needs (fixed_unmoved op aty bty k.types.fixed)) in
+          let by_number : M (needs_with None (right_taken (Some c.number) true is_wx op)) m v =
+          subst (λ x. M (needs_with None (right_taken (Some c.number) x is_wx op)) m v) c.counted_so
+          (subst (λ x. M (needs_with None (right_taken x counted is_wx op)) m v) c.known_is needed) in
+          fixed_counted_follows c.number op ty mode t a aty b bty rest n pc m v
+          (right_held (known_at all (i ∷ rest)) a b c.number m.temps c.known_is held).number k
+          (counted_is op mode ty aty bty t b c.counted_so)
+          (subst (λ x. HasAt e (known_items x i rest) pc end) c.known_is (whole_stands whole)) by_number f
+
+      on_operands : IsFixedBinary slots op t a b ty aty bty → count_taken known counted ≡ false
+          → G (suc n) m.state.work pc v (P n i rest m)
+      on_operands k none =
           let whole = either_fixed is_whole type_whole aty bty k.types.fixed in
           let fixed_so = either_fixed is_fixed type_fixed aty bty k.types.fixed in
-          let stand = fixed_stands whole in
-          let needed = own_needs whole in
+          let stand = whole_stands whole in
+          let needed = own_needs (fixed_unmoved op aty bty k.types.fixed) whole none in
           ⊎_elim
           (λ (q : is_on_integers (family_of op) mode ty aty bty ≡ true).
           on_integers_follow start ready n go op ty mode t a aty b bty pc rest m v q (on_wholes slots op mode t a b ty aty bty k q) f behind
@@ -4263,12 +4749,25 @@ module _ (p : PlainProgram) (functions : List PlainIrFunction) (e : Env) (slots 
           (λ number held_so. (right_held (known_at all (i ∷ rest)) a b number m.temps held_so held).number) k q stand needed f)
           (cases_Bool (is_on_integers (family_of op) mode ty aty bty))
 
+      on_fixed : IsFixedBinary slots op t a b ty aty bty → G (suc n) m.state.work pc v (P n i rest m)
+      on_fixed k = by_count (count_taken known counted) refl
+        where
+          by_count : (x : Bool) → count_taken known counted ≡ x → G (suc n) m.state.work pc v (P n i rest m)
+          by_count false q = on_operands k q
+          by_count true q = on_count k (count_is_taken known counted q)
+
       on_integers : IsBinary (family_of op) slots t a b ty aty bty → (taken : Option RightNumber) → number_taken known false op ≡ taken
           → G (suc n) m.state.work pc v (P n i rest m)
       on_integers k taken q = by_taken taken q
         where
           wx : is_wx ≡ false
           wx = no_kind is_whole (λ s n. refl) (family_of op) t a b ty aty bty k
+
+          px : is_px ≡ false
+          px = no_kind is_pointer (λ s n. refl) (family_of op) t a b ty aty bty k
+
+          needed : M (needs_with (number_taken known is_wx op) (number_taken known is_wx op)) m v
+          needed = taken_needs wx (no_kind is_fixed (λ s n. refl) (family_of op) t a b ty aty bty k)
 
           taken_so : (x : Option RightNumber) → number_taken known false op ≡ x → number_taken known is_wx op ≡ x
           taken_so x q = ap (λ z. number_taken known z op) wx ∙ q
@@ -4282,39 +4781,41 @@ module _ (p : PlainProgram) (functions : List PlainIrFunction) (e : Env) (slots 
               integers_follow start ready n go op ty mode t a aty b bty pc rest m v k behind
               (subst (λ x. HasAt e (code_by_kind is_fx
               (fixed_binary None (telling_with x) op ty aty bty mode (home a) (home b) (home t) a.bytes w)
-              (code_by_kind is_px of_pointers (items_with None (telling_with x))) ++ items_told (telling_with x) rest) pc end)
+              (code_by_kind is_px (of_pointers None) (items_with None (telling_with x))) ++ items_told (telling_with x) rest) pc end)
               (taken_so None q)
               (subst (λ x. HasAt e (x ++ items_told telling rest) pc end)
               (other_same is_fx of_fixed (fixed_binary None telling op ty aty bty mode (home a) (home b) (home t) a.bytes w)
-              (code_by_kind is_px of_pointers (of_integers None)) (no_kind is_fixed (λ s n. refl) (family_of op) t a b ty aty bty k))
-              (subst (λ x. HasAt e (code_by_kind is_fx of_fixed (code_by_kind is_px of_pointers (of_integers x))
-              ++ items_told telling rest) pc end) q stands)))
-              (subst (λ x. M (needs_with x) m v) (taken_so None q) h) f
+              (code_by_kind is_px (of_pointers None) (of_integers None)) (no_kind is_fixed (λ s n. refl) (family_of op) t a b ty aty bty k))
+              (subst (λ x. HasAt e (code_by_kind is_fx of_fixed x ++ items_told telling rest) pc end)
+              (other_same is_px (of_pointers known) (of_pointers None) (of_integers None) px)
+              (subst (λ x. HasAt e (code_by_kind is_fx of_fixed (code_by_kind is_px (of_pointers known) (of_integers x))
+              ++ items_told telling rest) pc end) q stands))))
+              (subst (λ x. M (needs_with x x) m v) (taken_so None q) needed) f
           by_taken (Some number) q =
               let fx = no_kind is_fixed (λ s n. refl) (family_of op) t a b ty aty bty k in
-              let px = no_kind is_pointer (λ s n. refl) (family_of op) t a b ty aty bty k in
               let is = taken_is op known number q in
               let row = right_held (known_at all (i ∷ rest)) a b number m.temps is.0 held in
               number_follows start ready n go op ty mode t a aty b bty number pc rest m v is.1 k row.number row.byte behind
               (subst (λ x. HasAt e (items_with (Some number) (telling_with x) ++ items_told (telling_with x) rest) pc end)
               (taken_so (Some number) q)
-              (subst (λ x. HasAt e (code_by_kind x of_pointers (of_integers (Some number)) ++ items_told telling rest) pc end) px
-              (subst (λ x. HasAt e (code_by_kind x of_fixed (code_by_kind is_px of_pointers (of_integers (Some number)))
+              (subst (λ x. HasAt e (code_by_kind x (of_pointers known) (of_integers (Some number)) ++ items_told telling rest) pc end) px
+              (subst (λ x. HasAt e (code_by_kind x of_fixed (code_by_kind is_px (of_pointers known) (of_integers (Some number)))
               ++ items_told telling rest) pc end) fx
-              (subst (λ x. HasAt e (code_by_kind is_fx of_fixed (code_by_kind is_px of_pointers (of_integers x))
+              (subst (λ x. HasAt e (code_by_kind is_fx of_fixed (code_by_kind is_px (of_pointers known) (of_integers x))
               ++ items_told telling rest) pc end) q stands))))
               (subst (λ x. M (at_least a.at (first_wanted x op (first_bytes (Some number) op a.bytes) w) (without t.at (needs at rest))) m v) wx
-              (subst (λ x. M (needs_with x) m v) (taken_so (Some number) q) h)) f
+              (subst (λ x. M (needs_with x x) m v) (taken_so (Some number) q) needed)) f
 
   -- a call of the routine of an operator
   called_binary_follows : (l : ℕ) (op : BinOp) (ty : PlainType) (mode : Mode) (t a : Temp) (aty : PlainType) (b : Temp) (bty : PlainType)
       (pc : ℕ) (rest : List PlainIr) (n : ℕ) (m : Mach) (v : View) → IsCovered p results me y.called slots (binary_op op ty mode t a aty b bty)
       → HasRoutineOf e l (binary_op op ty mode t a aty b bty) → is_on_integers (family_of op) mode ty aty bty ≡ false
+      → takes_count (at.known (binary_op op ty mode t a aty b bty ∷ rest)) (binary_op op ty mode t a aty b bty) ≡ false
       → HasAt e (called_code home l (wanted (needs at rest) t) (binary_op op ty mode t a aty b bty)
-      ++ items_told (tells_next at (binary_op op ty mode t a aty b bty) rest) rest) pc end
+      ++ items_told (tells_next at None (binary_op op ty mode t a aty b bty) rest) rest) pc end
       → M (needs at (binary_op op ty mode t a aty b bty ∷ rest)) m v → Rest (suc n) rest
       → G (suc n) m.state.work pc v (P n (binary_op op ty mode t a aty b bty) rest m)
-  called_binary_follows l op ty mode t a aty b bty pc rest n m v covered routine apart stands h f =
+  called_binary_follows l op ty mode t a aty b bty pc rest n m v covered routine apart uncounted stands h f =
       ⊎_elim
       (λ (k : IsBinary (family_of op) slots t a b ty aty bty). on_integers k)
       (λ j. ⊎_elim
@@ -4343,17 +4844,24 @@ module _ (p : PlainProgram) (functions : List PlainIrFunction) (e : Env) (slots 
       calling = called_code home l w i
 
       -- what is needed and told where so much of the second operand is taken
-      needs_with : Option RightNumber → Need
-      needs_with taken =
+      needs_with : (taken second : Option RightNumber) → Need
+      needs_with taken second =
           at_least a.at (first_wanted is_wx op (first_bytes taken op a.bytes) w)
-          (right_needed taken b.at (second_wanted is_wx op b.bytes w) (without t.at (needs at rest)))
+          (right_needed second b.at (second_wanted is_wx op b.bytes w) (without t.at (needs at rest)))
+
+      counted : Bool
+      counted = is_counted op mode ty aty bty t b
 
       telling_with : Option RightNumber → Option Told
       telling_with taken =
           if only then told_by (is_apart (family_of op) mode ty aty bty) (family_of op) (compared_signed taken (is_signed aty)) else None
 
-      plain : number_taken known is_wx op ≡ None → M (plain_needs i rest) m v
-      plain q = subst (λ x. M (needs_with x) m v) q h
+      plain : moves_pointer op aty bty ≡ false → number_taken known is_wx op ≡ None → M (plain_needs i rest) m v
+      plain unmoved q =
+          subst (λ x. M (needs_with x None) m v) q
+          (subst (λ x. M (needs_with (number_taken known is_wx op) x) m v) (right_none known counted is_wx op uncounted q)
+          (subst (λ x. M (needs_with (number_taken known is_wx op) (right_taken known x is_wx op)) m v)
+          (unmoved_takes op mode ty aty bty t b unmoved) h))
 
       untold : number_taken known is_wx op ≡ None → telling_with None ≡ None → HasAt e (calling ++ items rest) pc end
       untold q none =
@@ -4373,7 +4881,8 @@ module _ (p : PlainProgram) (functions : List PlainIrFunction) (e : Env) (slots 
           ∙ ap not apart in
           let telling = untold_by only (is_apart (family_of op) mode ty aty bty) (family_of op) (is_signed aty) is_apart_so in
           fixed_binary_called l op ty mode t a aty b bty rest n pc m v k
-          (subst body_for (either_fixed is_fixed type_fixed aty bty k.types.fixed) routine) (untold none telling) (plain none) f
+          (subst body_for (either_fixed is_fixed type_fixed aty bty k.types.fixed) routine) (untold none telling)
+          (plain (fixed_unmoved op aty bty k.types.fixed) none) f
 
       -- a call of the routine of a quotient, with these types
       Divides : Bool → (x z u : PlainType) → Type 0
@@ -4412,24 +4921,32 @@ module _ (p : PlainProgram) (functions : List PlainIrFunction) (e : Env) (slots 
               (subst (λ z. Divides r (integer x.signed (suc top)) (integer x.signed a.bytes) z) (sym x.right_type)
               (λ there needed. divided_called l op r q x.signed mode t a b top rest n pc m v x.result x.left x.right qt qa qb
               (subst (λ j. j ≤ 4) qt x.most) (subst (λ j. HasRoutine e l (quotient_body r x.signed (j - 1))) x.left_bytes there)
-              (untold taken telling) needed f)))) body (plain taken)
+              (untold taken telling) needed f)))) body
+              (plain (whole_unmoved op aty bty (no_kind is_whole (λ s n. refl) (family_of op) t a b ty aty bty k)) taken)
 
-  binary_follows : (start : ℕ) → Ready start all → (n : ℕ) → Onward n → (op : BinOp) (ty : PlainType) (mode : Mode)
+  binary_follows : (start : ℕ) → Ready start all → (n : ℕ) → Onwards n → (op : BinOp) (ty : PlainType) (mode : Mode)
       (t a : Temp) (aty : PlainType) (b : Temp) (bty : PlainType) (pc : ℕ) (rest : List PlainIr) (m : Mach) (v : View)
       → Ready pc (binary_op op ty mode t a aty b bty ∷ rest) → M (needs at (binary_op op ty mode t a aty b bty ∷ rest)) m v
       → is_known all (binary_op op ty mode t a aty b bty ∷ rest) m ≡ true → Rest (suc n) rest
       → G (suc n) m.state.work pc v (P n (binary_op op ty mode t a aty b bty) rest m)
-  binary_follows start ready n go op ty mode t a aty b bty pc rest m v r h held f = by_link (link.routine_of i) refl r.stands
+  binary_follows start ready n go op ty mode t a aty b bty pc rest m v r h held f =
+      by_count (takes_count (at.known (i ∷ rest)) i) refl r.stands
     where
       i : PlainIr
       i = binary_op op ty mode t a aty b bty
 
-      by_link : (x : Option ℕ) → link.routine_of i ≡ x → HasAt e (linked_items x i rest) pc end
-          → G (suc n) m.state.work pc v (P n i rest m)
-      by_link None q stands = own_binary_follows start ready n go op ty mode t a aty b bty pc rest m v r stands h held f
-      by_link (Some l) q stands =
+      by_link : takes_count (at.known (i ∷ rest)) i ≡ false → (x : Option ℕ) → link.routine_of i ≡ x
+          → HasAt e (linked_items x i rest) pc end → G (suc n) m.state.work pc v (P n i rest m)
+      by_link uncounted None q stands = own_binary_follows start ready n go op ty mode t a aty b bty pc rest m v r stands h held f
+      by_link uncounted (Some l) q stands =
           let linked = r.covered.0.1 l q in
-          called_binary_follows l op ty mode t a aty b bty pc rest n m v r.covered.0.0 linked.0 linked.1 stands h f
+          called_binary_follows l op ty mode t a aty b bty pc rest n m v r.covered.0.0 linked.0 linked.1 uncounted stands h f
+
+      -- a shift by a known count calls no routine
+      by_count : (x : Bool) → takes_count (at.known (i ∷ rest)) i ≡ x
+          → HasAt e (linked_items (if x then None else link.routine_of i) i rest) pc end → G (suc n) m.state.work pc v (P n i rest m)
+      by_count true q stands = own_binary_follows start ready n go op ty mode t a aty b bty pc rest m v r stands h held f
+      by_count false q stands = by_link q (link.routine_of i) refl stands
 
   -- the same of an operation with one operand
   unary_goes : (op : UnOp) (ty : PlainType) (mode : Mode) (t a : Temp) (pc : ℕ) (rest : List PlainIr) (n : ℕ) (m : Mach) (v : View)
@@ -4476,7 +4993,7 @@ module _ (p : PlainProgram) (functions : List PlainIrFunction) (e : Env) (slots 
           r.covered.0.0
 
   -- what is shown of an operation whose second operand holds what is known of it, where it is of those behind it
-  performs : (start : ℕ) → Ready start all → (n : ℕ) → Onward n → CallCase n → ReturnCase n → (pc : ℕ) (i : PlainIr)
+  performs : (start : ℕ) → Ready start all → (n : ℕ) → Onwards n → CallCase n → ReturnCase n → (pc : ℕ) (i : PlainIr)
       (rest : List PlainIr) (m : Mach) (v : View) → Ready pc (i ∷ rest) → M (needs at (i ∷ rest)) m v
       → is_known all (i ∷ rest) m ≡ true
       → ((pc1 : ℕ) (m1 : Mach) (v1 : View) → Ready pc1 rest → M (needs at rest) m1 v1
@@ -4495,13 +5012,13 @@ module _ (p : PlainProgram) (functions : List PlainIrFunction) (e : Env) (slots 
       let i = r.covered.0.0 in
       load_follows p functions e slots home base place y labels all end results me link stack t o offset rest n pc m v i.0 i.1
       (at_use (load_object t o offset) rest pc r (λ l none. none)) h r.here.core
-      (λ pc1 m1 v1 s z. go pc1 rest m1 v1
+      (λ pc1 m1 v1 s z. go n (omega arith) pc1 rest m1 v1
       (record { covered = r.covered.1; live = r.live; inside = r.inside; here = r.here; stands = s }) z)
   performs start ready n go calls returns pc (store_object o offset t) rest m v r h held more =
       let i = r.covered.0.0 in
       store_follows p functions e slots home base place y labels all end results me link stack o offset t rest n pc m v i.0 i.1 i.2
       r.here (at_use (store_object o offset t) rest pc r (λ l none. none)) h
-      (λ pc1 m1 v1 s z. go pc1 rest m1 v1
+      (λ pc1 m1 v1 s z. go n (omega arith) pc1 rest m1 v1
       (record { covered = r.covered.1; live = r.live; inside = r.inside; here = r.here; stands = s }) z)
   performs start ready n go calls returns pc (binary_op op ty mode t a aty b bty) rest m v r h held more =
       binary_follows start ready n go op ty mode t a aty b bty pc rest m v r h held
@@ -4519,9 +5036,13 @@ module _ (p : PlainProgram) (functions : List PlainIrFunction) (e : Env) (slots 
       (record { covered = r.covered.1; live = r.live.1; inside = r.inside; here = r.here; stands = stands })
       (again need m v (op_steps (label l)) z)))
   performs start ready n go calls returns pc (jump l) rest m v r h held more =
-      jump_follows start l rest n pc m v ready (at_use (jump l) rest pc r (λ l none. none)) h go
+      jump_follows start l rest n pc m v ready (at_use (jump l) rest pc r (λ l none. none)) h (go n (omega arith))
   performs start ready n go calls returns pc (branch_zero t l) rest m v r h held more =
-      branch_follows start l t rest n pc m v ready r.covered.1 r.live r.inside r.covered.0.0 (at_use (branch_zero t l) rest pc r (λ l none. none)) h go
+      let it = r.covered.0.0 in
+      branch_follows start l t (compared_bytes (at.known (branch_zero t l ∷ rest)) t.bytes) rest n pc m v ready
+      (record { covered = r.covered; live = r.live; inside = r.inside }) it
+      (tested_held (known_at all (branch_zero t l ∷ rest)) t m.temps it.some held)
+      (at_use (branch_zero t l) rest pc r (λ l none. none)) h go
   performs start ready n go calls returns pc (return_from from) rest m v r h held more =
       returns from pc rest m v r h
   performs start ready n go calls returns pc (conversion t ty mode a aty) rest m v r h held more =
@@ -4546,43 +5067,49 @@ module _ (p : PlainProgram) (functions : List PlainIrFunction) (e : Env) (slots 
       let i = r.covered.0.0 in
       load_at_follows p functions e slots home base place y labels all end results me link stack t u space rest n pc m v i.0 i.1
       (at_use (load_at t u space) rest pc r (λ l none. none)) h r.here.core
-      (λ pc1 m1 v1 s z. go pc1 rest m1 v1
+      (λ pc1 m1 v1 s z. go n (omega arith) pc1 rest m1 v1
       (record { covered = r.covered.1; live = r.live; inside = r.inside; here = r.here; stands = s }) z)
   performs start ready n go calls returns pc (store_at t space u) rest m v r h held more =
       let i = r.covered.0.0 in
       store_at_follows p functions e slots home base place y labels all end results me link stack t space u rest n pc m v i.0 i.1
       (at_use (store_at t space u) rest pc r (λ l none. none)) h
-      (λ pc1 m1 v1 s z. go pc1 rest m1 v1
+      (λ pc1 m1 v1 s z. go n (omega arith) pc1 rest m1 v1
       (record { covered = r.covered.1; live = r.live; inside = r.inside; here = r.here; stands = s }) z)
   performs start ready n go calls returns pc (call_function g t) rest m v r h held more = calls g t pc rest m v r h
   performs start ready n go calls returns pc (port_in t port index width) rest m v r h held more =
       in_follows p functions e slots home base place y labels all end results me link stack t port index width rest n pc m v
       r.covered.0.0 (at_use (port_in t port index width) rest pc r (λ l none. none)) h
-      (λ pc1 m1 v1 s z. go pc1 rest m1 v1 (record { covered = r.covered.1; live = r.live; inside = r.inside; here = r.here; stands = s }) z)
+      (λ pc1 m1 v1 s z. go n (omega arith) pc1 rest m1 v1
+      (record { covered = r.covered.1; live = r.live; inside = r.inside; here = r.here; stands = s }) z)
   performs start ready n go calls returns pc (port_out t port index width) rest m v r h held more =
       out_follows p functions e slots home base place y labels all end results me link stack t port index width rest n pc m v
       r.covered.0.0 (at_use (port_out t port index width) rest pc r (λ l none. none)) h
-      (λ pc1 m1 v1 s z. go pc1 rest m1 v1 (record { covered = r.covered.1; live = r.live; inside = r.inside; here = r.here; stands = s }) z)
+      (λ pc1 m1 v1 s z. go n (omega arith) pc1 rest m1 v1
+      (record { covered = r.covered.1; live = r.live; inside = r.inside; here = r.here; stands = s }) z)
   performs start ready n go calls returns pc (load_cell t cell) rest m v r h held more =
       let i = r.covered.0.0 in
       load_cell_follows p functions e slots home base place y labels all end results me link stack t cell rest n pc m v i.0 i.1
       r.covered.0.2 (at_use (load_cell t cell) rest pc r (λ l none. none)) h
-      (λ pc1 m1 v1 s z. go pc1 rest m1 v1 (record { covered = r.covered.1; live = r.live; inside = r.inside; here = r.here; stands = s }) z)
+      (λ pc1 m1 v1 s z. go n (omega arith) pc1 rest m1 v1
+      (record { covered = r.covered.1; live = r.live; inside = r.inside; here = r.here; stands = s }) z)
   performs start ready n go calls returns pc (store_cell cell t) rest m v r h held more =
       let i = r.covered.0.0 in
       store_cell_follows p functions e slots home base place y labels all end results me link stack t cell rest n pc m v i.0 i.1
       r.covered.0.2 (at_use (store_cell cell t) rest pc r (λ l none. none)) h
-      (λ pc1 m1 v1 s z. go pc1 rest m1 v1 (record { covered = r.covered.1; live = r.live; inside = r.inside; here = r.here; stands = s }) z)
+      (λ pc1 m1 v1 s z. go n (omega arith) pc1 rest m1 v1
+      (record { covered = r.covered.1; live = r.live; inside = r.inside; here = r.here; stands = s }) z)
   performs start ready n go calls returns pc (cell_port true t cell offset index width) rest m v r h held more =
       cell_in_follows p functions e slots home base place y labels all end results me link stack t cell offset index width rest n pc m v
       r.covered.0.0 r.covered.0.2 (at_use (cell_port true t cell offset index width) rest pc r (λ l none. none)) h
-      (λ pc1 m1 v1 s z. go pc1 rest m1 v1 (record { covered = r.covered.1; live = r.live; inside = r.inside; here = r.here; stands = s }) z)
+      (λ pc1 m1 v1 s z. go n (omega arith) pc1 rest m1 v1
+      (record { covered = r.covered.1; live = r.live; inside = r.inside; here = r.here; stands = s }) z)
   performs start ready n go calls returns pc (cell_port false t cell offset index width) rest m v r h held more =
       cell_out_follows p functions e slots home base place y labels all end results me link stack t cell offset index width rest n pc m v
       r.covered.0.0 r.covered.0.2 (at_use (cell_port false t cell offset index width) rest pc r (λ l none. none)) h
-      (λ pc1 m1 v1 s z. go pc1 rest m1 v1 (record { covered = r.covered.1; live = r.live; inside = r.inside; here = r.here; stands = s }) z)
+      (λ pc1 m1 v1 s z. go n (omega arith) pc1 rest m1 v1
+      (record { covered = r.covered.1; live = r.live; inside = r.inside; here = r.here; stands = s }) z)
 
-  pub follows : (start : ℕ) → Ready start all → (n : ℕ) → Onward n → CallCase n → ReturnCase n → Onward (suc n)
+  pub follows : (start : ℕ) → Ready start all → (n : ℕ) → Onwards n → CallCase n → ReturnCase n → Onward (suc n)
   follows start ready n go calls returns pc [] m v r h = tt
   follows start ready n go calls returns pc (i ∷ rest) m v r h =
       checked functions p y.inputs place e n (suc n) m.state.work pc v all stack i rest m

@@ -1,17 +1,21 @@
 -- The operators that take a known number in place of their second operand.
-use Rattle.std.proofs.Common.{◌≡◌, ◌⊎◌, inl, inr, ℕ, ◌≤◌, Bool, true, false, Option, Some, None, refl, arith}
-use Rattle.std.specs.Prelude.{if◌then◌else◌, min}
+use Rattle.std.proofs.Common.{◌≡◌, ◌⊎◌, inl, inr, ℕ, ◌<◌, ◌≤◌, Bool, true, false, ◌&&◌, ◌||◌, Option, Some, None, refl, ap, arith}
+use Rattle.std.specs.Prelude.{if◌then◌else◌, min, not}
 use Rattle.ec_asm.specs.declared.pieces.Operator.{Operator}
 use Rattle.ec_asm.specs.declared.pieces.Operator.TheVariants.{Sum, Difference, BitAnd, BitOr, BitXor}
 use Rattle.ec_core.specs.declared.expressions.BinOp.{BinOp}
 use Rattle.ec_core.specs.declared.expressions.BinOp.TheVariants.{Add, Sub, Mul, Div, Rem, And, Or, Xor, Lt, Gt, Le, Ge}
 use Rattle.ec_core.specs.declared.expressions.BinOp.TheVariants.{Eq, Ne, Shl, Shr}
+use Rattle.ec_core.specs.Plain.{PlainType, void, integer, fixed, pointer, array, struct}
 use Rattle.ec_ir_known.specs.declared.known.RightNumber.{RightNumber}
+use Rattle.ec_select_fixed.specs.Types.{IsFixedType}
 use Rattle.ec_select_order.specs.declared.relations.Relation.{Relation}
 use Rattle.ec_select_order.specs.declared.relations.Relation.TheVariants.{Less, NotLess, Equal, NotEqual}
 use Rattle.ec_select_operations.specs.declared.families.Family.TheVariants.{Combined, Compared, Shifted}
 use Rattle.ec_select_operations.specs.Code.{family_of}
-use Rattle.ec_select_operations.specs.Needs.{takes_number, number_taken, compared_bytes}
+use Rattle.ec_select_operations.specs.Needs.{is_whole, takes_number, number_taken, is_sum_or_difference, moves_pointer}
+use Rattle.ec_select_operations.specs.Needs.{compared_bytes}
+use Rattle.ec_select_operations.specs.Pointers.{is_pointer}
 
 -- the operators of bytes that have code for a number
 abbrev pub is_changed : Operator → Bool
@@ -67,3 +71,65 @@ compared_few k bytes = by_test k.in_byte
     by_test : (x : Bool) → (if x then min 1 bytes else bytes) ≤ bytes
     by_test true = omega arith
     by_test false = omega arith
+
+-- and of a number that may be taken
+pub compared_within : (known : Option RightNumber) (bytes : ℕ) → compared_bytes known bytes ≤ bytes
+compared_within None bytes = omega arith
+compared_within (Some k) bytes = compared_few k bytes
+
+-- where that are less than a part of them, it is one
+pub compared_one : (k : RightNumber) (bytes n : ℕ) → n ≤ bytes → compared_bytes (Some k) bytes < n → compared_bytes (Some k) bytes ≤ 1
+compared_one k bytes n few = by_test k.in_byte
+  where
+    by_test : (x : Bool) → (if x then min 1 bytes else bytes) < n → (if x then min 1 bytes else bytes) ≤ 1
+    by_test true l = omega arith
+    by_test false l = absurd (omega (arith, few, l))
+
+-- some bytes are compared where there are some
+pub compared_some : (known : Option RightNumber) (bytes : ℕ) → 1 ≤ bytes → 1 ≤ compared_bytes known bytes
+compared_some None bytes l = l
+compared_some (Some k) bytes l = by_test k.in_byte
+  where
+    by_test : (x : Bool) → 1 ≤ (if x then min 1 bytes else bytes)
+    by_test true = omega (arith, l)
+    by_test false = l
+
+-- ---- operators that move no pointer
+
+unmoved : (op : BinOp) (aty bty : PlainType) → (is_pointer aty ≡ false) ⊎ (is_whole bty ≡ true) → moves_pointer op aty bty ≡ false
+unmoved op aty bty (inl q) = ap (λ x. x && (not (is_whole bty) && is_sum_or_difference op)) q
+unmoved op aty bty (inr q) = by_first (is_pointer aty)
+  where
+    by_first : (x : Bool) → (x && (not (is_whole bty) && is_sum_or_difference op)) ≡ false
+    by_first true = ap (λ x. not x && is_sum_or_difference op) q
+    by_first false = refl
+
+-- those on integers
+pub whole_unmoved : (op : BinOp) (aty bty : PlainType) → (is_whole aty || is_whole bty) ≡ false → moves_pointer op aty bty ≡ false
+whole_unmoved op (pointer space const to) bty q = absurd cc
+whole_unmoved op (fixed kind saturates) bty q = refl
+whole_unmoved op void bty q = refl
+whole_unmoved op (integer signed bytes) bty q = refl
+whole_unmoved op (array of len) bty q = refl
+whole_unmoved op (struct index) bty q = refl
+
+-- and those with a fixed-point operand
+no_pointer : (x : PlainType) → IsFixedType x → is_pointer x ≡ false
+no_pointer (fixed kind saturates) h = refl
+no_pointer (pointer space const to) h = absurd h
+no_pointer void h = refl
+no_pointer (integer signed bytes) h = refl
+no_pointer (array of len) h = refl
+no_pointer (struct index) h = refl
+
+whole_type : (x : PlainType) → IsFixedType x → is_whole x ≡ true
+whole_type (fixed kind saturates) h = refl
+whole_type (pointer space const to) h = refl
+whole_type void h = absurd h
+whole_type (integer signed bytes) h = absurd h
+whole_type (array of len) h = absurd h
+whole_type (struct index) h = absurd h
+
+pub fixed_unmoved : (op : BinOp) (aty bty : PlainType) → IsFixedType aty ⊎ IsFixedType bty → moves_pointer op aty bty ≡ false
+fixed_unmoved op aty bty (inl h) = unmoved op aty bty (inl (no_pointer aty h))
+fixed_unmoved op aty bty (inr h) = unmoved op aty bty (inr (whole_type bty h))

@@ -1,5 +1,6 @@
 -- Truth values that a flag tells.
 use Rattle.std.proofs.Common.{◌≡◌, ℕ, zero, suc, ◌^◌, ◌<◌, ◌≤◌, Bool, true, false, not, pos, Some, refl, arith, ap, ◌∙◌}
+use Rattle.std.specs.Prelude.{◌==◌}
 use Rattle.std.specs.Int.{from_bool}
 use Rattle.std.proofs.lemmas.Bool.{eq-eqb}
 use native.Mathlib.Nat.{pow-suc}
@@ -16,6 +17,10 @@ bit_is false = refl
 pub not_not : (b : Bool) → not (not b) ≡ b
 not_not true = refl
 not_not false = refl
+
+pub not_zero_bit : (b : Bool) → not b ≡ (from_bool b == 0)
+not_zero_bit true = refl
+not_zero_bit false = refl
 
 -- a truth value has one byte
 truth_fits : (n : ℕ) (b : Bool) → from_bool b < 256 ^ suc n

@@ -1,7 +1,7 @@
 -- What needs no more than any table that tells all.
 use Rattle.std.proofs.Common.{Option, Some, None, ◌≡◌, ℕ, zero, suc, ◌<◌, ◌≤◌, List, [], ◌∷◌, Bool, true, false}
 use Rattle.std.proofs.Common.{refl, sym, ap, ◌∙◌, subst, arith, drop, replicate, max, ◌+◌, ⊎_elim}
-use Rattle.std.specs.Prelude.{◌==◌, ◌||◌, if◌then◌else◌, ℤ}
+use Rattle.std.specs.Prelude.{◌==◌, ◌||◌, if◌then◌else◌}
 use Rattle.std.proofs.lemmas.Bool.{cases_eq, ne_eqb}
 use Rattle.std.proofs.lemmas.Bool.Decides.{nat_tests}
 use Rattle.ec_core.specs.declared.expressions.BinOp.{BinOp}
@@ -15,8 +15,8 @@ use Rattle.ec_ir_known.specs.declared.known.RightNumber.{RightNumber}
 use Rattle.ec_select_operations.specs.Needs.{Need, at_least, without, either, wanted, is_of_low_bytes}
 use Rattle.ec_select_operations.specs.Needs.{is_whole, first_wanted, second_wanted, only_wanted}
 use Rattle.ec_select_operations.specs.Needs.{index_needed, all_or_none, operand_wanted, right_wanted, returned_need}
-use Rattle.ec_select_operations.specs.Needs.{number_taken, first_bytes, right_needed, before, Facts, facts_of, known_right}
-use Rattle.ec_select_operations.specs.Needs.{needs}
+use Rattle.ec_select_operations.specs.Needs.{number_taken, takes_whole, right_taken, first_bytes, right_needed, before, Facts}
+use Rattle.ec_select_operations.specs.Needs.{compared_bytes, facts_of, known_right, needs}
 use Rattle.ec_select_operations.specs.Needs.{IsLiveBy, IsLive}
 use Rattle.ec_select_live.specs.Least.{HasLabel, HaveLabels, IsLeast}
 use Rattle.ec_select_live.specs.Places.{HasPlace, HasPlaces}
@@ -100,16 +100,18 @@ before_more n s at other known (store_object o offset t) a b l k q h = more_leas
 before_more n s at other known (binary_op op ty mode to x xty y yty) a b l k q h =
     let w = is_whole xty || is_whole yty in
     let taken = number_taken known w op in
+    let right = right_taken known (takes_whole op mode ty xty yty to y) w op in
     more_least s x.at (first_wanted w op (first_bytes taken op x.bytes) (wanted a to)) (first_wanted w op (first_bytes taken op x.bytes) (wanted b to))
-    (right_needed taken y.at (second_wanted w op y.bytes (wanted a to)) (without to.at a))
-    (right_needed taken y.at (second_wanted w op y.bytes (wanted b to)) (without to.at b))
+    (right_needed right y.at (second_wanted w op y.bytes (wanted a to)) (without to.at a))
+    (right_needed right y.at (second_wanted w op y.bytes (wanted b to)) (without to.at b))
     (more_first w op (first_bytes taken op x.bytes) (wanted a to) (wanted b to) (more_wanted s to a b l.0 h))
-    (more_second_needed s taken y.at (second_wanted w op y.bytes (wanted a to)) (second_wanted w op y.bytes (wanted b to)) (without to.at a)
+    (more_second_needed s right y.at (second_wanted w op y.bytes (wanted a to)) (second_wanted w op y.bytes (wanted b to)) (without to.at a)
     (without to.at b) (more_second w op y.bytes (wanted a to) (wanted b to) (more_wanted s to a b l.0 h)) (more_without s to.at a b h))
 before_more n s at other known (unary_op op ty mode to x) a b l k q h = more_alone s (is_whole ty) to x a b l.0 h
 before_more n s at other known (conversion to ty mode x xty) a b l k q h = more_alone s (is_whole ty || is_whole xty) to x a b l.0 h
 before_more n s at other known (branch_zero t j) a b l k q h =
-    more_least s t.at t.bytes t.bytes (either a (at j)) (either b (other j)) (omega arith) (more_either s a b (at j) (other j) h (q j k))
+    more_least s t.at (compared_bytes known t.bytes) (compared_bytes known t.bytes) (either a (at j)) (either b (other j)) (omega arith)
+    (more_either s a b (at j) (other j) h (q j k))
 before_more n s at other known (return_from from) a b l k q h = same_needs s (returned_need from)
 before_more n s at other known (label j) a b l k q h = q j k
 before_more n s at other known (jump j) a b l k q h = q j k

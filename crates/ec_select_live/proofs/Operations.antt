@@ -1,7 +1,7 @@
 -- What is needed before operations, of the first places.
 use Rattle.std.proofs.Common.{◌≡◌, ℕ, zero, suc, ◌≤◌, List, [], ◌∷◌, Option, Some, None, Bool, true, false, ◌||◌, refl}
 use Rattle.std.proofs.Common.{ap, ◌∙◌, arith}
-use Rattle.std.specs.Prelude.{◌==◌, if◌then◌else◌, min, max, ℤ}
+use Rattle.std.specs.Prelude.{◌==◌, if◌then◌else◌, min, max}
 use Rattle.std.proofs.lemmas.Bool.Decides.{nat_tests}
 use Rattle.ec_core.specs.declared.expressions.BinOp.{BinOp}
 use Rattle.ec_core.specs.declared.expressions.BinOp.TheVariants.{Shl, Shr}
@@ -14,7 +14,8 @@ use Rattle.ec_ir_known.specs.declared.known.RightNumber.{RightNumber}
 use Rattle.ec_select_operations.specs.Needs.{Need, nothing, at_least, without, either, wanted, is_of_low_bytes}
 use Rattle.ec_select_operations.specs.Needs.{all_or_none, is_whole, first_wanted, second_wanted, only_wanted}
 use Rattle.ec_select_operations.specs.Needs.{index_needed, operand_wanted, right_wanted, returned_need, without_result}
-use Rattle.ec_select_operations.specs.Needs.{number_taken, compared_bytes, first_bytes, right_needed, before, facts_of, known_right, needs}
+use Rattle.ec_select_operations.specs.Needs.{number_taken, takes_whole, right_taken, compared_bytes, first_bytes, right_needed}
+use Rattle.ec_select_operations.specs.Needs.{before, facts_of, known_right, needs}
 use Rattle.ec_select_live.specs.Places.{HasPlace, MayHavePlace, HasPlaces, HavePlaces}
 use Rattle.ec_select_live.specs.Tables.{AreSame, IsBounded, AreBounded}
 
@@ -70,15 +71,17 @@ before_same s at k (store_object o offset t) a b l h = same_least s t.at t.bytes
 before_same s at k (binary_op op ty mode to x xty y yty) a b l h =
     let w = is_whole xty || is_whole yty in
     let taken = number_taken k w op in
+    let right = right_taken k (takes_whole op mode ty xty yty to y) w op in
     same_least s x.at (first_wanted w op (first_bytes taken op x.bytes) (wanted a to)) (first_wanted w op (first_bytes taken op x.bytes) (wanted b to))
-    (right_needed taken y.at (second_wanted w op y.bytes (wanted a to)) (without to.at a))
-    (right_needed taken y.at (second_wanted w op y.bytes (wanted b to)) (without to.at b))
+    (right_needed right y.at (second_wanted w op y.bytes (wanted a to)) (without to.at a))
+    (right_needed right y.at (second_wanted w op y.bytes (wanted b to)) (without to.at b))
     (ap (first_wanted w op (first_bytes taken op x.bytes)) (same_wanted s to a b l.0 h))
-    (same_right s taken y.at (second_wanted w op y.bytes (wanted a to)) (second_wanted w op y.bytes (wanted b to)) (without to.at a)
+    (same_right s right y.at (second_wanted w op y.bytes (wanted a to)) (second_wanted w op y.bytes (wanted b to)) (without to.at a)
     (without to.at b) (ap (second_wanted w op y.bytes) (same_wanted s to a b l.0 h)) (same_without s to.at a b h))
 before_same s at k (unary_op op ty mode to x) a b l h = same_only s (is_whole ty) to x a b l.0 h
 before_same s at k (conversion to ty mode x xty) a b l h = same_only s (is_whole ty || is_whole xty) to x a b l.0 h
-before_same s at k (branch_zero t j) a b l h = same_least s t.at t.bytes t.bytes (either a (at j)) (either b (at j)) refl
+before_same s at k (branch_zero t j) a b l h =
+    same_least s t.at (compared_bytes k t.bytes) (compared_bytes k t.bytes) (either a (at j)) (either b (at j)) refl
     (same_either s a b (at j) h)
 before_same s at k (return_from from) a b l h = λ place q. refl
 before_same s at k (label j) a b l h = λ place q. refl
@@ -203,11 +206,6 @@ compared_most (Some k) bytes l = by_test k.in_byte
     by_test true = omega arith
     by_test false = l
 
-first_few : (taken : Option RightNumber) (op : BinOp) (bytes : ℕ) → bytes ≤ 16 → first_bytes taken op bytes ≤ 16
-first_few None op bytes l = l
-first_few (Some k) Shr bytes l = l
-first_few (Some k) op bytes l = compared_most (Some k) bytes l
-
 bounded_right : (taken : Option RightNumber) (at n : ℕ) (a : Need) → n ≤ 16 → IsBounded a → IsBounded (right_needed taken at n a)
 bounded_right None at n a l h = bounded_least at n a l h
 bounded_right (Some k) at n a l h = h
@@ -221,15 +219,16 @@ before_bounded s at n (store_object o offset t) a l k h = bounded_least t.at t.b
 before_bounded s at n (binary_op op ty mode to x xty y yty) a l k h =
     let w = is_whole xty || is_whole yty in
     let taken = number_taken n w op in
+    let right = right_taken n (takes_whole op mode ty xty yty to y) w op in
     bounded_least x.at (first_wanted w op (first_bytes taken op x.bytes) (wanted a to))
-    (right_needed taken y.at (second_wanted w op y.bytes (wanted a to)) (without to.at a))
-    (first_most w op (first_bytes taken op x.bytes) (wanted a to) (first_few taken op x.bytes l.1.1) (wanted_most a to l.0.1))
-    (bounded_right taken y.at (second_wanted w op y.bytes (wanted a to)) (without to.at a)
+    (right_needed right y.at (second_wanted w op y.bytes (wanted a to)) (without to.at a))
+    (first_most w op (first_bytes taken op x.bytes) (wanted a to) (compared_most taken x.bytes l.1.1) (wanted_most a to l.0.1))
+    (bounded_right right y.at (second_wanted w op y.bytes (wanted a to)) (without to.at a)
     (second_most w op y.bytes (wanted a to) l.2.1 (wanted_most a to l.0.1)) (bounded_without to.at a h))
 before_bounded s at n (unary_op op ty mode to x) a l k h = bounded_only (is_whole ty) to x a l.0.1 l.1.1 h
 before_bounded s at n (conversion to ty mode x xty) a l k h = bounded_only (is_whole ty || is_whole xty) to x a l.0.1 l.1.1 h
 before_bounded s at n (branch_zero t q) a l k h =
-    bounded_least t.at t.bytes (either a (at q)) l.1 (bounded_either a (at q) h (k q))
+    bounded_least t.at (compared_bytes n t.bytes) (either a (at q)) (compared_most n t.bytes l.1) (bounded_either a (at q) h (k q))
 before_bounded s at n (return_from from) a l k h = bounded_returned s from l
 before_bounded s at n (label q) a l k h = k q
 before_bounded s at n (jump q) a l k h = k q

@@ -3,7 +3,7 @@ ghost use Rattle.std.specs.Prelude.{◌<◌, length};
 ghost use Rattle.ec_ir.specs.Operations.{plain_ir};
 ghost use Rattle.ec_select_operations.specs.Needs.{before, either, at_least, without, wanted, index_needed};
 ghost use Rattle.ec_select_operations.specs.Needs.{returned_need, without_result, first_wanted, second_wanted};
-ghost use Rattle.ec_select_operations.specs.Needs.{only_wanted, number_taken, right_needed, first_bytes};
+ghost use Rattle.ec_select_operations.specs.Needs.{only_wanted, right_needed, first_bytes};
 ghost use Rattle.ec_select_live.specs.Places.{MayHavePlace, HasPlaces};
 ghost use Rattle.ec_select_live.specs.Tables.{need_of, needs_of, AreSame};
 
@@ -12,7 +12,7 @@ use crate::table::{LabelNeeds, zeros};
 use ec_core::BinOp;
 use ec_ir::{Ir, Temp};
 use ec_ir_known::RightNumber;
-use ec_select_operations::{first_bytes, is_whole, number_taken};
+use ec_select_operations::{compared_bytes, is_whole, number_taken, right_taken, takes_whole};
 use ec_space::{NoMemory, Seq};
 use std::alloc::Global;
 
@@ -40,11 +40,13 @@ fn keep_right(need: &mut [u8], taken: Option<RightNumber>, b: Temp, n: u8)
     }
 }
 
-/// The operands of a binary operator, of which the second one may be taken as a number.
+/// The operands of a binary operator. An operator on integers takes the number `taken`, and any operator takes `right`, in
+/// place of the second operand.
 fn pass_operands(
     need: &mut [u8],
     whole: bool,
     taken: Option<RightNumber>,
+    right: Option<RightNumber>,
     op: BinOp,
     to: Temp,
     a: Temp,
@@ -55,13 +57,13 @@ fn pass_operands(
     requires right { b.at < length need.old }
     ensures { AreSame (length need.old) (need_of need.new)
         (at_least a.at (first_wanted whole op (first_bytes taken op a.bytes) (wanted (need_of need.old) to))
-        (right_needed taken b.at (second_wanted whole op b.bytes (wanted (need_of need.old) to))
+        (right_needed right b.at (second_wanted whole op b.bytes (wanted (need_of need.old) to))
         (without to.at (need_of need.old)))) }
 {
     let n = wanted_of(need, to);
     forget(need, to);
-    keep_right(need, taken, b, second_wanted(whole, op, b.bytes, n));
-    let bytes = first_bytes(taken, op, a.bytes);
+    keep_right(need, right, b, second_wanted(whole, op, b.bytes, n));
+    let bytes = compared_bytes(taken, a.bytes);
     keep(need, a, first_wanted(whole, op, bytes, n));
 }
 
@@ -126,14 +128,14 @@ fn at_store(need: &mut [u8], ptr: Temp, from: Temp)
     keep(need, from, from.bytes);
 }
 
-/// What is needed before a branch to a label where a temporary is 0.
-fn at_branch(table: &LabelNeeds, t: Temp, l: u64, need: &mut [u8])
+/// What is needed before a branch to a label where a temporary is 0, of which so many bytes are tested.
+fn at_branch(table: &LabelNeeds, t: Temp, bytes: u8, l: u64, need: &mut [u8])
     requires { t.at < length need.old }
     ensures { AreSame (length need.old) (need_of need.new)
-        (at_least t.at t.bytes (either (need_of need.old) (needs_of table.now l))) }
+        (at_least t.at bytes (either (need_of need.old) (needs_of table.now l))) }
 {
     or_at_label(table, l, need);
-    keep(need, t, t.bytes);
+    keep(need, t, bytes);
 }
 
 /// Of the index of a port the low byte is needed.
@@ -185,19 +187,22 @@ pub fn before(table: &LabelNeeds, known: Option<RightNumber>, i: &Ir, need: &mut
         Ir::Conv { to, ty, a, aty, .. } => { pass_on(need, is_whole(ty) || is_whole(aty), *to, *a) }
         Ir::Bin {
             op,
+            ty,
+            mode,
             to,
             a,
             aty,
             b,
             bty,
-            ..
         } => {
             let whole = is_whole(aty) || is_whole(bty);
+            let takes = takes_whole(*op, *mode, ty, aty, bty, *to, *b);
             let taken = number_taken(known, whole, *op);
-            pass_operands(need, whole, taken, *op, *to, *a, *b)
+            let right = right_taken(known, takes, whole, *op);
+            pass_operands(need, whole, taken, right, *op, *to, *a, *b)
         }
         Ir::Label(l) | Ir::Jump(l) => at_label(table, *l, need),
-        Ir::BranchZero(t, l) => at_branch(table, *t, *l, need),
+        Ir::BranchZero(t, l) => at_branch(table, *t, compared_bytes(known, t.bytes), *l, need),
         Ir::Call(_, to) => at_call(need, *to),
         Ir::Return(from) => at_return(need, *from),
         Ir::PortIn { to, index, .. } => at_read(need, *to, *index),

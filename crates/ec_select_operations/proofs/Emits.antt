@@ -1,6 +1,7 @@
 -- Lemmas of the emitters.
-use Rattle.std.proofs.Common.{◌≡◌, ◌++◌, ℕ, ◌≤◌, true, List, Ok, Err, append_assoc, ap, ◌∙◌, inl, inr, subst, arith}
-use Rattle.std.specs.Prelude.{Result, OnOk}
+use Rattle.std.proofs.Common.{◌≡◌, ◌++◌, ℕ, ◌≤◌, true, List, [], ◌∷◌, Ok, Err, append_assoc, refl, ap, ◌∙◌, inl, inr, subst, arith}
+use Rattle.std.specs.Prelude.{Result, OnOk, ◌||◌, map}
+use Rattle.std.specs.List.{list_any}
 use Rattle.std.proofs.lemmas.Bool.{eqb-true}
 use Rattle.ec_space.specs.declared.Core.{Core}
 use Rattle.ec_space.specs.declared.Core.TheVariants.{Small, Large}
@@ -9,13 +10,15 @@ use Rattle.ec_space.specs.declared.space.Bank.TheVariants.{Flash as FlashBank, D
 use Rattle.ec_asm.specs.declared.pieces.Location.{Location}
 use Rattle.ec_asm.specs.declared.pieces.Location.TheVariants.{InRegisters, InMemory}
 use Rattle.ec_asm.specs.Pieces.{HasBytes}
+use Rattle.ec_core.specs.declared.programs.Obj.{Obj}
+use Rattle.ec_core.specs.Plain.{plain_object}
 use Rattle.ec_select_order.specs.declared.relations.Relation.{Relation}
 use Rattle.ec_select_order.specs.declared.relations.Relation.TheVariants.{Less, NotLess, Equal, NotEqual}
 pub use Rattle.ec_select_bytes.proofs.Bytes.{byte_there}
 use Rattle.ec_select_places.specs.Steps.{compared_bytes}
 use Rattle.ec_select_pointers.specs.Addresses.{pointer_bytes}
 use Rattle.ec_select_operations.specs.Code.{is_far, is_whole_address, related_bytes}
-use Rattle.ec_select_operations.specs.Pointers.{tag_in, IsPointerSize}
+use Rattle.ec_select_operations.specs.Pointers.{is_table, has_tables, tag_in, IsPointerSize}
 
 pub fewer_bytes : (p : Location) (n m : ℕ) → m ≤ n → HasBytes p n → HasBytes p m
 fewer_bytes (InRegisters r) n m l h = omega arith
@@ -36,6 +39,11 @@ pub whole_there : (p : Location) (core : Core) (bytes : ℕ) (bank : Bank) → i
     → HasBytes p bytes → HasBytes p 3
 whole_there p core bytes FlashBank e h = far_there p core bytes e h
 whole_there p core bytes DataBank e h = absurd cc
+
+-- tables among the objects of a program
+pub tables_are : (objects : List Obj) → has_tables (map plain_object objects) ≡ list_any (λ d. is_table d.home) objects
+tables_are [] = refl
+tables_are (d ∷ ds) = ap (λ b. is_table d.home || b) (tables_are ds)
 
 -- what is compared of a pointer
 fewer_compared : (r : Relation) (p : Location) (n : ℕ) → 2 ≤ n → HasBytes p n → HasBytes p (compared_bytes r n)

@@ -1,7 +1,7 @@
 -- Code that is written operation by operation.
-use Rattle.std.proofs.Common.{◌≡◌, ℕ, zero, suc, ◌+◌, ◌-◌, ◌<◌, List, [], ◌∷◌, ◌++◌, Some, length, refl, sym, ap, ◌∙◌}
+use Rattle.std.proofs.Common.{◌≡◌, ℕ, zero, suc, ◌+◌, ◌<◌, List, [], ◌∷◌, ◌++◌, Some, length, refl, sym, ap, ◌∙◌}
 use Rattle.std.proofs.Common.{subst, arith, append_assoc, append-nil, map, true, false}
-use Rattle.std.specs.Prelude.{slice_get, slice_index, get_or, Option, None}
+use Rattle.std.specs.Prelude.{slice_get, slice_index, get_or, Option, None, option_and_then}
 use Rattle.ec_asm.specs.declared.items.AsmItem.{AsmItem}
 use Rattle.ec_asm.specs.declared.pieces.Location.{Location}
 use Rattle.ec_asm.specs.Items.{chain}
@@ -13,10 +13,10 @@ use Rattle.ec_ir.specs.Operations.{call_function, return_from, port_in, port_out
 use Rattle.ec_select_operations.specs.Code.{Linkage, register_places, save_place, restore_place, save_code}
 use Rattle.ec_select_operations.specs.declared.families.Told.{Told}
 use Rattle.ec_select_operations.specs.Code.{restore_code, operation_code, tells, wanted_behind, wanted_bytes, op_code}
-use Rattle.ec_select_operations.specs.Code.{tells_next, ops_code, own_code, called_code, linked_code, result_wanted}
+use Rattle.ec_select_operations.specs.Code.{tells_next, ops_code, own_code, called_code, linked_code, routine_used, result_wanted}
 use Rattle.ec_ir_known.specs.declared.known.RightNumber.{RightNumber}
 use Rattle.ec_ir_known.specs.Known.{known_at, right_number, numbers_left}
-use Rattle.ec_select_operations.specs.Needs.{Need, without_result, facts_of, needs}
+use Rattle.ec_select_operations.specs.Needs.{Need, without_result, Facts, facts_of, needs}
 use Rattle.ec_select_operations.specs.Written.{need_in, operation_at, told_from, told_at, written_code, row_from}
 use Rattle.ec_select_operations.specs.Written.{kept_row}
 use Rattle.ec_select_operations.specs.Written.{kept_rows, routed, NeededCodeIsWritten}
@@ -127,11 +127,11 @@ module _ (p : PlainProgram) (home : Temp → Location) (k : Linkage) (routine_of
   same_called at need (cell_port read t cell offset index width) l = refl
 
   same_linked : (at : ℕ → Need) (told telling : Option Told) (known : Option RightNumber) (need : Need) (i : PlainIr)
-      → linked_code (routine_of i) (λ l. called_code home l (wanted_behind at need i) i)
+      → linked_code (routine_used known i (routine_of i)) (λ l. called_code home l (wanted_behind at need i) i)
       (operation_code p home k told telling known (wanted_behind at need i) (need_in (kept_row k.slots need i)) i)
       ≡ op_code p home (routed k routine_of) told telling known need i
   same_linked at told telling known need i =
-      linked_same (routine_of i) (λ l. called_code home l (wanted_behind at need i) i)
+      linked_same (routine_used known i (routine_of i)) (λ l. called_code home l (wanted_behind at need i) i)
       (λ l. called_code home l (result_wanted need i) i)
       (operation_code p home k told telling known (wanted_behind at need i) (need_in (kept_row k.slots need i)) i)
       (own_code p home (routed k routine_of) told telling known need i) (same_called at need i)
@@ -146,18 +146,39 @@ module _ (p : PlainProgram) (home : Temp → Location) (k : Linkage) (routine_of
       (get_or (map routine_of code) j None) (slice_index (wanted_bytes at code) j) (get_or (kept_rows k.slots at code) j [])
       (slice_get code j)
 
+  -- what those behind the first operation have been told is what the other ones have been told
+  told_behind : (labels : ℕ → Need) (all : List PlainIr) (first : Option Told) (i : PlainIr) (code : List PlainIr) (j : ℕ)
+      → told_from first (wanted_bytes (facts_of labels all) (i ∷ code)) (numbers_left all (i ∷ code)) (i ∷ code) (suc j)
+      ≡ told_from (tells_next (facts_of labels all) first i code) (wanted_bytes (facts_of labels all) code) (numbers_left all code) code j
+  told_behind labels all first i code zero = refl
+  told_behind labels all first i code (suc j) =
+      ap (λ told. option_and_then (λ x. tells (get_or (numbers_left all code) j None) told x (slice_get code (suc j))
+      (slice_get code (suc (suc j))) (slice_index (wanted_bytes (facts_of labels all) code) (suc j))) (slice_get code j))
+      (told_behind labels all first i code j)
+
   -- those behind the first operation are those of the other ones
   piece_behind : (labels : ℕ → Need) (all : List PlainIr) (first : Option Told) (i : PlainIr) (code : List PlainIr) (j : ℕ)
-      → piece labels all first (i ∷ code) (suc j) ≡ piece labels all (tells_next (facts_of labels all) i code) code j
-  piece_behind labels all first i code zero = refl
-  piece_behind labels all first i code (suc j) = refl
+      → piece labels all first (i ∷ code) (suc j) ≡ piece labels all (tells_next (facts_of labels all) first i code) code j
+  piece_behind labels all first i code j =
+      ap (λ told. one told (told_from first (wanted_bytes at (i ∷ code)) (numbers_left all (i ∷ code)) (i ∷ code) (suc (suc j))))
+      (told_behind labels all first i code j)
+      ∙ ap (one (told_from (tells_next at first i code) (wanted_bytes at code) (numbers_left all code) code j))
+      (told_behind labels all first i code (suc j))
+    where
+      at : Facts
+      at = facts_of labels all
+
+      one : (told telling : Option Told) → List AsmItem
+      one told telling =
+          operation_at p home k told telling (get_or (numbers_left all code) j None) (get_or (map routine_of code) j None)
+          (slice_index (wanted_bytes at code) j) (get_or (kept_rows k.slots at code) j []) (slice_get code j)
 
   pieces_are : (labels : ℕ → Need) (all : List PlainIr) (first : Option Told) (code : List PlainIr)
       → chain (piece labels all first code) (length code) ≡ ops_code p home (routed k routine_of) (facts_of labels all) first code
   pieces_are labels all first [] = refl
   pieces_are labels all first (i ∷ code) =
       let at = facts_of labels all in
-      let next = tells_next at i code in
+      let next = tells_next at first i code in
       let behind =
       chain_same (λ j. piece labels all first (i ∷ code) (suc j)) (piece labels all next code) (length code)
       (λ j l. piece_behind labels all first i code j) in
@@ -181,21 +202,19 @@ pub one_more : (p : PlainProgram) (home : Temp → Location) (k : Linkage) (want
     (known : List (Option RightNumber)) (routines : List (Option ℕ)) (code : List PlainIr) (j : ℕ) (i : PlainIr)
     (told telling : Option Told) (number : Option RightNumber) (routine : Option ℕ) (row : List ℕ)
     (first before after : List AsmItem)
-    → slice_get code j ≡ Some i → told ≡ told_at wanted known code j → telling ≡ told_at wanted known code (j + 1)
+    → slice_get code j ≡ Some i → told ≡ told_at wanted known code j → telling ≡ told_at wanted known code (suc j)
     → get_or known j None ≡ number → get_or routines j None ≡ routine → get_or kept j [] ≡ row
     → before ≡ first ++ written_code p home k wanted kept known routines code j
-    → after ≡ before ++ linked_code routine (λ l. called_code home l (slice_index wanted j) i)
+    → after ≡ before ++ linked_code (routine_used number i routine) (λ l. called_code home l (slice_index wanted j) i)
     (operation_code p home k told telling number (slice_index wanted j) (need_in row) i)
     → after ≡ first ++ written_code p home k wanted kept known routines code (j + 1)
 one_more p home k wanted kept known routines code j i told telling number routine row first before after is told_is telling_is number_is
     routine_is row_is start q =
-    let e : j + 1 ≡ suc j = omega arith in
-    let next : telling ≡ told_at wanted known code (suc j) = telling_is ∙ ap (told_at wanted known code) e in
     let here : operation_at p home k (told_at wanted known code j) (told_at wanted known code (suc j)) (get_or known j None)
     (get_or routines j None) (slice_index wanted j) (get_or kept j []) (slice_get code j)
-    ≡ linked_code routine (λ l. called_code home l (slice_index wanted j) i)
+    ≡ linked_code (routine_used number i routine) (λ l. called_code home l (slice_index wanted j) i)
     (operation_code p home k told telling number (slice_index wanted j) (need_in row) i) = rw
-    (told_is, next, is, row_is, number_is, routine_is) refl in
+    (told_is, telling_is, is, row_is, number_is, routine_is) refl in
     chain_more (λ j. operation_at p home k (told_at wanted known code j) (told_at wanted known code (suc j)) (get_or known j None)
     (get_or routines j None) (slice_index wanted j) (get_or kept j []) (slice_get code j)) j first before after start
     (q ∙ ap (λ l. before ++ l) (sym here))
@@ -207,11 +226,9 @@ item_there [] k x l q = absurd (omega arith)
 item_there (z ∷ xs) zero x l q = (let g : x ≡ z = q in ap Some (sym g))
 item_there (z ∷ xs) (suc k) x l q = item_there xs k x (omega arith) q
 
--- what an operation behind another one has been told
-pub told_here : (code : List PlainIr) (wanted : List ℕ) (known : List (Option RightNumber)) (k : ℕ) (i next : PlainIr) → 0 < k
-    → slice_get code (k - 1) ≡ Some i → slice_get code k ≡ Some next
-    → tells (get_or known (k - 1) None) i (Some next) (slice_index wanted k) ≡ told_at wanted known code k
-told_here code wanted known zero i next z p q = absurd (omega arith)
-told_here code wanted known (suc k) i next z p q = let e : suc k - 1 ≡ k = omega arith in
-    let here : slice_get code k ≡ Some i = subst (λ (j : ℕ). slice_get code j ≡ Some i) e p in
-    rw (here, q, e) refl
+-- what an operation tells the one behind it
+pub tells_here : (code : List PlainIr) (wanted : List ℕ) (known : List (Option RightNumber)) (k : ℕ) (told : Option Told) (i : PlainIr)
+    → slice_get code k ≡ Some i → told ≡ told_at wanted known code k
+    → tells (get_or known k None) told i (slice_get code (suc k)) (slice_get code (suc (suc k))) (slice_index wanted (suc k))
+    ≡ told_at wanted known code (suc k)
+tells_here code wanted known k told i p q = rw (p, q) refl

@@ -28,7 +28,6 @@ use Rattle.ec_core.specs.declared.expressions.UnOp.{UnOp}
 use Rattle.ec_core.specs.declared.expressions.UnOp.TheVariants.{Minus, Invert}
 use Rattle.ec_core.specs.Accesses.{element_size}
 use Rattle.ec_core.specs.Layout.{scalar_size}
-use Rattle.ec_core.specs.Operators.{same_kind}
 use Rattle.ec_core.specs.Plain.{PlainType, integer, fixed, PlainObject, PlainProgram}
 use Rattle.ec_ir.specs.declared.operations.Temp.{Temp}
 use Rattle.ec_ir.specs.Operations.{PlainIr, constant, copy, address, field, load_at, store_at, load_object}
@@ -44,6 +43,8 @@ pub use Rattle.ec_select_bytes.specs.Operators.{reversed_code}
 use Rattle.ec_select_places.specs.Conversions.{embed_code}
 use Rattle.ec_select_places.specs.Distances.{elements_code}
 use Rattle.ec_select_places.specs.Far.{advance_far_code}
+use Rattle.ec_select_places.specs.FarLaws.{extended}
+use Rattle.ec_select_places.specs.StepLaws.{index_of}
 use Rattle.ec_select_places.specs.Steps.{scale_index_code, advance_code, compared_bytes}
 use Rattle.ec_select_pointers.specs.Accesses.{load_data_code, load_flash_code, load_any_code, load_table_code}
 use Rattle.ec_select_pointers.specs.Accesses.{store_data_code}
@@ -73,9 +74,10 @@ use Rattle.ec_select_routines.specs.Codes.{call_with_one, call_with_two}
 use Rattle.ec_ir_known.specs.declared.known.RightNumber.{RightNumber}
 use Rattle.ec_select_operations.specs.Needs.{is_fixed, is_whole, number_taken, compared_bytes as bytes_compared}
 use Rattle.ec_select_operations.specs.Needs.{Need, nothing, wanted, wanted_result, without_result, either}
-use Rattle.ec_select_operations.specs.Needs.{Facts, facts_of, needs}
+use Rattle.ec_select_operations.specs.Needs.{Facts, facts_of, needs, takes_count}
+pub use Rattle.ec_select_operations.specs.Needs.{has_one_format, takes_place, is_placed}
 use Rattle.ec_select_operations.specs.Places.{object_location}
-use Rattle.ec_select_operations.specs.Pointers.{is_pointer, is_into_data, home_of, kept_in, tag_in}
+use Rattle.ec_select_operations.specs.Pointers.{is_pointer, is_into_data, home_of, kept_in, tag_in, has_tables}
 use Rattle.ec_select_operations.specs.Ports.{in_code, out_code, cell_place, cell_in_code, cell_out_code}
 
 abbrev pub same_location : Location → Location → Bool
@@ -130,11 +132,6 @@ abbrev pub is_signed : PlainType → Bool
 is_signed (integer signed bytes) = signed
 is_signed (fixed kind saturates) = (format_of kind).signed
 is_signed ty = false
-
--- two fixed-point types whose numbers have equal formats
-abbrev pub has_one_format : (aty bty : PlainType) → Bool
-has_one_format (fixed k s) (fixed j t) = same_kind k j
-has_one_format aty bty = false
 
 -- and those with as many bits behind the point
 abbrev pub has_one_fraction : (ty aty : PlainType) → Bool
@@ -241,14 +238,34 @@ abbrev pub compared_signed : (taken : Option RightNumber) → (signed : Bool) �
 compared_signed None signed = signed
 compared_signed (Some n) signed = if n.in_byte then false else signed
 
--- what an operation, whose second operand may be known to hold a number, tells the next one by a flag, in place of its
--- result
-abbrev pub tells : (known : Option RightNumber) → PlainIr → (next : Option PlainIr) → (needed : ℕ) → Option Told
-tells known (binary_op op ty mode to a aty b bty) next needed =
+-- the next operation is a jump, and the one behind it is the label of a branch that stands over it
+abbrev pub is_over_jump : (l : ℕ) → (next behind : Option PlainIr) → Bool
+is_over_jump l (Some (jump k)) (Some (label j)) = j == l
+is_over_jump l next behind = false
+
+-- the relation that holds where another one does not
+abbrev pub opposite : Relation → Relation
+opposite Less = NotLess
+opposite NotLess = Less
+opposite Equal = NotEqual
+opposite NotEqual = Equal
+
+-- what a branch over a jump, which has been told so much or tests a number, tells the jump: like a branch, the jump is made
+-- where operands do not stand so
+abbrev pub turned : Option Told → Told
+turned None = record { relation = Equal; signed = false }
+turned (Some told) = record { relation = opposite told.relation; signed = told.signed }
+
+-- what an operation, whose second operand may be known to hold a number, and which has been told so much, tells the next one
+-- by a flag: a comparison in place of its result, and a branch over a jump in place of the branch
+abbrev pub tells : (known : Option RightNumber) → (told : Option Told) → PlainIr → (next behind : Option PlainIr) → (needed : ℕ)
+    → Option Told
+tells known told (binary_op op ty mode to a aty b bty) next behind needed =
     if is_only_tested to next needed
     then told_by (is_apart (family_of op) mode ty aty bty) (family_of op)
     (compared_signed (number_taken known (is_whole aty || is_whole bty) op) (is_signed aty)) else None
-tells known i next needed = None
+tells known told (branch_zero t l) next behind needed = if is_over_jump l next behind then Some (turned told) else None
+tells known told i next behind needed = None
 
 -- the comparison alone
 abbrev pub flag_code : Family → (a b : Location) → (bytes : ℕ) → List AsmItem
@@ -275,15 +292,21 @@ changed_by_code BitXor to number n = []
 abbrev pub counted_code : Direction → (a to : Location) → (n k : ℕ) → List AsmItem
 counted_code s a to n k = move_code a to n ++ turned_by_code s to n k
 
+-- to the right so many bytes are, with a sign or without, and where more are needed these become 0
+abbrev pub counted_by_code : (left signed : Bool) → (a to : Location) → (bytes n k : ℕ) → List AsmItem
+counted_by_code true signed a to bytes n k = counted_code Left a to n k
+counted_by_code false signed a to bytes n k = counted_code (Right signed) a to bytes k ++ extend_code false to bytes n
+
 -- the first operand is brought to the result's place, and changed or shifted there. A truth value needs the number at the
--- place of the second operand, and all its bytes are put there first; so many of them are compared, with signs or without
+-- place of the second operand, and all its bytes are put there first; so many of them are compared, or shifted to the
+-- right, with signs or without
 abbrev pub by_number_code : Family → (left signed : Bool) → (a b to : Location) → (bytes compared number n : ℕ) → List AsmItem
 by_number_code (Combined op) left signed a b to bytes compared number n =
     move_code a to n ++ changed_by_code op to number n
 by_number_code (Compared r exchanged) left signed a b to bytes compared number n =
     if n == 0 then [] else constant_code b number bytes ++ compared_code r signed a b to compared n
 by_number_code (Shifted up) left signed a b to bytes compared number n =
-    if n == 0 then [] else counted_code (shift_of up left) a to (shifted_bytes up bytes n) (number % 256)
+    if n == 0 then [] else counted_by_code up signed a to compared n (number % 256)
 by_number_code f left signed a b to bytes compared number n = []
 
 -- where the second operand is taken as a number, in two's complement of 16 bytes
@@ -301,10 +324,18 @@ abbrev pub integer_binary : (known : Option RightNumber) → (telling : Option T
 integer_binary known telling op left right a b to bytes n =
     taking_code (number_taken known false op) telling (family_of op) left right a b to bytes n
 
--- it branches where the operands of the comparison before it do not stand so, or where a number is 0
-abbrev pub tested_code : Option Told → Location → (bytes l : ℕ) → List AsmItem
-tested_code None p bytes l = branch_code p bytes l
-tested_code (Some told) p bytes l = unless_code told.relation told.signed l
+-- it branches where the operands of the comparison before it do not stand so, or where a number of so many bytes is 0. Where
+-- it tells a jump of this, it does not branch
+abbrev pub tested_code : (told telling : Option Told) → Location → (bytes l : ℕ) → List AsmItem
+tested_code None None p bytes l = branch_code p bytes l
+tested_code None (Some behind) p bytes l = test_code p bytes
+tested_code (Some told) None p bytes l = unless_code told.relation told.signed l
+tested_code (Some told) (Some behind) p bytes l = []
+
+-- it jumps, or where the branch before it told it something, only where operands do not stand so
+abbrev pub jump_code : Option Told → (l : ℕ) → List AsmItem
+jump_code None l = JumpTo l ∷ []
+jump_code (Some told) l = unless_code told.relation told.signed l
 
 -- ---- calls
 
@@ -397,18 +428,6 @@ by_kind false own others = others
 abbrev pub is_difference : BinOp → Bool
 is_difference Sub = true
 is_difference op = false
-
--- an operator whose result has the format of the first operand, and is computed in its place: a sum or a difference in the
--- one format of both operands that saturates, a shift to the left that does not, and any shift to the right
-abbrev pub takes_place : BinOp → Mode → (in_one_format : Bool) → Bool
-takes_place Add mode one = one && mode.saturate
-takes_place Sub mode one = one && mode.saturate
-takes_place Shl mode one = not mode.saturate
-takes_place Shr mode one = true
-takes_place op mode one = false
-
-abbrev pub is_placed : BinOp → Mode → (ty aty bty : PlainType) → Bool
-is_placed op mode ty aty bty = has_one_format ty aty && takes_place op mode (has_one_format aty bty)
 
 -- the first operand is brought to the result's place, and all its bytes, which are top + 1, are combined there with those
 -- of the second one; the result is stopped at the ends of its range
@@ -516,12 +535,17 @@ addressed_code core p o offset to bytes n =
 abbrev pub member_code : Core → (bytes : ℕ) → Location → (offset : ℕ) → List AsmItem
 member_code core bytes ptr offset = if is_far core bytes then field_far_code ptr offset else field_code ptr offset
 
+-- n bytes from the bank that a pointer tells. Where no object stands in flash it is the data bank
+abbrev pub load_either_code : Core → (tables : Bool) → (p to : Location) → ℕ → List AsmItem
+load_either_code core true p to n = by_core core (load_any_code p to n) (load_any_far_code p to n)
+load_either_code core false p to n = load_data_code p to n
+
 -- n bytes through a pointer into a space, which stands at p
-abbrev pub load_code : Core → SpaceId → (p to : Location) → ℕ → List AsmItem
-load_code core Flash p to n = load_flash_code p to n
-load_code core FarFlash p to n = by_core core (load_flash_code p to n) (load_far_code p to n)
-load_code core Data p to n = load_data_code p to n
-load_code core Generic p to n = by_core core (load_any_code p to n) (load_any_far_code p to n)
+abbrev pub load_code : Core → (tables : Bool) → SpaceId → (p to : Location) → ℕ → List AsmItem
+load_code core tables Flash p to n = load_flash_code p to n
+load_code core tables FarFlash p to n = by_core core (load_flash_code p to n) (load_far_code p to n)
+load_code core tables Data p to n = load_data_code p to n
+load_code core tables Generic p to n = load_either_code core tables p to n
 
 -- n bytes of an object with a home, from an offset on
 abbrev pub banked_code : Core → Home → List PlainObject → (o offset : ℕ) → (to : Location) → ℕ → List AsmItem
@@ -543,6 +567,34 @@ offset_code core minus signed from index to bytes index_bytes size n =
     else scale_index_code index signed index_bytes (size % 65536)
     ++ (move_code from to bytes ++ moved_code core bytes minus to)
 
+-- The bytes of so many elements, modulo 65,536: an index of so many bytes is known to hold a number
+abbrev pub known_index : (signed : Bool) → (index_bytes number : ℕ) → ℕ
+known_index signed index_bytes number =
+    if index_bytes == 1 then index_of signed 1 (number % 256) else number % 65536
+
+abbrev pub known_bytes : (signed : Bool) → (index_bytes number size : ℕ) → ℕ
+known_bytes signed index_bytes number size = known_index signed index_bytes number * (size % 65536) % 65536
+
+-- by their sign, or what is missing from them to 2 to the power of 24
+abbrev pub known_offset : (minus : Bool) → (bytes : ℕ) → ℕ
+known_offset minus bytes = if minus then 16777216 - extended bytes else extended bytes
+
+-- the pointer is brought to the result's place, and moved there as to a member at that offset
+abbrev pub known_offset_code : Core → (minus signed : Bool) → (from to : Location) → (bytes index_bytes number size n : ℕ)
+    → List AsmItem
+known_offset_code core minus signed from to bytes index_bytes number size n =
+    if n == 0 then []
+    else move_code from to bytes
+    ++ member_code core bytes to (known_offset minus (known_bytes signed index_bytes number size))
+
+-- a pointer so many elements further, or back, where their number may be known
+abbrev pub offset_by : (known : Option RightNumber) → Core → (minus signed : Bool) → (from index to : Location)
+    → (bytes index_bytes size n : ℕ) → List AsmItem
+offset_by None core minus signed from index to bytes index_bytes size n =
+    offset_code core minus signed from index to bytes index_bytes size n
+offset_by (Some k) core minus signed from index to bytes index_bytes size n =
+    known_offset_code core minus signed from to bytes index_bytes (low_bytes 16 k.number) size n
+
 -- the elements of so many bytes between two pointers
 abbrev pub difference_code : (a b to : Location) → (size n : ℕ) → List AsmItem
 difference_code a b to size n = if n == 0 then [] else elements_code a b to size
@@ -562,16 +614,16 @@ pointers_code core (Compared r true) a b to bytes size n =
     compared_code r false b a to (related_bytes core r bytes) n
 pointers_code core f a b to bytes size n = []
 
--- two pointers, or a pointer and a number of elements, in either order
-abbrev pub pointer_binary : Core → (left right : Bool) → PlainProgram → BinOp → (aty bty : PlainType)
+-- two pointers, or a pointer and a number of elements, in either order. The second operand may be known to hold a number
+abbrev pub pointer_binary : (known : Option RightNumber) → Core → (left right : Bool) → PlainProgram → BinOp → (aty bty : PlainType)
     → (a b to : Location) → (bytes index_bytes n : ℕ) → List AsmItem
-pointer_binary core true true p op aty bty a b to m k n =
+pointer_binary known core true true p op aty bty a b to m k n =
     pointers_code core (family_of op) a b to m (element_size p aty) n
-pointer_binary core true false p op aty bty a b to m k n =
-    offset_code core (is_difference op) (is_signed bty) a b to m k (element_size p aty) n
-pointer_binary core false true p op aty bty a b to m k n =
+pointer_binary known core true false p op aty bty a b to m k n =
+    offset_by known core (is_difference op) (is_signed bty) a b to m k (element_size p aty) n
+pointer_binary known core false true p op aty bty a b to m k n =
     offset_code core false (is_signed aty) b a to k m (element_size p bty) n
-pointer_binary core false false p op aty bty a b to m k n = []
+pointer_binary known core false false p op aty bty a b to m k n = []
 
 -- a pointer of two bytes gets a third one, which tells its bank, and one of three bytes loses it
 abbrev pub pointer_conversion : PlainType → (from to : Location) → (from_bytes to_bytes n : ℕ) → List AsmItem
@@ -592,7 +644,7 @@ operation_code p home k told telling known bytes kept (address t o offset) =
 operation_code p home k told telling known bytes kept (field ptr space offset) =
     member_code k.core ptr.bytes (home ptr) offset
 operation_code p home k told telling known bytes kept (load_at to ptr space) =
-    load_code k.core space (home ptr) (home to) to.bytes
+    load_code k.core (has_tables p.objects) space (home ptr) (home to) to.bytes
 operation_code p home k told telling known bytes kept (store_at ptr space from) =
     store_data_code (home from) (home ptr) from.bytes
 operation_code p home k told telling known bytes kept (load_object t o offset) =
@@ -603,7 +655,7 @@ operation_code p home k told telling known bytes kept (binary_op op ty mode to a
     by_kind (is_fixed aty || is_fixed bty)
     (fixed_binary known telling op ty aty bty mode (home a) (home b) (home to) a.bytes bytes)
     (by_kind (is_pointer aty || is_pointer bty)
-    (pointer_binary k.core (is_pointer aty) (is_pointer bty) p op aty bty (home a) (home b) (home to) a.bytes b.bytes
+    (pointer_binary known k.core (is_pointer aty) (is_pointer bty) p op aty bty (home a) (home b) (home to) a.bytes b.bytes
     bytes)
     (integer_binary known telling op (is_signed aty) (is_signed bty) (home a) (home b) (home to) a.bytes bytes))
 operation_code p home k told telling known bytes kept (unary_op op ty mode to a) =
@@ -613,9 +665,9 @@ operation_code p home k told telling known bytes kept (conversion to ty mode a a
     (by_kind (is_pointer aty) (pointer_conversion aty (home a) (home to) a.bytes to.bytes bytes)
     (conversion_code (is_signed aty) (home a) (home to) a.bytes bytes))
 operation_code p home k told telling known bytes kept (label l) = Label (k.label_of l) ∷ []
-operation_code p home k told telling known bytes kept (jump l) = JumpTo (k.label_of l) ∷ []
+operation_code p home k told telling known bytes kept (jump l) = jump_code told (k.label_of l)
 operation_code p home k told telling known bytes kept (branch_zero t l) =
-    tested_code told (home t) t.bytes (k.label_of l)
+    tested_code told telling (home t) (bytes_compared known t.bytes) (k.label_of l)
 operation_code p home k told telling known bytes kept (call_function f to) = call_code home k f to bytes kept
 operation_code p home k told telling known bytes kept (return_from from) = return_code home k.is_main from
 operation_code p home k told telling known bytes kept (port_in to port index width) =
@@ -677,23 +729,28 @@ abbrev pub linked_code : (routine : Option ℕ) → (called : ℕ → List AsmIt
 linked_code None called own = own
 linked_code (Some l) called own = called l
 
+-- a shift that takes a known count calls none
+abbrev pub routine_used : (known : Option RightNumber) → PlainIr → (routine : Option ℕ) → Option ℕ
+routine_used known i routine = if takes_count known i then None else routine
+
 -- an operation, where so much is needed after it
 abbrev pub op_code : PlainProgram → (Temp → Location) → Linkage → (told telling : Option Told) → Option RightNumber → Need
     → PlainIr → List AsmItem
 op_code p home k told telling known need i =
-    linked_code (k.routine_of i) (λ l. called_code home l (result_wanted need i) i)
+    linked_code (routine_used known i (k.routine_of i)) (λ l. called_code home l (result_wanted need i) i)
     (own_code p home k told telling known need i)
 
--- what an operation tells those behind it
-abbrev pub tells_next : Facts → PlainIr → List PlainIr → Option Told
-tells_next at i code = tells (at.known (i ∷ code)) i (slice_get code 0) (slice_index (wanted_bytes at code) 0)
+-- what an operation that has been told so much tells those behind it
+abbrev pub tells_next : Facts → (told : Option Told) → PlainIr → List PlainIr → Option Told
+tells_next at told i code =
+    tells (at.known (i ∷ code)) told i (slice_get code 0) (slice_get code 1) (slice_index (wanted_bytes at code) 0)
 
 abbrev pub ops_code : PlainProgram → (Temp → Location) → Linkage → Facts → (told : Option Told)
     → List PlainIr → List AsmItem
 ops_code p home k at told [] = []
 ops_code p home k at told (i ∷ code) =
-    op_code p home k told (tells_next at i code) (at.known (i ∷ code)) (needs at code) i
-    ++ ops_code p home k at (tells_next at i code) code
+    op_code p home k told (tells_next at told i code) (at.known (i ∷ code)) (needs at code) i
+    ++ ops_code p home k at (tells_next at told i code) code
 
 -- the code of a function, which begins with its label, where a table tells what is needed at its own labels
 abbrev pub function_code : PlainProgram → Linkage → (f : ℕ) → (ℕ → Need) → List PlainIr → List AsmItem

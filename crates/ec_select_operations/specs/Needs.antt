@@ -2,8 +2,10 @@
 use Rattle.std.specs.Prelude.{ℕ, zero, suc, ◌≤◌, ◌==◌, ⊤, Bool, true, false, ◌||◌, ◌&&◌, not, if◌then◌else◌, min, max, List, []}
 use Rattle.std.specs.Prelude.{◌∷◌}
 use Rattle.std.specs.Prelude.{Option, Some, None}
+use Rattle.ec_fx.specs.declared.numbers.Mode.{Mode}
 use Rattle.ec_core.specs.declared.expressions.BinOp.{BinOp}
 use Rattle.ec_core.specs.declared.expressions.BinOp.TheVariants.{Add, Sub, And, Or, Xor, Shl, Shr, Lt, Ge, Eq, Ne}
+use Rattle.ec_core.specs.Operators.{same_kind}
 use Rattle.ec_core.specs.Plain.{PlainType, fixed, pointer}
 use Rattle.ec_ir.specs.declared.operations.Temp.{Temp}
 use Rattle.ec_ir.specs.Operations.{PlainIr, constant, copy, address, field, load_at, store_at, load_object}
@@ -11,6 +13,7 @@ use Rattle.ec_ir.specs.Operations.{store_object, binary_op, unary_op, conversion
 use Rattle.ec_ir.specs.Operations.{call_function, return_from, port_in, port_out, load_cell, store_cell, cell_port}
 use Rattle.ec_ir_known.specs.declared.known.RightNumber.{RightNumber}
 use Rattle.ec_ir_known.specs.Known.{known_at, right_number}
+use Rattle.ec_select_operations.specs.Pointers.{is_pointer}
 
 -- for each place the number of its low bytes that are needed
 abbrev pub Need : Type 0
@@ -117,22 +120,75 @@ takes_number Shl = true
 takes_number Shr = true
 takes_number op = false
 
--- the number that an operator takes, where its second operand is known to hold one: none of operands that are fixed-point
--- numbers or pointers
+-- the number that an operator on integers takes, where its second operand is known to hold one: none of operands that are
+-- fixed-point numbers or pointers
 abbrev pub number_taken : (known : Option RightNumber) → (whole : Bool) → BinOp → Option RightNumber
 number_taken None whole op = None
 number_taken (Some n) whole op = if not whole && takes_number op then Some n else None
 
--- how many bytes of the first operand, which has so many, are compared: one where both operands are below 256
+-- a pointer plus or less a number of elements
+abbrev pub is_sum_or_difference : BinOp → Bool
+is_sum_or_difference Add = true
+is_sum_or_difference Sub = true
+is_sum_or_difference op = false
+
+abbrev pub moves_pointer : BinOp → (aty bty : PlainType) → Bool
+moves_pointer op aty bty = is_pointer aty && (not (is_whole bty) && is_sum_or_difference op)
+
+-- how many bytes of the first operand, which has so many, are compared or shifted to the right: one where both operands
+-- are below 256
 abbrev pub compared_bytes : (taken : Option RightNumber) → (bytes : ℕ) → ℕ
 compared_bytes None bytes = bytes
 compared_bytes (Some n) bytes = if n.in_byte then min 1 bytes else bytes
 
--- and how many take part, of which a shift to the right takes all
+-- and how many take part
 abbrev pub first_bytes : (taken : Option RightNumber) → BinOp → (bytes : ℕ) → ℕ
-first_bytes None op bytes = bytes
-first_bytes (Some n) Shr bytes = bytes
-first_bytes (Some n) op bytes = compared_bytes (Some n) bytes
+first_bytes taken op bytes = compared_bytes taken bytes
+
+-- two fixed-point types whose numbers have equal formats
+abbrev pub has_one_format : (aty bty : PlainType) → Bool
+has_one_format (fixed k s) (fixed j t) = same_kind k j
+has_one_format aty bty = false
+
+-- an operator whose result has the format of the first operand, and is computed in its place: a sum or a difference in the
+-- one format of both operands that saturates, a shift to the left that does not, and any shift to the right
+abbrev pub takes_place : BinOp → Mode → (in_one_format : Bool) → Bool
+takes_place Add mode one = one && mode.saturate
+takes_place Sub mode one = one && mode.saturate
+takes_place Shl mode one = not mode.saturate
+takes_place Shr mode one = true
+takes_place op mode one = false
+
+abbrev pub is_placed : BinOp → Mode → (ty aty bty : PlainType) → Bool
+is_placed op mode ty aty bty = has_one_format ty aty && takes_place op mode (has_one_format aty bty)
+
+abbrev pub is_shift : BinOp → Bool
+is_shift Shl = true
+is_shift Shr = true
+is_shift op = false
+
+-- a fixed-point number is shifted in the place of the result, and its count is at another place
+abbrev pub is_counted : BinOp → Mode → (ty aty bty : PlainType) → (to b : Temp) → Bool
+is_counted op mode ty aty bty to b = (is_shift op && is_placed op mode ty aty bty) && not (b.at == to.at)
+
+-- it takes a count that is known
+abbrev pub count_taken : (known : Option RightNumber) → (counted : Bool) → Bool
+count_taken None counted = false
+count_taken (Some n) counted = counted
+
+-- whether an operation, whose second operand may be known to hold a number, does so
+abbrev pub takes_count : (known : Option RightNumber) → PlainIr → Bool
+takes_count known (binary_op op ty mode to a aty b bty) = count_taken known (is_counted op mode ty aty bty to b)
+takes_count known i = false
+
+-- an operator with a fixed-point type or a pointer that takes a number in place of its second operand
+abbrev pub takes_whole : BinOp → Mode → (ty aty bty : PlainType) → (to b : Temp) → Bool
+takes_whole op mode ty aty bty to b = moves_pointer op aty bty || is_counted op mode ty aty bty to b
+
+-- the number that any operator takes in place of its second operand
+abbrev pub right_taken : (known : Option RightNumber) → (takes whole : Bool) → BinOp → Option RightNumber
+right_taken None takes whole op = None
+right_taken (Some n) takes whole op = if takes then Some n else number_taken (Some n) whole op
 
 -- of a second operand that is taken as a number nothing is needed
 abbrev pub right_needed : Option RightNumber → (at bytes : ℕ) → Need → Need
@@ -141,8 +197,8 @@ right_needed (Some n) at bytes need = need
 
 -- ---- operations
 
--- what is needed before an operation, whose second operand may be known to hold a number. `at` tells what is needed at
--- each label, and `need` what is after the operation
+-- what is needed before an operation, whose second operand may be known to hold a number; a branch tests against 0. `at`
+-- tells what is needed at each label, and `need` what is after the operation
 abbrev pub before : (ℕ → Need) → Option RightNumber → PlainIr → Need → Need
 before at n (constant t k) need = without t.at need
 before at n (copy to from) need = at_least from.at (wanted need to) (without to.at need)
@@ -156,7 +212,7 @@ before at n (binary_op op ty mode to a aty b bty) need =
     at_least a.at
     (first_wanted (is_whole aty || is_whole bty) op
     (first_bytes (number_taken n (is_whole aty || is_whole bty) op) op a.bytes) (wanted need to))
-    (right_needed (number_taken n (is_whole aty || is_whole bty) op) b.at
+    (right_needed (right_taken n (takes_whole op mode ty aty bty to b) (is_whole aty || is_whole bty) op) b.at
     (second_wanted (is_whole aty || is_whole bty) op b.bytes (wanted need to)) (without to.at need))
 before at n (unary_op op ty mode to a) need =
     at_least a.at (only_wanted (is_whole ty) a.bytes (wanted need to)) (without to.at need)
@@ -164,7 +220,7 @@ before at n (conversion to ty mode a aty) need =
     at_least a.at (only_wanted (is_whole ty || is_whole aty) a.bytes (wanted need to)) (without to.at need)
 before at n (label l) need = at l
 before at n (jump l) need = at l
-before at n (branch_zero t l) need = at_least t.at t.bytes (either need (at l))
+before at n (branch_zero t l) need = at_least t.at (compared_bytes n t.bytes) (either need (at l))
 before at n (call_function f to) need = without_result to need
 before at n (return_from from) need = returned_need from
 before at n (port_in to port index width) need = index_needed index (without to.at need)

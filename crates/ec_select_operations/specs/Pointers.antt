@@ -1,12 +1,13 @@
 -- Pointers as bytes: the address of a place, the low byte first, and in a pointer of three bytes the tag of the bank
 -- from the third byte on. Null is 0.
 use Rattle.std.specs.Prelude.{◌≡◌, ◌⊎◌, ℕ, ◌+◌, ◌*◌, ◌%◌, ◌≤◌, ◌==◌, Bool, true, false, if◌then◌else◌}
-use Rattle.std.specs.Prelude.{Option, Some, None}
+use Rattle.std.specs.Prelude.{List, Option, Some, None}
 use Rattle.std.specs.Prelude.{option_map, unwrap_or, slice_get}
+use Rattle.std.specs.List.{list_any}
 use Rattle.ec_space.specs.declared.space.Bank.{Bank}
 use Rattle.ec_space.specs.declared.space.Bank.TheVariants.{Flash as FlashBank, Data as DataBank}
 use Rattle.ec_space.specs.declared.space.Home.{Home}
-use Rattle.ec_space.specs.declared.space.Home.TheVariants.{Data as DataHome}
+use Rattle.ec_space.specs.declared.space.Home.TheVariants.{Flash as FlashHome, Far as FarHome, Data as DataHome}
 use Rattle.ec_space.specs.declared.space.SpaceId.TheVariants.{Data}
 use Rattle.ec_space.specs.Spaces.{bank_of}
 use Rattle.ec_core.specs.declared.values.ObjectPointer.{ObjectPointer}
@@ -36,6 +37,16 @@ IsPointerSize bytes = (bytes ≡ 2) ⊎ (bytes ≡ 3)
 -- the home of an object
 abbrev pub kept_in : PlainProgram → ℕ → Home
 kept_in p o = unwrap_or (option_map (λ d. d.home) (slice_get p.objects o)) DataHome
+
+-- objects of a home are kept in the flash bank
+abbrev pub is_table : Home → Bool
+is_table FlashHome = true
+is_table FarHome = true
+is_table DataHome = false
+
+-- some object is kept in the flash bank
+abbrev pub has_tables : List PlainObject → Bool
+has_tables objects = list_any (λ d. is_table d.home) objects
 
 -- the bank where an object is kept
 abbrev pub home_of : PlainProgram → ℕ → Bank

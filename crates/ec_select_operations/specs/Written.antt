@@ -13,7 +13,7 @@ use Rattle.ec_ir_known.specs.Known.{right_numbers}
 use Rattle.ec_select_operations.specs.declared.calls.Linking.{Linking}
 use Rattle.ec_select_operations.specs.declared.families.Told.{Told}
 use Rattle.ec_select_operations.specs.Code.{Linkage, register_places, operation_code, tells, wanted_bytes, ops_code}
-use Rattle.ec_select_operations.specs.Code.{function_code, called_code, linked_code}
+use Rattle.ec_select_operations.specs.Code.{function_code, called_code, linked_code, routine_used}
 use Rattle.ec_select_operations.specs.Emitted.{CanBeLinked}
 use Rattle.ec_select_operations.specs.Homes.{home}
 use Rattle.ec_select_operations.specs.Needs.{Need, without_result, Facts, facts_of, needs}
@@ -27,7 +27,9 @@ abbrev pub told_from : (first : Option Told) → (wanted : List ℕ) → (known 
     → ℕ → Option Told
 told_from first wanted known code zero = first
 told_from first wanted known code (suc j) =
-    option_and_then (λ i. tells (get_or known j None) i (slice_get code (suc j)) (slice_index wanted (suc j)))
+    option_and_then
+    (λ i. tells (get_or known j None) (told_from first wanted known code j) i (slice_get code (suc j)) (slice_get code (suc (suc j)))
+    (slice_index wanted (suc j)))
     (slice_get code j)
 
 -- no operation stands before the first one
@@ -39,7 +41,8 @@ abbrev pub operation_at : PlainProgram → (Temp → Location) → Linkage → (
     → (known : Option RightNumber) → (routine : Option ℕ) → (wanted : ℕ) → (row : List ℕ) → Option PlainIr → List AsmItem
 operation_at p home k told telling known routine wanted row None = []
 operation_at p home k told telling known routine wanted row (Some i) =
-    linked_code routine (λ l. called_code home l wanted i) (operation_code p home k told telling known wanted (need_in row) i)
+    linked_code (routine_used known i routine) (λ l. called_code home l wanted i)
+    (operation_code p home k told telling known wanted (need_in row) i)
 
 -- the code of the first n operations: `wanted` has for each the bytes that are needed behind it, `kept` what a call
 -- keeps, `known` the number that the second operand is known to hold, and `routines` the label of the routine that is
@@ -56,10 +59,11 @@ abbrev pub written_function : PlainProgram → Linkage → (f : ℕ) → (wanted
 written_function p k f wanted kept known routines code =
     Label (k.entry_of f) ∷ written_code p (home k.homes) k wanted kept known routines code (length code)
 
-abbrev pub CanBeWritten : PlainProgram → Linking → List ℕ → (routines : List (Option ℕ)) → List PlainIr → Type 0
-CanBeWritten p k wanted routines code =
+abbrev pub CanBeWritten : PlainProgram → Linking → List ℕ → (known : List (Option RightNumber)) → (routines : List (Option ℕ))
+    → List PlainIr → Type 0
+CanBeWritten p k wanted known routines code =
     (j : ℕ) (i : PlainIr) → slice_get code j ≡ Some i
-    → CanBeLinked (get_or routines j None) p k (slice_index wanted j) i
+    → CanBeLinked (routine_used (get_or known j None) i (get_or routines j None)) p k (slice_index wanted j) i
 
 -- what is needed of so many places, from a first one on
 abbrev pub row_from : (count place : ℕ) → Need → List ℕ

@@ -7,6 +7,7 @@ ghost use Rattle.ec_select_operations.specs.Code.{combined_code, conversion_code
 ghost use Rattle.ec_select_operations.specs.Code.{shift_of, turned_code, counted_code, shifted_code, long_code, divided_code};
 ghost use Rattle.ec_select_operations.specs.Emitted.{BinaryHasBytes};
 ghost use Rattle.ec_select_operations.specs.Code.{told_by, branch_code, told_of, flag_code, operator_code, tested_code};
+ghost use Rattle.ec_select_operations.specs.Code.{opposite, turned, jump_code};
 ghost use Rattle.ec_select_operations.specs.Homes.{home};
 
 use crate::homes::{Homes, home};
@@ -14,7 +15,7 @@ use crate::transfers::transfer;
 use ec_asm::{AsmItem, Location, Operator, compare, operate};
 use ec_core::{BinOp, UnOp};
 use ec_ir::Temp;
-use ec_select_bytes::{combine_before, complement, extend, negate, test};
+use ec_select_bytes::{combine_before, complement, extend, jump, negate, test};
 use ec_select_order::{Relation, branch_unless, relate};
 use ec_select_products::{Factor, multiply};
 use ec_select_quotients::{Division, quotient};
@@ -522,21 +523,66 @@ pub fn operator(
     }
 }
 
+/// The relation that holds where another one does not.
+fn opposite(relation: Relation) -> Relation
+    ensures { result ≡ opposite relation }
+{
+    match relation {
+        Relation::Less => Relation::NotLess,
+        Relation::NotLess => Relation::Less,
+        Relation::Equal => Relation::NotEqual,
+        Relation::NotEqual => Relation::Equal,
+    }
+}
+
+/// What a branch over a jump, which has been told so much or tests a number, tells the jump: like a branch, the jump is
+/// made where operands do not stand so.
+pub(crate) fn turned(told: Option<Told>) -> Told
+    ensures { result ≡ turned told }
+{
+    match told {
+        Some(t) => Told {
+            relation: opposite(t.relation),
+            signed: t.signed,
+        },
+        None => Told {
+            relation: Relation::Equal,
+            signed: false,
+        },
+    }
+}
+
 /// Appends code that jumps to a label: where the operands of the comparison before it do not stand so, or where all
-/// bytes of a number are 0. Where memory runs out, a part of the code is appended.
+/// bytes of a number are 0. Where it tells a jump of this, the code only tests the number. Where memory runs out, a part
+/// of the code is appended.
 pub fn branch_on(
     out: &mut Seq<AsmItem>,
     told: Option<Told>,
+    telling: Option<Told>,
     at: Location,
     bytes: u8,
     label: u64,
 ) -> Result<(), NoMemory>
     requires { HasBytes at bytes }
-    ensures ok { OnOk result (out.new.items ≡ out.old.items ++ tested_code told at bytes label) }
+    ensures ok { OnOk result (out.new.items ≡ out.old.items ++ tested_code told telling at bytes label) }
+    ensures err { OnErr result (BeginWith out.old.items out.new.items) }
+{
+    match (told, telling) {
+        (None, None) => branch(out, at, bytes, label),
+        (None, Some(_)) => test(out, at, bytes),
+        (Some(t), None) => branch_unless(out, t.relation, t.signed, label),
+        (Some(_), Some(_)) => Ok(()),
+    }
+}
+
+/// Appends a jump to a label, or where the branch before it told it something, one that is made only where operands do
+/// not stand so. Where memory runs out, nothing is appended.
+pub fn jump_on(out: &mut Seq<AsmItem>, told: Option<Told>, label: u64) -> Result<(), NoMemory>
+    ensures ok { OnOk result (out.new.items ≡ out.old.items ++ jump_code told label) }
     ensures err { OnErr result (BeginWith out.old.items out.new.items) }
 {
     match told {
+        None => jump(out, label),
         Some(t) => branch_unless(out, t.relation, t.signed, label),
-        None => branch(out, at, bytes, label),
     }
 }

@@ -11,7 +11,8 @@ ghost use Rattle.ec_core.specs.Layout.{scalar_size};
 ghost use Rattle.ec_core.specs.Plain.{plain_type};
 ghost use Rattle.ec_fxcode_formats.specs.Brought.{can_bring};
 ghost use Rattle.ec_select_fixed.specs.Types.{format_in};
-ghost use Rattle.ec_select_operations.specs.Needs.{is_fixed};
+ghost use Rattle.ec_ir.specs.Operations.{plain_ir};
+ghost use Rattle.ec_select_operations.specs.Needs.{is_fixed, is_shift, is_counted, takes_count};
 ghost use Rattle.ec_select_operations.specs.Code.{takes_place, is_placed, stopped_code, placed_shift, placed_whole};
 ghost use Rattle.ec_select_operations.specs.Code.{move_code, placed_binary};
 ghost use Rattle.ec_select_operations.specs.Emitted.{second_bytes};
@@ -34,7 +35,7 @@ use ec_fx::Mode;
 use ec_fxcode_formats::{Digits, bring, can_bring};
 use ec_fxcode_limits::limit;
 use ec_fxcode_placed::{shift_in_place, shift_in_place_by};
-use ec_ir::{Temp, scalar_size};
+use ec_ir::{Ir, Temp, scalar_size};
 use ec_ir_known::RightNumber;
 use ec_select_bytes::constant;
 use ec_select_fixed::Places;
@@ -104,6 +105,46 @@ fn is_placed(op: BinOp, mode: Mode, ty: &CType, aty: &CType, bty: &CType) -> boo
     ensures { result ≡ is_placed op mode (plain_type ty.now) (plain_type aty.now) (plain_type bty.now) }
 {
     has_one_format(ty, aty) && takes_place(op, mode, has_one_format(aty, bty))
+}
+
+fn is_shift(op: BinOp) -> bool
+    ensures { result ≡ is_shift op }
+{
+    matches!(op, BinOp::Shl | BinOp::Shr)
+}
+
+/// Whether a fixed-point number is shifted in the place of the result, and its count is at another place.
+pub fn is_counted(
+    op: BinOp,
+    mode: Mode,
+    ty: &CType,
+    aty: &CType,
+    bty: &CType,
+    to: Temp,
+    b: Temp,
+) -> bool
+    ensures { result ≡ is_counted op mode (plain_type ty.now) (plain_type aty.now) (plain_type bty.now) to b }
+{
+    is_shift(op) && is_placed(op, mode, ty, aty, bty) && b.at != to.at
+}
+
+/// Whether an operation, whose second operand may be known to hold a number, takes it as the count of such a shift.
+pub fn takes_count(known: Option<RightNumber>, i: &Ir) -> bool
+    ensures { result ≡ takes_count known (plain_ir i.now) }
+{
+    match i {
+        Ir::Bin {
+            op,
+            ty,
+            mode,
+            to,
+            aty,
+            b,
+            bty,
+            ..
+        } => known.is_some() && is_counted(*op, *mode, ty, aty, bty, *to, *b),
+        _ => false,
+    }
 }
 
 /// Where two operands stand, and whether the first one has a sign.

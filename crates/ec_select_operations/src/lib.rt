@@ -29,12 +29,14 @@ pub use ec_select_bytes::{
 };
 pub use families::{
     BinaryOperation, Family, Operands, Told, binary, branch, branch_on, combine, convert,
-    divide_numbers, move_number, multiply_bytes, operator, shift_by_count, tell, unary,
+    divide_numbers, jump_on, move_number, multiply_bytes, operator, shift_by_count, tell, unary,
 };
-pub use fixed::{fixed_binary, fixed_conversion, fixed_unary};
+pub use fixed::{fixed_binary, fixed_conversion, fixed_unary, is_counted, takes_count};
 pub use homes::{Homes, home, index_place};
 pub use laws::{needed_code_is_written, needed_functions_are_written, one_shape_has_one_routine};
-pub use numbers::{compared_bytes, first_bytes, integer_binary, number_at, number_taken};
+pub use numbers::{
+    compared_bytes, integer_binary, number_at, number_taken, right_taken, takes_whole,
+};
 pub use operations::{Flags, all_operations, function, operation};
 pub use pointers::{
     Offset, Pointers, combine_pointers, load_object, load_through, move_pointer, move_to_member,

@@ -1,8 +1,11 @@
 //! The code of operations, one after another.
-ghost use Rattle.std.specs.Prelude.{◌≡◌, ◌≤◌, ◌++◌, ◌+◌, ◌^◌, ◌<◌, OnOk, OnErr, Some, map, length};
+ghost use Rattle.std.specs.Prelude.{◌≡◌, ◌≤◌, ◌++◌, ◌+◌, ◌^◌, ◌<◌, suc, OnOk, OnErr, map, length, option_map};
+ghost use Rattle.std.specs.Prelude.{slice_get, slice_index};
+ghost use Rattle.std.specs.Option.{option_copied};
 ghost use Rattle.ec_runs.specs.Behaviours.{BeginWith};
 ghost use Rattle.ec_ir.specs.Operations.{plain_ir};
-ghost use Rattle.ec_select_operations.specs.Code.{operation_code, is_only_tested, tells, called_code, linked_code};
+ghost use Rattle.ec_select_operations.specs.Code.{operation_code, is_only_tested, is_over_jump, tells, called_code};
+ghost use Rattle.ec_select_operations.specs.Code.{linked_code, routine_used};
 ghost use Rattle.ec_select_operations.specs.Emitted.{declarations, linkage, IsLabel, CanBeEmitted, CanBeLinked};
 ghost use Rattle.ec_select_operations.specs.Homes.{home};
 ghost use Rattle.ec_select_operations.specs.Written.{need_in, CanBeWritten, told_at, written_code};
@@ -10,11 +13,14 @@ ghost use Rattle.ec_select_operations.specs.Written.{written_function};
 
 use crate::calls::{Linking, call, finish};
 use crate::families::{
-    BinaryOperation, Told, branch_on, convert, family_of, move_number, told_by, unary,
+    BinaryOperation, Told, branch_on, convert, family_of, jump_on, move_number, told_by, turned,
+    unary,
 };
-use crate::fixed::{fixed_binary, fixed_conversion, fixed_unary, is_apart};
+use crate::fixed::{fixed_binary, fixed_conversion, fixed_unary, is_apart, takes_count};
 use crate::homes::{home, index_place};
-use crate::numbers::{bits_of, compared_signed, integer_binary, number_at, number_taken};
+use crate::numbers::{
+    bits_of, compared_bytes, compared_signed, integer_binary, number_at, number_taken,
+};
 use crate::pointers::{
     load_object, load_through, move_to_member, object_location, pointer_binary, pointer_conversion,
     put_address,
@@ -25,7 +31,7 @@ use ec_asm::{AsmItem, Location, copy};
 use ec_ir::{Ir, IrProgram, Temp};
 use ec_ir_known::RightNumber;
 use ec_select_bytes::{
-    CellAccess, PortAccess, constant, jump, load_cell, read_cell_port, read_port, store_cell,
+    CellAccess, PortAccess, constant, load_cell, read_cell_port, read_port, store_cell,
     write_cell_port, write_port,
 };
 use ec_select_pointers::store_data;
@@ -39,19 +45,38 @@ pub struct Flags {
 }
 
 /// Whether the next operation branches on the result, of which nothing is needed afterwards.
-fn is_only_tested(to: Temp, next: &Ir, needed: u8) -> bool
-    ensures { result ≡ is_only_tested to (Some (plain_ir next.now)) needed }
+fn is_only_tested(to: Temp, next: Option<&Ir>, needed: u8) -> bool
+    ensures { result ≡ is_only_tested to (option_map plain_ir (option_copied next.entry)) needed }
 {
     match next {
-        Ir::BranchZero(t, _) => needed == 0 && t.at == to.at && t.bytes == to.bytes,
+        Some(Ir::BranchZero(t, _)) => needed == 0 && t.at == to.at && t.bytes == to.bytes,
         _ => false,
     }
 }
 
-/// What an operation, whose second operand may be known to hold a number, tells the next one by a flag, in place of its
-/// result.
-fn tells(known: Option<RightNumber>, i: &Ir, next: &Ir, needed: u8) -> Option<Told>
-    ensures { result ≡ tells known (plain_ir i.now) (Some (plain_ir next.now)) needed }
+/// Whether the next operation is a jump, and the one behind it the label of a branch that stands over it.
+fn is_over_jump(label: u64, next: Option<&Ir>, behind: Option<&Ir>) -> bool
+    ensures { result ≡ is_over_jump label (option_map plain_ir (option_copied next.entry))
+        (option_map plain_ir (option_copied behind.entry)) }
+{
+    match (next, behind) {
+        (Some(Ir::Jump(_)), Some(Ir::Label(l))) => *l == label,
+        _ => false,
+    }
+}
+
+/// What an operation, whose second operand may be known to hold a number, and which has been told so much, tells the next
+/// one by a flag: a comparison in place of its result, and a branch over a jump in place of the branch.
+fn tells(
+    known: Option<RightNumber>,
+    told: Option<Told>,
+    i: &Ir,
+    next: Option<&Ir>,
+    behind: Option<&Ir>,
+    needed: u8,
+) -> Option<Told>
+    ensures { result ≡ tells known told (plain_ir i.now) (option_map plain_ir (option_copied next.entry))
+        (option_map plain_ir (option_copied behind.entry)) needed }
 {
     match i {
         Ir::Bin {
@@ -75,19 +100,55 @@ fn tells(known: Option<RightNumber>, i: &Ir, next: &Ir, needed: u8) -> Option<To
                 None
             }
         }
+        Ir::BranchZero(_, l) if is_over_jump(*l, next, behind) => Some(turned(told)),
         _ => None,
     }
 }
 
-/// What the operation at a place has been told by the one before it.
-fn told_at(wanted: &[u8], known: &[Option<RightNumber>], code: &[Ir], k: usize) -> Option<Told>
-    requires { length code.now ≡ length wanted.now }
-    ensures { result ≡ told_at wanted.now known.now (map plain_ir code.now) k }
+/// The item at a place.
+fn at<T>(items: &[T], k: usize) -> Option<&T>
+    ensures { option_copied result ≡ slice_get items.now k }
 {
-    if k == 0 || k >= code.len() {
-        return None;
+    items.get(k)
+}
+
+/// The operation at a place.
+fn operation_at(code: &[Ir], k: usize) -> Option<&Ir>
+    ensures { option_map plain_ir (option_copied result) ≡ slice_get (map plain_ir code.now) k }
+{
+    at(code, k)
+}
+
+/// The number of bytes that are wanted at a place.
+fn wanted_at(wanted: &[u8], k: usize) -> u8
+    ensures { result ≡ slice_index wanted.now k }
+{
+    match wanted.get(k) {
+        Some(n) => *n,
+        None => 0,
     }
-    tells(number_at(known, k - 1), &code[k - 1], &code[k], wanted[k])
+}
+
+/// What the operation at a place, which has been told so much, tells the next one.
+fn told_behind(
+    wanted: &[u8],
+    known: &[Option<RightNumber>],
+    code: &[Ir],
+    told: Option<Told>,
+    k: usize,
+) -> Option<Told>
+    requires inside { k < length code.now }
+    requires told { told ≡ told_at wanted.now known.now (map plain_ir code.now) k }
+    ensures { result ≡ told_at wanted.now known.now (map plain_ir code.now) (suc k) }
+{
+    tells(
+        number_at(known, k),
+        told,
+        &code[k],
+        operation_at(code, k + 1),
+        operation_at(code, k + 2),
+        wanted_at(wanted, k + 1),
+    )
 }
 
 /// Appends the code of an operation of a function. Of its result so many bytes are wanted, and no more than its
@@ -134,6 +195,7 @@ pub fn operation(
             load_through(
                 out,
                 core,
+                program,
                 *space,
                 home(homes, *ptr),
                 home(homes, *to),
@@ -170,7 +232,7 @@ pub fn operation(
             }
             if is_pointer(aty) || is_pointer(bty) {
                 return pointer_binary(
-                    out, core, homes, program, *op, ty, *to, *a, aty, *b, bty, wanted,
+                    out, known, core, homes, program, *op, ty, *to, *a, aty, *b, bty, wanted,
                 );
             }
             let binary_operation = BinaryOperation {
@@ -225,12 +287,13 @@ pub fn operation(
             )
         }
         Ir::Label(l) => out.extend_from_slice(&[AsmItem::Label(of.first_label + *l)]),
-        Ir::Jump(l) => jump(out, of.first_label + *l),
+        Ir::Jump(l) => jump_on(out, flags.told, of.first_label + *l),
         Ir::BranchZero(t, l) => branch_on(
             out,
             flags.told,
+            flags.telling,
             home(homes, *t),
-            t.bytes,
+            compared_bytes(known, t.bytes),
             of.first_label + *l,
         ),
         Ir::Call(f, to) => call(out, of, *f, *to, wanted, kept),
@@ -298,7 +361,8 @@ pub fn operation(
     }
 }
 
-/// Appends the code of an operation, as `operation` does, or a call of the routine with a label.
+/// Appends the code of an operation, as `operation` does, or a call of the routine with a label, where the operation takes
+/// no known count.
 fn linked_operation(
     out: &mut Seq<AsmItem>,
     program: &IrProgram,
@@ -310,16 +374,18 @@ fn linked_operation(
     kept: &[u8],
     i: &Ir,
 ) -> Result<(), NoMemory>
-    requires { CanBeLinked routine (declarations program.now) of wanted (plain_ir i.now) }
+    requires { CanBeLinked (routine_used known (plain_ir i.now) routine) (declarations program.now) of wanted
+        (plain_ir i.now) }
     ensures ok { OnOk result (out.new.items ≡ out.old.items
-        ++ linked_code routine (λ label. called_code (home of.homes) label wanted (plain_ir i.now))
+        ++ linked_code (routine_used known (plain_ir i.now) routine)
+        (λ label. called_code (home of.homes) label wanted (plain_ir i.now))
         (operation_code (declarations program.now) (home of.homes) (linkage of) flags.told flags.telling known wanted
         (need_in kept.now) (plain_ir i.now))) }
     ensures err { OnErr result (BeginWith out.old.items out.new.items) }
 {
     match routine {
-        Some(label) => called(out, of.homes, label, wanted, i),
-        None => operation(out, program, of, flags, known, wanted, kept, i),
+        Some(label) if !takes_count(known, i) => called(out, of.homes, label, wanted, i),
+        _ => operation(out, program, of, flags, known, wanted, kept, i),
     }
 }
 
@@ -341,15 +407,15 @@ pub fn all_operations(
     requires rows { length code.now ≡ length kept.now }
     requires known { length code.now ≡ length known.now }
     requires routines { length code.now ≡ length routines.now }
-    requires each { CanBeWritten (declarations program.now) of wanted.now routines.now (map plain_ir code.now) }
+    requires each { CanBeWritten (declarations program.now) of wanted.now known.now routines.now (map plain_ir code.now) }
     ensures ok { OnOk result (out.new.items ≡ out.old.items
         ++ written_code (declarations program.now) (home of.homes) (linkage of) wanted.now
         (map (λ row. row.items) kept.now) known.now routines.now (map plain_ir code.now) (length code.now)) }
     ensures err { OnErr result (BeginWith out.old.items out.new.items) }
 {
+    let mut told = None;
     for k in 0..code.len() {
-        let told = told_at(wanted, known, code, k);
-        let telling = told_at(wanted, known, code, k + 1);
+        let telling = told_behind(wanted, known, code, told, k);
         let flags = Flags { told, telling };
         let number = number_at(known, k);
         linked_operation(
@@ -363,6 +429,7 @@ pub fn all_operations(
             kept[k].as_slice(),
             &code[k],
         )?;
+        told = telling;
     }
     Ok(())
 }
@@ -385,7 +452,7 @@ pub fn function(
     requires rows { length code.now ≡ length kept.now }
     requires known { length code.now ≡ length known.now }
     requires routines { length code.now ≡ length routines.now }
-    requires each { CanBeWritten (declarations program.now) of wanted.now routines.now (map plain_ir code.now) }
+    requires each { CanBeWritten (declarations program.now) of wanted.now known.now routines.now (map plain_ir code.now) }
     ensures ok { OnOk result (out.new.items ≡ out.old.items
         ++ written_function (declarations program.now) (linkage of) f wanted.now
         (map (λ row. row.items) kept.now) known.now routines.now (map plain_ir code.now)) }

@@ -1,5 +1,6 @@
 //! The code of operations with pointers, and of accesses to objects by the bank where they are kept.
-ghost use Rattle.std.specs.Prelude.{◌≡◌, ◌≤◌, ◌++◌, true, false, OnOk, OnErr, map};
+ghost use Rattle.std.specs.Prelude.{◌≡◌, ◌<◌, ◌≤◌, ◌++◌, true, false, OnOk, OnErr, map};
+ghost use Rattle.std.specs.List.{list_any};
 ghost use Rattle.ec_runs.specs.Behaviours.{BeginWith};
 ghost use Rattle.ec_asm.specs.Pieces.{HasBytes};
 ghost use Rattle.ec_space.specs.Spaces.{width};
@@ -8,23 +9,28 @@ ghost use Rattle.ec_core.specs.Layout.{AreStructs};
 ghost use Rattle.ec_core.specs.Plain.{plain_object, plain_type};
 ghost use Rattle.ec_core.specs.Valid.{IsExprType};
 ghost use Rattle.ec_select_places.specs.Steps.{compared_bytes};
-ghost use Rattle.ec_select_pointers.specs.Accesses.{load_flash_code, load_any_code, load_table_code};
-ghost use Rattle.ec_select_pointers.specs.Far.{load_far_code, load_any_far_code, load_far_table_code};
+ghost use Rattle.ec_select_pointers.specs.Accesses.{load_flash_code, load_table_code};
+ghost use Rattle.ec_select_pointers.specs.Far.{load_far_code, load_far_table_code};
 ghost use Rattle.ec_select_operations.specs.Code.{family_of, is_signed, by_core, is_far, is_whole_address};
-ghost use Rattle.ec_select_operations.specs.Code.{addressed_code, member_code, load_code, banked_code, moved_code};
+ghost use Rattle.ec_select_operations.specs.Code.{addressed_code, member_code, load_either_code, load_code, banked_code};
+ghost use Rattle.ec_select_operations.specs.Code.{moved_code};
 ghost use Rattle.ec_select_operations.specs.Code.{offset_code, is_difference, related_bytes};
+ghost use Rattle.ec_select_operations.specs.Code.{known_index, known_bytes, known_offset, known_offset_code, offset_by};
 ghost use Rattle.ec_select_operations.specs.Code.{difference_code, pointers_code, pointer_binary, pointer_conversion};
 ghost use Rattle.ec_select_operations.specs.Emitted.{declarations, PointersHaveBytes, PointerHasBytes};
 ghost use Rattle.ec_select_operations.specs.Homes.{home};
 ghost use Rattle.ec_select_operations.specs.Places.{object_location};
-ghost use Rattle.ec_select_operations.specs.Pointers.{is_pointer, home_of, kept_in, tag_of, tag_in, IsPointerSize};
+ghost use Rattle.ec_select_operations.specs.Pointers.{is_pointer, home_of, kept_in, is_table, has_tables, tag_of, tag_in};
+ghost use Rattle.ec_select_operations.specs.Pointers.{IsPointerSize};
 
 use crate::families::{Family, Operands, family_of, move_number, tell};
 use crate::homes::{Homes, home};
+use crate::numbers::bits_of;
 use crate::types::{is_into_data, is_pointer, is_signed};
 use ec_asm::{AsmItem, Location, copy};
 use ec_core::{BinOp, CType, Obj, Storage, size_of};
 use ec_ir::{IrProgram, Temp};
+use ec_ir_known::RightNumber;
 use ec_select_order::Relation;
 use ec_select_places::{advance, advance_far, elements, embed, scale_index};
 use ec_select_pointers::{
@@ -161,10 +167,38 @@ fn load_through_far(
     }
 }
 
-/// Appends code that loads a number of so many bytes through a pointer into the unnamed space.
+/// Whether an object of a home stands in the flash bank.
+fn is_table(home: Home) -> bool
+    ensures { result ≡ is_table home }
+{
+    match home {
+        Home::Flash | Home::Far => true,
+        Home::Data => false,
+    }
+}
+
+/// Whether one of several objects stands in the flash bank.
+fn include_table(objects: &[Obj]) -> bool
+    ensures { result ≡ list_any (λ d. is_table d.home) objects.now }
+{
+    objects.iter().any(|d| is_table(d.home))
+}
+
+/// Whether some object of a program stands in the flash bank.
+#[tactic(auto, using(crate::proofs::Emits::tables_are))]
+fn has_tables(program: &IrProgram) -> bool
+    ensures { result ≡ has_tables (declarations program.now).objects }
+{
+    include_table(program.objs.as_slice())
+}
+
+/// Appends code that loads a number of so many bytes through a pointer into the unnamed space, which may point into
+/// flash only if some object of the program stands there.
+#[tactic(auto, using(crate::proofs::Emits::fewer_bytes))]
 fn load_through_any(
     out: &mut Seq<AsmItem>,
     core: Core,
+    program: &IrProgram,
     pointer: Location,
     to: Location,
     bytes: u8,
@@ -172,9 +206,12 @@ fn load_through_any(
     requires pointer { HasBytes pointer 3 }
     requires to { HasBytes to bytes }
     ensures ok { OnOk result (out.new.items ≡ out.old.items
-        ++ by_core core (load_any_code pointer to bytes) (load_any_far_code pointer to bytes)) }
+        ++ load_either_code core (has_tables (declarations program.now).objects) pointer to bytes) }
     ensures err { OnErr result (BeginWith out.old.items out.new.items) }
 {
+    if !has_tables(program) {
+        return load_data(out, pointer, to, bytes);
+    }
     match core {
         Core::Small => load_any(out, pointer, to, bytes),
         Core::Large => load_any_far(out, pointer, to, bytes),
@@ -186,6 +223,7 @@ fn load_through_any(
 pub fn load_through(
     out: &mut Seq<AsmItem>,
     core: Core,
+    program: &IrProgram,
     space: SpaceId,
     pointer: Location,
     to: Location,
@@ -193,14 +231,15 @@ pub fn load_through(
 ) -> Result<(), NoMemory>
     requires pointer { HasBytes pointer (width space) }
     requires to { HasBytes to bytes }
-    ensures ok { OnOk result (out.new.items ≡ out.old.items ++ load_code core space pointer to bytes) }
+    ensures ok { OnOk result (out.new.items ≡ out.old.items
+        ++ load_code core (has_tables (declarations program.now).objects) space pointer to bytes) }
     ensures err { OnErr result (BeginWith out.old.items out.new.items) }
 {
     match space {
         SpaceId::Flash => load_flash(out, pointer, to, bytes),
         SpaceId::FarFlash => load_through_far(out, core, pointer, to, bytes),
         SpaceId::Data => load_data(out, pointer, to, bytes),
-        SpaceId::Generic => load_through_any(out, core, pointer, to, bytes),
+        SpaceId::Generic => load_through_any(out, core, program, pointer, to, bytes),
     }
 }
 
@@ -341,6 +380,100 @@ pub fn move_pointer(
     )?;
     move_number(out, of.from, to, of.bytes)?;
     advance_by(out, core, of.bytes, of.minus, to)
+}
+
+/// A number modulo 65,536, which an index of so many bytes is known to hold.
+fn known_index(signed: bool, index_bytes: u8, number: u128) -> u32
+    ensures value { result ≡ known_index signed index_bytes number }
+    ensures most { result < 65536 }
+{
+    if index_bytes != 1 {
+        return (number % 65536) as u32;
+    }
+    let byte = (number % 256) as u32;
+    if signed {
+        byte + 256 * (255 * (byte / 128))
+    } else {
+        byte
+    }
+}
+
+/// The bytes of a known number of elements, modulo 65,536.
+fn known_bytes(signed: bool, index_bytes: u8, number: u128, size: u32) -> u32
+    ensures value { result ≡ known_bytes signed index_bytes number size }
+    ensures most { result < 65536 }
+{
+    known_index(signed, index_bytes, number) * (size % 65536) % 65536
+}
+
+/// The offset by so many bytes, which count by their sign, further or back, modulo 2 to the power of 24.
+fn known_offset(minus: bool, bytes: u32) -> u32
+    requires { bytes < 65536 }
+    ensures { result ≡ known_offset minus bytes }
+{
+    let extended = if bytes < 32768 {
+        bytes
+    } else {
+        bytes + 16_711_680
+    };
+    if minus {
+        16_777_216 - extended
+    } else {
+        extended
+    }
+}
+
+/// Appends code that puts the pointer at `of.from` a known number of elements further, or back, to `to`. Where memory runs
+/// out, a part of the code is appended.
+#[tactic(auto, using(crate::proofs::Emits::fewer_bytes))]
+fn move_by_known(
+    out: &mut Seq<AsmItem>,
+    core: Core,
+    of: Offset,
+    number: u128,
+    to: Location,
+    size: u32,
+    wanted: u8,
+) -> Result<(), NoMemory>
+    requires from { HasBytes of.from of.bytes }
+    requires to { HasBytes to of.bytes }
+    requires two { 2 ≤ of.bytes }
+    ensures ok { OnOk result (out.new.items ≡ out.old.items
+        ++ known_offset_code core of.minus of.signed of.from to of.bytes of.index_bytes number size wanted) }
+    ensures err { OnErr result (BeginWith out.old.items out.new.items) }
+{
+    if wanted == 0 {
+        return Ok(());
+    }
+    let bytes = known_bytes(of.signed, of.index_bytes, number, size);
+    move_number(out, of.from, to, of.bytes)?;
+    move_to_member(out, core, to, of.bytes, known_offset(of.minus, bytes))
+}
+
+/// Appends code that puts the pointer at `of.from` so many elements further, or back, to `to`, where their number may be
+/// known. Where memory runs out, a part of the code is appended.
+fn move_by(
+    out: &mut Seq<AsmItem>,
+    known: Option<RightNumber>,
+    core: Core,
+    of: Offset,
+    to: Location,
+    size: u32,
+    wanted: u8,
+) -> Result<(), NoMemory>
+    requires from { HasBytes of.from of.bytes }
+    requires index { HasBytes of.index of.index_bytes }
+    requires to { HasBytes to of.bytes }
+    requires two { 2 ≤ of.bytes }
+    requires some { 1 ≤ of.index_bytes }
+    ensures ok { OnOk result (out.new.items ≡ out.old.items
+        ++ offset_by known core of.minus of.signed of.from of.index to of.bytes of.index_bytes size wanted) }
+    ensures err { OnErr result (BeginWith out.old.items out.new.items) }
+{
+    match known {
+        None => move_pointer(out, core, of, to, size, wanted),
+        Some(k) => move_by_known(out, core, of, bits_of(k.number), to, size, wanted),
+    }
 }
 
 /// Appends code that puts the elements of so many bytes between two pointers to `to`.
@@ -490,10 +623,12 @@ fn two_pointers(
     combine_pointers(out, core, family_of(op), of, home(homes, to), wanted)
 }
 
-/// Appends the code of a pointer in a temporary plus a number of elements in another one, or less it.
+/// Appends the code of a pointer in a temporary plus a number of elements in another one, or less it, where their number may
+/// be known.
 #[tactic(auto, using(crate::proofs::Emits::fewer_bytes))]
 fn pointer_and_number(
     out: &mut Seq<AsmItem>,
+    known: Option<RightNumber>,
     core: Core,
     homes: Homes,
     program: &IrProgram,
@@ -511,7 +646,7 @@ fn pointer_and_number(
     requires some { 1 ≤ number.bytes }
     requires result { to.bytes ≡ pointer.bytes }
     ensures ok { OnOk result (out.new.items ≡ out.old.items
-        ++ offset_code core minus (is_signed (plain_type nty.now)) (home homes pointer) (home homes number) (home homes to)
+        ++ offset_by known core minus (is_signed (plain_type nty.now)) (home homes pointer) (home homes number) (home homes to)
         pointer.bytes number.bytes (element_size (declarations program.now) (plain_type pty.now)) wanted) }
     ensures err { OnErr result (BeginWith out.old.items out.new.items) }
 {
@@ -524,13 +659,14 @@ fn pointer_and_number(
         index_bytes: number.bytes,
     };
     let size = element_size(program, pty);
-    move_pointer(out, core, of, home(homes, to), size, wanted)
+    move_by(out, known, core, of, home(homes, to), size, wanted)
 }
 
 /// Appends the code of a binary operator on operands of which one is a pointer at least, of whose result so many bytes
-/// are wanted. Where memory runs out, a part of the code is appended.
+/// are wanted. The second operand may be known to hold a number. Where memory runs out, a part of the code is appended.
 pub fn pointer_binary(
     out: &mut Seq<AsmItem>,
+    known: Option<RightNumber>,
     core: Core,
     homes: Homes,
     program: &IrProgram,
@@ -546,7 +682,7 @@ pub fn pointer_binary(
     requires { PointersHaveBytes (declarations program.now) op wanted to a b (plain_type ty.now) (plain_type aty.now)
         (plain_type bty.now) }
     ensures ok { OnOk result (out.new.items ≡ out.old.items
-        ++ pointer_binary core (is_pointer (plain_type aty.now)) (is_pointer (plain_type bty.now))
+        ++ pointer_binary known core (is_pointer (plain_type aty.now)) (is_pointer (plain_type bty.now))
         (declarations program.now) op (plain_type aty.now) (plain_type bty.now) (home homes a) (home homes b) (home homes to) a.bytes b.bytes
         wanted) }
     ensures err { OnErr result (BeginWith out.old.items out.new.items) }
@@ -555,10 +691,14 @@ pub fn pointer_binary(
         (true, true) => two_pointers(out, core, homes, program, op, to, a, aty, b, wanted),
         (true, false) => {
             let minus = is_difference(op);
-            pointer_and_number(out, core, homes, program, minus, to, a, aty, b, bty, wanted)
+            pointer_and_number(
+                out, known, core, homes, program, minus, to, a, aty, b, bty, wanted,
+            )
         }
         (false, true) => {
-            pointer_and_number(out, core, homes, program, false, to, b, bty, a, aty, wanted)
+            pointer_and_number(
+                out, None, core, homes, program, false, to, b, bty, a, aty, wanted,
+            )
         }
         (false, false) => Ok(()),
     }

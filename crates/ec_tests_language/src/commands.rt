@@ -242,7 +242,7 @@ fn leaves_lines(alloc: Global, fail: u64, want: usize) -> bool {
 #[test]
 fn leaves_the_lines_before_a_failed_call(rt: HostRuntime) {
     let all = all_lines(rt.alloc());
-    assert!(rt; 50 < all && all < 200);
+    assert!(rt; 20 < all && all < 200);
     for k in 0..200usize {
         if k < all {
             assert!(rt; leaves_lines(rt.alloc(), k as u64 + 8, k), "line {k}");

@@ -13,6 +13,7 @@ use Rattle.ec_select_operations.specs.Written.{CanBeWritten, kept_rows, written_
 use Rattle.ec_select.specs.Labels.{label_count}
 use Rattle.ec_select.specs.Seen.{plain_row}
 use Rattle.ec_select.specs.Sharing.{routine_among}
+use Rattle.ec_ir_known.specs.declared.known.RightNumber.{RightNumber}
 use Rattle.ec_ir_known.specs.Known.{right_numbers}
 use Rattle.ec_select.proofs.Added.{added, results_placed, numbers_length}
 use Rattle.ec_select.proofs.Emits.{wanted_length, kept_length}
@@ -86,15 +87,16 @@ function-requires-clause-each c =
     let room : k.first_label + label_count g.code < 2 ^ 64 =
     subst (λ (n : ℕ). n + label_count g.code < 2 ^ 64) (sym first) c.requires.room in
     let each = all_linked p c.requires.valid c.leaves_fill_their_types.ensures c.requires.code.results c.args.f g.slots g.code k
-    (label_count g.code) room entries routines at g.code (c.requires.code.functions c.args.f g c.requires.is)
+    (label_count g.code) room entries routines c.deref-numbers.result.now at g.code (c.requires.code.functions c.args.f g c.requires.is)
     (function_valid p c.requires.valid c.args.f g c.requires.is).code (omega arith) in
     let code : map plain_ir c.as_slice-code.result.now ≡ g.code = ap (λ (x : List Ir). map plain_ir x) c.as_slice-code.ensures in
     let bytes : c.deref.result.now ≡ wanted_bytes at g.code = c.deref.ensures.value ∙ c.in_ok-bytes.ensures in
     let called : c.deref-3.result.now ≡ map routines g.code =
     c.deref-3.ensures.value ∙ c.in_ok-called.ensures ∙ ap (map routines) code in
-    let by_bytes = subst (λ (x : List ℕ). CanBeWritten (data_of p) k x (map routines g.code) g.code) (sym bytes) each in
-    let by_called = subst (λ (x : List (Option ℕ)). CanBeWritten (data_of p) k c.deref.result.now x g.code) (sym called) by_bytes in
-    subst (λ (x : List PlainIr). CanBeWritten (data_of p) k c.deref.result.now c.deref-3.result.now x) (sym code) by_called
+    let known = c.deref-numbers.result.now in
+    let by_bytes = subst (λ (x : List ℕ). CanBeWritten (data_of p) k x known (map routines g.code) g.code) (sym bytes) each in
+    let by_called = subst (λ (x : List (Option ℕ)). CanBeWritten (data_of p) k c.deref.result.now known x g.code) (sym called) by_bytes in
+    subst (λ (x : List PlainIr). CanBeWritten (data_of p) k c.deref.result.now known c.deref-3.result.now x) (sym code) by_called
 
 pub returns : goal.returns
 returns c =
@@ -117,6 +119,15 @@ returns c =
     (map plain_ir c.as_slice-code.result.now) = c.in_ok-function.ensures.ok in
     let here : c.function.new.out.items ≡ c.args.out.now.items ++ written_function (data_of p) (linkage k) c.args.f
     (wanted_bytes at g.code) (kept_rows g.slots at g.code) (right_numbers g.code) (map routines g.code) g.code =
-    written ∙ rw (bytes, rows, known, called, code) refl in
+    subst (λ (x : List PlainIr). c.function.new.out.items ≡ c.args.out.now.items
+    ++ written_function (data_of p) (linkage k) c.args.f (wanted_bytes at g.code) (kept_rows g.slots at g.code) (right_numbers g.code) (map routines g.code) x) code
+    (subst (λ (x : List (Option ℕ)). c.function.new.out.items ≡ c.args.out.now.items
+    ++ written_function (data_of p) (linkage k) c.args.f (wanted_bytes at g.code) (kept_rows g.slots at g.code) (right_numbers g.code) x (map plain_ir c.as_slice-code.result.now)) called
+    (subst (λ (x : List (Option RightNumber)). c.function.new.out.items ≡ c.args.out.now.items
+    ++ written_function (data_of p) (linkage k) c.args.f (wanted_bytes at g.code) (kept_rows g.slots at g.code) x c.deref-3.result.now (map plain_ir c.as_slice-code.result.now)) known
+    (subst (λ (x : List (List ℕ)). c.function.new.out.items ≡ c.args.out.now.items
+    ++ written_function (data_of p) (linkage k) c.args.f (wanted_bytes at g.code) x c.deref-numbers.result.now c.deref-3.result.now (map plain_ir c.as_slice-code.result.now)) rows
+    (subst (λ (x : List ℕ). c.function.new.out.items ≡ c.args.out.now.items
+    ++ written_function (data_of p) (linkage k) c.args.f x (map (λ row. row.items) c.deref-2.result.now) c.deref-numbers.result.now c.deref-3.result.now (map plain_ir c.as_slice-code.result.now)) bytes written)))) in
     here ∙ ap (λ (x : List AsmItem). c.args.out.now.items ++ x)
     (added c.args.core p routines c.args.f c.args.first g k labels c.needed_functions_are_written.ensures c.requires.first c.linking-of.ensures)

@@ -1,0 +1,35 @@
+use Rattle.std.proofs.Common.{◌≡◌, ◌+◌, ◌∙◌, suc, ap, arith, map, None, Some}
+use Rattle.std.specs.Prelude.{get_or, option_map, slice_get, slice_index}
+use Rattle.std.specs.Option.{option_copied}
+use Rattle.std.proofs.lemmas.Option.{slice_get-map}
+use Rattle.ec_ir.specs.Operations.{plain_ir}
+use Rattle.ec_select_operations.specs.Code.{tells}
+use Rattle.ec_select_operations.proofs.Written.{tells_here, item_there}
+use Rattle.ec_select_operations.proofs.operations.told_behind.Goals as goal
+
+pub returns : goal.returns
+returns c =
+    let here : slice_get (map plain_ir c.args.code.now) c.args.k ≡ Some (plain_ir c.index-code-k.result) =
+    slice_get-map plain_ir c.args.code.now c.args.k
+    ∙ ap (option_map plain_ir)
+    (item_there c.args.code.now c.args.k c.index-code-k.result c.requires.inside c.index-code-k.is) in
+    let one : c.args.k + 1 ≡ suc c.args.k = omega arith in
+    let two : c.args.k + 2 ≡ suc (suc c.args.k) = omega arith in
+    let next : option_map plain_ir (option_copied c.operation_at.result) ≡ slice_get (map plain_ir c.args.code.now) (suc c.args.k) =
+    c.operation_at.ensures ∙ ap (slice_get (map plain_ir c.args.code.now)) one in
+    let behind : option_map plain_ir (option_copied c.operation_at-2.result)
+    ≡ slice_get (map plain_ir c.args.code.now) (suc (suc c.args.k)) =
+    c.operation_at-2.ensures ∙ ap (slice_get (map plain_ir c.args.code.now)) two in
+    let needed : c.wanted_at.result ≡ slice_index c.args.wanted.now (suc c.args.k) =
+    c.wanted_at.ensures ∙ ap (slice_index c.args.wanted.now) one in
+    c.tells.ensures
+    ∙ ap (λ n. tells n c.args.told (plain_ir c.index-code-k.result) (option_map plain_ir (option_copied c.operation_at.result))
+    (option_map plain_ir (option_copied c.operation_at-2.result)) c.wanted_at.result) c.number_at.ensures
+    ∙ ap (λ x. tells (get_or c.args.known.now c.args.k None) c.args.told (plain_ir c.index-code-k.result) x
+    (option_map plain_ir (option_copied c.operation_at-2.result)) c.wanted_at.result) next
+    ∙ ap (λ x. tells (get_or c.args.known.now c.args.k None) c.args.told (plain_ir c.index-code-k.result)
+    (slice_get (map plain_ir c.args.code.now) (suc c.args.k)) x c.wanted_at.result) behind
+    ∙ ap (tells (get_or c.args.known.now c.args.k None) c.args.told (plain_ir c.index-code-k.result)
+    (slice_get (map plain_ir c.args.code.now) (suc c.args.k)) (slice_get (map plain_ir c.args.code.now) (suc (suc c.args.k)))) needed
+    ∙ tells_here (map plain_ir c.args.code.now) c.args.wanted.now c.args.known.now c.args.k c.args.told
+    (plain_ir c.index-code-k.result) here c.requires.told
