@@ -7,3 +7,4 @@ pub mod Structs
 mod Lists
 mod Typed
 mod Apart
+mod Named

@@ -6,5 +6,6 @@ pub mod Declarators
 pub mod Params
 pub mod Functions
 pub mod Structures
+pub mod NameSets
 pub mod Registers
 pub mod Mains

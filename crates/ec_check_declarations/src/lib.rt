@@ -5,6 +5,7 @@
 
 mod functions;
 mod heads;
+mod name_sets;
 mod object_types;
 mod objects;
 mod params;

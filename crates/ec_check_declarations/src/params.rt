@@ -1,15 +1,16 @@
 //! Parameters (ISO/IEC 9899:1999, 6.7.5.3).
-ghost use Rattle.std.specs.Prelude.{◌≡◌, ◌∷◌, [], ◌++◌, IfOk, OnOk, map, option_map};
+ghost use Rattle.std.specs.Prelude.{◌≡◌, ◌||◌, ◌∷◌, [], ◌++◌, IfOk, OnOk, map, option_map};
 ghost use Rattle.ec_core.specs.Plain.{plain_type};
 ghost use Rattle.ec_grammar.specs.Views.{view_option, view_identifier, view_param, view_next_param, view_params};
 ghost use Rattle.ec_check_names.specs.Tags.{plain_tags};
 ghost use Rattle.ec_check_declarations.specs.Params.{plain_param, name_in, is_no_scalar, scalar_type, param_at, has_name};
-ghost use Rattle.ec_check_declarations.specs.Params.{is_name_of};
 ghost use Rattle.ec_check_declarations.specs.Params.{is_nameless, is_misnamed, param_declared, param_sites, next_declared};
 ghost use Rattle.ec_check_declarations.specs.Params.{params_declared, more_params_sites, params_sites};
+ghost use Rattle.ec_check_declarations.specs.NameSets.{is_among, AreParamNames};
 ghost use Rattle.ec_check_declarations.specs.Sites.{Walked};
 
 use crate::heads::{head, meant_type};
+use crate::name_sets::{is_among, note_name};
 use crate::object_types::is_object_type;
 use crate::scopes::copied_name;
 use ec_check_names::{Tags, first_type_name, judge_specs};
@@ -17,6 +18,7 @@ use ec_check_operands::{Faults, type_sort};
 use ec_core::CType;
 use ec_grammar::{Identifier, NextParam, Param, Params};
 use ec_space::{Name, NoMemory, push};
+use indexmap::IndexSet;
 use std::alloc::Global;
 
 /// What a parameter declares.
@@ -30,24 +32,15 @@ pub struct ParamDeclared {
 
 // ---- names
 
-fn has_name(name: &Name, p: &Param) -> bool
-    ensures { result ≡ has_name name.now.items (view_param p.now) }
+/// Notes the name of a parameter, if it has one.
+fn note_param(alloc: Global, names: &mut IndexSet<Name>, p: &Param) -> Result<(), NoMemory>
+    ensures { OnOk result ((n : _) → is_among n names.new.keys
+        ≡ (is_among n names.old.keys || has_name n (view_param p.now))) }
 {
     match &p.name {
-        None => false,
-        Some(n) => n.name == *name,
+        None => Ok(()),
+        Some(n) => note_name(alloc, names, &n.name),
     }
-}
-
-fn is_name_of(name: &Name, params: &[NextParam]) -> bool
-    ensures { result ≡ is_name_of name.now.items (map view_next_param params.now) }
-{
-    for p in params {
-        if has_name(name, &p.param) {
-            return true;
-        }
-    }
-    false
 }
 
 fn is_nameless(defined: bool, p: &Param) -> bool
@@ -59,12 +52,14 @@ fn is_nameless(defined: bool, p: &Param) -> bool
     }
 }
 
-fn is_misnamed(defined: bool, first: &Param, before: &[NextParam], p: &Param) -> bool
-    ensures { result ≡ is_misnamed defined (view_param first.now) (map view_next_param before.now) (view_param p.now) }
+/// Whether a parameter has the name of one before it, which all have these names, or none though the function is defined.
+fn is_misnamed(defined: bool, names: &IndexSet<Name>, p: &Param) -> bool
+    ensures { (first : _) (before : _) → AreParamNames names.now.keys first before
+        → result ≡ is_misnamed defined first before (view_param p.now) }
 {
     match &p.name {
         None => defined,
-        Some(n) => has_name(&n.name, first) || is_name_of(&n.name, before),
+        Some(n) => is_among(names, &n.name),
     }
 }
 
@@ -164,9 +159,12 @@ fn add_params(
         (map plain_param params.new.items)
         (map plain_param params.old.items ++ map (next_declared ts structs) all)) }
 {
-    for (i, p) in more.iter().enumerate() {
-        let misnamed = is_misnamed(defined, first, &more[..i], &p.param);
+    let mut names = IndexSet::new(alloc);
+    note_param(alloc, &mut names, first)?;
+    for p in more {
+        let misnamed = is_misnamed(defined, &names, &p.param);
         add_param(alloc, faults, tags, structs, misnamed, &p.param, params)?;
+        note_param(alloc, &mut names, &p.param)?;
     }
     Ok(())
 }

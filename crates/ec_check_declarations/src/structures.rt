@@ -7,7 +7,7 @@ ghost use Rattle.ec_grammar.specs.Views.{view_declarator, view_next_declarator, 
 ghost use Rattle.ec_check_names.specs.Tables.{with_name};
 ghost use Rattle.ec_check_names.specs.Tags.{plain_tags};
 ghost use Rattle.ec_check_expressions.specs.Known.{IsSound, plain_known};
-ghost use Rattle.ec_check_declarations.specs.Structures.{plain_member_declared, is_member, with_member, member_sites};
+ghost use Rattle.ec_check_declarations.specs.Structures.{plain_member_declared, with_member, member_sites};
 ghost use Rattle.ec_check_declarations.specs.Structures.{with_more_members, more_member_sites, with_declared, declared_sites};
 ghost use Rattle.ec_check_declarations.specs.Structures.{with_all_declared, all_declared_sites, known_members, size_together};
 ghost use Rattle.ec_check_declarations.specs.Structures.{left_by, is_over, is_within, may_follow, struct_of, struct_defined};
@@ -16,6 +16,7 @@ ghost use Rattle.ec_check_declarations.specs.Structures.{member_list_sites, memb
 ghost use Rattle.ec_check_declarations.specs.ObjectTypes.{is_object_type};
 ghost use Rattle.ec_check_declarations.specs.Sites.{Walked};
 
+use crate::name_sets::Members;
 use crate::object_types::is_object_type;
 use crate::objects::typed_declarator;
 use crate::scopes::copied_name;
@@ -24,7 +25,7 @@ use ec_check_names::{Specified, StructTable, Tags, is_function, judge_specs, str
 use ec_check_operands::Faults;
 use ec_core::{CType, Member, StructDef, size_of, structs_are_laid_out};
 use ec_grammar::{Declarator, NextDeclarator, Structure};
-use ec_space::{Name, NoMemory, Seq, push};
+use ec_space::{Name, NoMemory, Seq};
 use std::alloc::Global;
 
 /// What a declarator of a member declares.
@@ -37,20 +38,9 @@ pub struct MemberDeclared {
 
 // ---- members
 
-fn is_member(name: &Name, members: &[MemberDeclared]) -> bool
-    ensures { result ≡ is_member name.now.items (map plain_member_declared members.now) }
-{
-    for m in members {
-        if m.name == *name {
-            return true;
-        }
-    }
-    false
-}
-
 fn push_named(
     alloc: Global,
-    members: &mut Vec<MemberDeclared>,
+    members: &mut Members,
     name: &Name,
     ty: Option<CType>,
 ) -> Result<(), NoMemory>
@@ -58,7 +48,7 @@ fn push_named(
         ++ record { name = name.now.items; ty = option_map plain_type ty } ∷ []) }
 {
     let name = copied_name(alloc, name)?;
-    push(members, MemberDeclared { name, ty })
+    members.push(alloc, MemberDeclared { name, ty })
 }
 
 fn add_member(
@@ -67,7 +57,7 @@ fn add_member(
     faults: &mut Faults,
     said: Specified,
     d: &Declarator,
-    members: &mut Vec<MemberDeclared>,
+    members: &mut Members,
 ) -> Result<(), NoMemory>
     requires { IsSound (plain_known known.now) }
     ensures { let k = plain_known known.now in let t = view_declarator d.now in
@@ -77,7 +67,7 @@ fn add_member(
 {
     let o = typed_declarator(alloc, known, faults, false, said, d, &None)?;
     let at = d.name.spot.index;
-    let again = is_member(&d.name.name, members);
+    let again = members.has(&d.name.name);
     faults.judge(5, again, at);
     faults.judge(11, o.konst || is_function(&d.shape), at);
     push_named(alloc, members, &d.name.name, o.ty)
@@ -89,7 +79,7 @@ fn add_more(
     faults: &mut Faults,
     said: Specified,
     more: &[NextDeclarator],
-    members: &mut Vec<MemberDeclared>,
+    members: &mut Members,
 ) -> Result<(), NoMemory>
     requires { IsSound (plain_known known.now) }
     ensures { let k = plain_known known.now in let ts = map view_next_declarator more.now in
@@ -108,7 +98,7 @@ fn add_declared(
     known: &Known,
     faults: &mut Faults,
     m: &ec_grammar::Member,
-    members: &mut Vec<MemberDeclared>,
+    members: &mut Members,
 ) -> Result<(), NoMemory>
     requires { IsSound (plain_known known.now) }
     ensures { let k = plain_known known.now in let t = view_member m.now in
@@ -126,7 +116,7 @@ fn add_all_declared(
     known: &Known,
     faults: &mut Faults,
     more: &[ec_grammar::Member],
-    members: &mut Vec<MemberDeclared>,
+    members: &mut Members,
 ) -> Result<(), NoMemory>
     requires { IsSound (plain_known known.now) }
     ensures { let k = plain_known known.now in let ts = map view_member more.now in
@@ -258,14 +248,14 @@ fn declared_members(
     known: &Known,
     faults: &mut Faults,
     s: &Structure,
-) -> Result<Vec<MemberDeclared>, NoMemory>
+) -> Result<Members, NoMemory>
     requires { IsSound (plain_known known.now) }
     ensures { let k = plain_known known.now in let first = view_member s.now.first in
         let more = map view_member s.now.more.items in
         IfOk result (λ ms. Walked faults.old.least faults.new.least (member_list_sites k first more)
         (map plain_member_declared ms.items) (with_all_declared k more (with_declared k first []))) }
 {
-    let mut members = Vec::new(alloc);
+    let mut members = Members::new(alloc);
     add_declared(alloc, known, faults, &s.first, &mut members)?;
     add_all_declared(alloc, known, faults, &s.more, &mut members)?;
     Ok(members)
@@ -287,7 +277,7 @@ fn all_members(
     let mut apart = Faults::new();
     let members = declared_members(alloc, known, &mut apart, s)?;
     match apart.least {
-        None => known_members(alloc, &members),
+        None => known_members(alloc, members.as_slice()),
         Some(fault) => {
             faults.note(fault);
             Ok(None)

@@ -10,7 +10,7 @@ pub returns-in-None : goal.returns-in-None
 returns-in-None c =
     IfOk-weaker c.known_members.result _ _ (λ ms h.
     unbroken_apart c.args.faults.now.least known_members c.in_ok-members.ensures c.new-apart.ensures
-    (option_map (λ v. map plain_member v.items) ms) c.in-None.is (rw (c.deref.ensures.value) at h)) c.known_members.ensures
+    (option_map (λ v. map plain_member v.items) ms) c.in-None.is (rw (c.as_slice.ensures) at h)) c.known_members.ensures
 
 pub returns : goal.returns
 returns c =
