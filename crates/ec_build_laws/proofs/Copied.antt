@@ -1,4 +1,4 @@
--- Before main the initial bytes are copied.
+-- Before main the static objects are copied or cleared.
 use Rattle.std.proofs.Common.{◌≡◌, ℕ, zero, suc, ◌+◌, Bool, true, false, List, [], ◌∷◌, ◌++◌, Some}
 use Rattle.std.proofs.Common.{zero-add, refl, sym, ap, ◌∙◌, subst, arith}
 use Rattle.std.specs.Prelude.{if◌then◌else◌, slice_get, slice_index}
@@ -18,23 +18,27 @@ use Rattle.ec_locate.specs.Entries.{entries, flash_sizes}
 use Rattle.ec_locate.specs.Layout.{local_at}
 use Rattle.ec_locate.specs.Placing.{layout_by, entries_by}
 use Rattle.ec_locate.specs.declared.placing.Located.{Located}
+use Rattle.ec_select_startup.specs.declared.spans.Filling.{Filling}
+use Rattle.ec_select_startup.specs.declared.spans.Filling.TheVariants.{Copied, Cleared}
 use Rattle.ec_select_startup.specs.Laws.{accesses, all_accesses}
-use Rattle.ec_select.specs.Program.{has_initial_bytes, spans_from, spans_of}
+use Rattle.ec_select.specs.Program.{has_initial_bytes, filling_of, spans_from, spans_of}
 use Rattle.ec_build_laws.specs.Kinds.{place_of}
 use Rattle.ec_build_laws.specs.Laws.{AreKinds}
 use Rattle.ec_build_laws.specs.Translation.{IsTranslated}
-use Rattle.ec_build_laws.specs.Whole.{copying, copying_objects, copies}
+use Rattle.ec_build_laws.specs.Whole.{fills, copying_objects, copies}
 use Rattle.ec_build_laws.proofs.Laid.{PlacedLaws, is_copied}
 use Rattle.ec_build_laws.proofs.Rows.{place_there, initial_there}
 use Rattle.ec_build_laws.proofs.Watched.{watched_kinds, watched_tables, watched, watched_has_kinds}
 
 -- ---- copies of objects
 
-copying_is : (e : Env) (from to n : ℕ) → accesses e from to n ≡ copying e.flash from to n
-copying_is e from to zero = refl
-copying_is e from to (suc n) =
+fills_is : (e : Env) (by : Filling) (from to n : ℕ) → accesses e by from to n ≡ fills e.flash by from to n
+fills_is e Copied from to zero = refl
+fills_is e Copied from to (suc n) =
     let byte = slice_index e.flash (from + n) in
-    ap (λ z. z ++ Read FlashBank (from + n) byte ∷ Write (to + n) byte ∷ []) (copying_is e from to n)
+    ap (λ z. z ++ Read FlashBank (from + n) byte ∷ Write (to + n) byte ∷ []) (fills_is e Copied from to n)
+fills_is e Cleared from to zero = refl
+fills_is e Cleared from to (suc n) = ap (λ z. z ++ Write (to + n) 0 ∷ []) (fills_is e Cleared from to n)
 
 module _ (e : Env) (structs : List PlainStruct) where
   -- the address of object o's initial bytes and its own
@@ -79,17 +83,19 @@ module _ (e : Env) (structs : List PlainStruct) where
         by_kind : (kept : Bool) → has_initial_bytes d.storage d.home ≡ kept
             → all_accesses e (spans_from structs (o + 1) ds) ≡ copying_objects e.flash structs ds ats qs
             → all_accesses e
-            ((if kept then record { from = 2048 + o; to = o; bytes = size_of_type structs d.ty } ∷ [] else []) ++ spans_from structs
-            (o + 1) ds)
-            ≡ (if kept then copying e.flash at q.offset (size_of_type structs d.ty) else []) ++ copying_objects e.flash structs ds ats qs
+            ((if kept then record { from = 2048 + o; to = o; bytes = size_of_type structs d.ty; filling = filling_of d.storage } ∷ []
+            else []) ++ spans_from structs (o + 1) ds)
+            ≡ (if kept then fills e.flash (filling_of d.storage) at q.offset (size_of_type structs d.ty) else [])
+            ++ copying_objects e.flash structs ds ats qs
         by_kind false has rest = rest
         by_kind true has rest =
             let c = here has in
             let size = size_of_type structs d.ty in
+            let by = filling_of d.storage in
             ap (λ z. z ++ all_accesses e (spans_from structs (o + 1) ds))
-            (ap (λ k. accesses e k (e.address_of o 0) size) c.from ∙ ap (λ k. accesses e at k size) c.to
-            ∙ copying_is e at q.offset size)
-            ∙ ap (λ z. copying e.flash at q.offset size ++ z) rest
+            (ap (λ k. accesses e by k (e.address_of o 0) size) c.from ∙ ap (λ k. accesses e by at k size) c.to
+            ∙ fills_is e by at q.offset size)
+            ∙ ap (λ z. fills e.flash by at q.offset size ++ z) rest
 
 -- ---- the whole
 

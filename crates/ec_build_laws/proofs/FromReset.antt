@@ -1,13 +1,12 @@
 -- What a machine shows from its reset on.
 use Rattle.std.proofs.Common.{◌<◌, true, ◌≡◌, ◌≢◌, ◌⊎◌, inl, inr, ⊎_elim, ℕ, zero, suc, ◌+◌, ◌-◌, ◌≤◌, ℤ, List, [], ◌∷◌}
 use Rattle.std.proofs.Common.{◌++◌, append_assoc, append-nil, refl, sym, ap, ◌∙◌, subst, arith}
-use Rattle.std.specs.Prelude.{IsTrue, slice_index}
+use Rattle.std.specs.Prelude.{IsTrue}
 use Rattle.std.proofs.lemmas.Bool.{leb-true, cases_lt}
 use Rattle.ec_runs.specs.Behaviours.{Behaviour, Running as GoesOn, Ended as Ends, Failed, BeginWith, Continues}
 use Rattle.ec_runs.specs.Behaviours.{Reached, IsWithin, seen_as}
 use Rattle.ec_runs.proofs.Runs.{begin_onward}
 use Rattle.ec_space.specs.Memory.{data_size}
-use Rattle.ec_space.specs.declared.space.Bank.TheVariants.{Flash as FlashBank}
 use Rattle.ec_avr.specs.declared.machine.Access.{Access}
 use Rattle.ec_avr.specs.declared.machine.Access.TheVariants.{Silent, In, Out, Read, Write, Stack}
 use Rattle.ec_avr.specs.Inputs.{trace_of}
@@ -27,8 +26,11 @@ use Rattle.ec_lower_code.specs.Code.{lowered}
 use Rattle.ec_map.specs.declared.map.Map.{Map}
 use Rattle.ec_locate.specs.declared.placing.Located.{Located}
 use Rattle.ec_select_functions.specs.Relation.{event_accesses, accesses}
+use Rattle.ec_select_startup.specs.declared.spans.Filling.{Filling}
+use Rattle.ec_select_startup.specs.declared.spans.Filling.TheVariants.{Copied, Cleared}
 use Rattle.ec_select_startup.specs.declared.spans.Span.{Span}
-use Rattle.ec_select_startup.specs.Laws.{accesses as copies_of, all_accesses, source as source_of, target}
+use Rattle.ec_select_startup.specs.Laws.{byte_accesses, accesses as copies_of, span_accesses, all_accesses}
+use Rattle.ec_select_startup.specs.Laws.{source as source_of, target}
 use Rattle.ec_select.specs.Program.{spans_of}
 use Rattle.ec_avr.specs.Placed.{stack_bytes}
 use Rattle.ec_asm.specs.Laws.{StackStaysInside}
@@ -78,19 +80,24 @@ ports_aloud (Read bank at byte ∷ trace) = ports_aloud trace
 ports_aloud (Write at byte ∷ trace) = ports_aloud trace
 ports_aloud (Stack ∷ trace) = ports_aloud trace
 
--- copies are none
-copies_are_none : (e : Env) (from to n : ℕ) → ports_of (copies_of e from to n) ≡ []
-copies_are_none e from to zero = refl
-copies_are_none e from to (suc n) =
-    ports-append (copies_of e from to n)
-    (Read FlashBank (from + n) (slice_index e.flash (from + n)) ∷ Write (to + n) (slice_index e.flash (from + n)) ∷ [])
-    ∙ ap (λ z. z ++ []) (copies_are_none e from to n)
+-- what sets the bytes of spans are none
+byte_is_none : (e : Env) (filling : Filling) (from to k : ℕ) → ports_of (byte_accesses e filling from to k) ≡ []
+byte_is_none e Copied from to k = refl
+byte_is_none e Cleared from to k = refl
+
+copies_are_none : (e : Env) (filling : Filling) (from to n : ℕ) → ports_of (copies_of e filling from to n) ≡ []
+copies_are_none e filling from to zero = refl
+copies_are_none e filling from to (suc n) =
+    ports-append (copies_of e filling from to n) (byte_accesses e filling from to n)
+    ∙ ap (λ z. z ++ ports_of (byte_accesses e filling from to n)) (copies_are_none e filling from to n)
+    ∙ byte_is_none e filling from to n
 
 all_are_none : (e : Env) (spans : List Span) → ports_of (all_accesses e spans) ≡ []
 all_are_none e [] = refl
 all_are_none e (s ∷ spans) =
-    ports-append (copies_of e (source_of e s) (target e s) s.bytes) (all_accesses e spans)
-    ∙ ap (λ z. z ++ ports_of (all_accesses e spans)) (copies_are_none e (source_of e s) (target e s) s.bytes) ∙ all_are_none e spans
+    ports-append (span_accesses e s) (all_accesses e spans)
+    ∙ ap (λ z. z ++ ports_of (all_accesses e spans)) (copies_are_none e s.filling (source_of e s) (target e s) s.bytes)
+    ∙ all_are_none e spans
 
 pub quiet : (e : Env) (before start : List Access) (spans : List Span) → start ≡ before ++ Stack ∷ []
     → all_but_silent before ≡ all_accesses e spans → ports_of start ≡ []

@@ -32,8 +32,10 @@ use Rattle.ec_locate.specs.Placing.{entries_by, scratch_needs}
 use Rattle.ec_locate.specs.declared.placing.Located.{Located}
 use Rattle.ec_select_operations.specs.Places.{ObjectLeaf}
 use Rattle.ec_select_functions.specs.Relation.{event_accesses, number_told}
-use Rattle.ec_select.specs.Program.{has_initial_bytes}
+use Rattle.ec_select.specs.Program.{has_initial_bytes, filling_of}
 use Rattle.ec_select_reset.specs.Laws.{all_but_silent}
+use Rattle.ec_select_startup.specs.declared.spans.Filling.{Filling}
+use Rattle.ec_select_startup.specs.declared.spans.Filling.TheVariants.{Copied, Cleared}
 use Rattle.ec_build_laws.specs.Kinds.{is_byte_of, is_of_scratch, place_of}
 use Rattle.ec_build_laws.specs.Runs.{start_steps}
 use Rattle.ec_build_laws.specs.Shown.{ports_of, Comes, IsWithinSource, StaysInStack, PushesInRegion}
@@ -104,14 +106,25 @@ copying flash from to (suc n) =
     let byte = slice_index flash (from + n) in
     copying flash from to n ++ ByteRead FlashBank (from + n) byte ∷ ByteWrite (to + n) byte ∷ []
 
--- so are the initial bytes of each static object of the data bank
+-- n bytes of data memory are cleared: each is written, by rising address
+abbrev pub clearing : (to n : ℕ) → List Access
+clearing to zero = []
+clearing to (suc n) = clearing to n ++ ByteWrite (to + n) 0 ∷ []
+
+abbrev pub fills : (flash : List ℕ) → Filling → (from to n : ℕ) → List Access
+fills flash Copied from to n = copying flash from to n
+fills flash Cleared from to n = clearing to n
+
+-- so are the bytes of each static object of the data bank: those of an object whose initial values are all 0 are cleared,
+-- and the initial bytes of any other are copied
 abbrev pub copying_objects : (flash : List ℕ) → List PlainStruct → List PlainObject → (initials : List ℕ) → List Place
     → List Access
 copying_objects flash structs [] initials places = []
 copying_objects flash structs (o ∷ os) [] places = []
 copying_objects flash structs (o ∷ os) (at ∷ ats) [] = []
 copying_objects flash structs (o ∷ os) (at ∷ ats) (q ∷ qs) =
-    (if has_initial_bytes o.storage o.home then copying flash at q.offset (size_of_type structs o.ty) else [])
+    (if has_initial_bytes o.storage o.home
+    then fills flash (filling_of o.storage) at q.offset (size_of_type structs o.ty) else [])
     ++ copying_objects flash structs os ats qs
 
 -- from where the map has them stand in flash to where the objects stand
@@ -130,8 +143,8 @@ AreInitial p l t =
 -- ---- the whole
 
 -- The machine comes to main in at most so many steps, of which the last is its call: the first access of the stack. All
--- accesses before it, but the silent ones, are those that copy the initial bytes, so no port is accessed and the data
--- bank is read nowhere; then the static objects of the data bank have their initial values.
+-- accesses before it, but the silent ones, are those that copy or clear the static objects, so no port is accessed and the
+-- data bank is read nowhere; then the static objects of the data bank have their initial values.
 -- From main on all that is kept of the machine's accesses is what the source shows. Where the source has a meaning for
 -- all turns, each part of it is reached within its work. Each step stays within the source, and never faults where that
 -- has a meaning. Each access is of a byte of its event, in the home of the event's object. Wherever the source reads or

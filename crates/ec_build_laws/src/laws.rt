@@ -93,9 +93,10 @@ pub fn images_run_as_sources()
 }
 
 /// From every reset state the machine of a placed program comes to `main` in a few steps. Before the call of `main` it
-/// accesses nothing but registers and the initial bytes, which it copies. Then it comes to each part of what the source
-/// shows, within its work, and each of its steps stays within the source; what it pushes and pops are bytes of region
-/// `stack`, up to `main` in any case, and from there on where the source has a meaning.
+/// accesses nothing but registers, the initial bytes, which it copies, and objects of zeros, which it clears. Then it
+/// comes to each part of what the source shows, within its work, and each of its steps stays within the source; what it
+/// pushes and pops are bytes of region `stack`, up to `main` in any case, and from there on where the source has a
+/// meaning.
 pub fn images_show_their_sources()
     ensures { ImagesShowTheirSources }
 {
@@ -123,12 +124,12 @@ pub fn accesses_stay_in_spaces()
 }
 
 /// From every reset state the machine of a placed program comes to `main` in a few steps. Before the call of `main`,
-/// which is its first access of the stack, it accesses nothing but registers and the initial bytes, which it copies.
-/// From `main` on all that is kept of its trace, where code's scratch memory and work bytes and what is pushed and
-/// popped count for nothing, is what the source shows: each part of it is reached within its work, and each step stays
-/// within it. Each of these accesses is of a byte of its event's object, in the bank that is its home. Wherever the
-/// source reads or writes an object, it is live in the state of that moment. What is pushed and popped are bytes of
-/// region `stack`, up to `main` in any case, and from there on where the source has a meaning.
+/// which is its first access of the stack, it accesses nothing but registers, the initial bytes, which it copies, and
+/// objects of zeros, which it clears. From `main` on all that is kept of its trace, where code's scratch memory and work
+/// bytes and what is pushed and popped count for nothing, is what the source shows: each part of it is reached within its
+/// work, and each step stays within it. Each of these accesses is of a byte of its event's object, in the bank that is its
+/// home. Wherever the source reads or writes an object, it is live in the state of that moment. What is pushed and popped
+/// are bytes of region `stack`, up to `main` in any case, and from there on where the source has a meaning.
 pub fn programs_show_their_sources()
     ensures { ProgramsShowTheirSources }
 {

@@ -2,7 +2,7 @@
 -- access there, it makes no accesses but those that are noted.
 use Rattle.std.proofs.Common.{◌≡◌, ⊎_elim, inl, inr, ℕ, zero, suc, ◌+◌, ◌<◌, ◌≤◌, Bool, true, false, not, ◌&&◌, List, [], ◌∷◌}
 use Rattle.std.proofs.Common.{◌++◌, All, length, refl, sym, ap, ◌∙◌, subst, arith, append_assoc}
-use Rattle.std.specs.Prelude.{◌==◌, ◌||◌, nat_lt, nat_le, if◌then◌else◌, slice_index}
+use Rattle.std.specs.Prelude.{◌==◌, ◌||◌, nat_lt, nat_le, if◌then◌else◌}
 use Rattle.std.specs.List.{AllByRecursion}
 use Rattle.std.proofs.lemmas.Bool.{and_parts, or_cases, false≢true, le-ltb, ltb-false, leb-true, le-leb}
 use Rattle.std.proofs.lemmas.List.Elements.{All-head, All-tail}
@@ -20,8 +20,10 @@ use Rattle.ec_asm.specs.Items.{At, IsNear, JumpsAt, CallsAt, BranchesAt, Stands,
 use Rattle.ec_asm.specs.Pieces.{is_held}
 use Rattle.ec_asm.specs.Shows.{Fits, may_be, in_flash, noted, noted_all}
 use Rattle.ec_asm_accesses.specs.Allowed.{IsAllowed}
+use Rattle.ec_select_startup.specs.declared.spans.Filling.{Filling}
+use Rattle.ec_select_startup.specs.declared.spans.Filling.TheVariants.{Copied, Cleared}
 use Rattle.ec_select_startup.specs.declared.spans.Span.{Span}
-use Rattle.ec_select_startup.specs.Laws.{source, target, CanBeSet, HasStack, accesses, all_accesses}
+use Rattle.ec_select_startup.specs.Laws.{source, target, CanBeSet, HasStack, byte_accesses, accesses, span_accesses, all_accesses}
 use Rattle.ec_select_reset.specs.Laws.{all_but_silent}
 
 -- a register that is looked at by its address: neither RAMPZ nor SREG, and none of Y's
@@ -132,6 +134,7 @@ module _ (e : Env) (size : ℕ) (fit : Fits e size) where
     source_room = can.source_room;
     target_room = can.target_room;
     above = can.above;
+    address = can.address;
     table = λ k l. ap is_held (noted_in_flash (source e s + k) (can.table k l));
     kind = λ k l. let above = can.above in ap is_held (noted_there (target e s + k) (omega (arith, above)) (can.kind k l));
   }
@@ -159,19 +162,23 @@ module _ (e : Env) (size : ℕ) (fit : Fits e size) where
       ap (λ l. noted (bare e size) x ++ l) (noted-append a b)
       ∙ sym (append_assoc (noted (bare e size) x) (noted_all (bare e size) a) (noted_all (bare e size) b))
 
-  -- all copies of initial bytes
-  copies_noted : (from to n : ℕ) → ((k : ℕ) → k < n → bare_table (length e.flash) (from + k) ≡ Object)
+  -- all that sets the bytes of spans
+  byte_noted : (filling : Filling) (from to k : ℕ) → bare_table (length e.flash) (from + k) ≡ Object
+      → bare_kind e.core size (to + k) ≡ Object
+      → noted_all (bare e size) (byte_accesses (bare e size) filling from to k) ≡ byte_accesses e filling from to k
+  byte_noted Copied from to k table kind = rw (table, kind) refl
+  byte_noted Cleared from to k table kind = rw kind refl
+
+  bytes_noted : (filling : Filling) (from to n : ℕ) → ((k : ℕ) → k < n → bare_table (length e.flash) (from + k) ≡ Object)
       → ((k : ℕ) → k < n → bare_kind e.core size (to + k) ≡ Object)
-      → noted_all (bare e size) (accesses (bare e size) from to n) ≡ accesses e from to n
-  copies_noted from to zero tables kinds = refl
-  copies_noted from to (suc n) tables kinds =
-      let byte = slice_index e.flash (from + n) in
-      let both = Read FlashBank (from + n) byte ∷ Write (to + n) byte ∷ [] in
-      let before = copies_noted from to n (λ k l. tables k (omega (arith, l))) (λ k l. kinds k (omega (arith, l))) in
-      let last : noted_all (bare e size) both ≡ both = rw (tables n (omega arith), kinds n (omega arith)) refl in
-      noted-append (accesses (bare e size) from to n) both
-      ∙ ap (λ z. z ++ noted_all (bare e size) both) before
-      ∙ ap (λ z. accesses e from to n ++ z) last
+      → noted_all (bare e size) (accesses (bare e size) filling from to n) ≡ accesses e filling from to n
+  bytes_noted filling from to zero tables kinds = refl
+  bytes_noted filling from to (suc n) tables kinds =
+      let last = byte_accesses (bare e size) filling from to n in
+      let before = bytes_noted filling from to n (λ k l. tables k (omega (arith, l))) (λ k l. kinds k (omega (arith, l))) in
+      noted-append (accesses (bare e size) filling from to n) last
+      ∙ ap (λ z. z ++ noted_all (bare e size) last) before
+      ∙ ap (λ z. accesses e filling from to n ++ z) (byte_noted filling from to n (tables n (omega arith)) (kinds n (omega arith)))
 
   pub copies_are_noted : (spans : List Span) → All (CanBeSet e) spans
       → noted_all (bare e size) (all_accesses (bare e size) spans) ≡ all_accesses e spans
@@ -181,11 +188,11 @@ module _ (e : Env) (size : ℕ) (fit : Fits e size) where
       let above = mine.above in
       let from = source e s in
       let to = target e s in
-      noted-append (accesses (bare e size) from to s.bytes) (all_accesses (bare e size) ss)
+      noted-append (span_accesses (bare e size) s) (all_accesses (bare e size) ss)
       ∙ ap (λ z. z ++ noted_all (bare e size) (all_accesses (bare e size) ss))
-      (copies_noted from to s.bytes (λ k l. noted_in_flash (from + k) (mine.table k l))
+      (bytes_noted s.filling from to s.bytes (λ k l. noted_in_flash (from + k) (mine.table k l))
       (λ k l. noted_there (to + k) (omega (arith, above)) (mine.kind k l)))
-      ∙ ap (λ z. accesses e from to s.bytes ++ z) (copies_are_noted ss (All-tail (CanBeSet e) s ss can))
+      ∙ ap (λ z. span_accesses e s ++ z) (copies_are_noted ss (All-tail (CanBeSet e) s ss can))
 
 -- ---- items stand where they stood
 

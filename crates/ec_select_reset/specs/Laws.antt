@@ -62,7 +62,7 @@ all_but_silent (a ∷ trace) = a ∷ all_but_silent trace
 
 -- After some steps, none of which makes an access that is barred, the machine is where main begins, and goes on from
 -- there with the same inputs. The last of these steps is the call of main, whose access is one of the stack; all
--- accesses before it, but the silent ones, are those that copy the initial bytes. What the machine shows from main on is
+-- accesses before it, but the silent ones, are those that set the bytes of spans. What the machine shows from main on is
 -- all that the operations do, in at most the steps that they may take, and never more, as long as they access none but
 -- ports of the machine. A view shows the state where main begins, with the initial values of the objects, and its run
 -- makes no access that is barred

@@ -8,10 +8,10 @@ use ec_select_functions::code_follows_operations;
 use ec_select_startup::laws::startup_is_right;
 
 /// A machine that stands at the first word of the startup code of a valid program comes in at most so many steps to
-/// where `main` begins. Before the call of `main` it accesses nothing but registers and the initial bytes, which it
-/// copies; no step before the call pushes or pops. From there on it shows all that the operations do, within the steps
-/// that they may take, and never more; it ends where `main` returns, with its result. Nothing rests on what memory held
-/// before.
+/// where `main` begins. Before the call of `main` it accesses nothing but registers, the initial bytes, which it copies,
+/// and the bytes that it clears; no step before the call pushes or pops. From there on it shows all that the operations
+/// do, within the steps that they may take, and never more; it ends where `main` returns, with its result. Nothing rests
+/// on what memory held before.
 pub fn programs_show_their_operations()
     ensures { ProgramsShowTheirOperations }
 {

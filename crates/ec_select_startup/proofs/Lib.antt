@@ -1,5 +1,5 @@
 mod Bytes
-mod Loops
+mod Turns
 mod OneSpan
 mod Whole
 mod Words

@@ -1,7 +1,7 @@
 -- The code of all spans, and the whole code before `main`.
-use Rattle.std.proofs.Common.{◌≡◌, ◌≢◌, ℕ, suc, ◌+◌, ◌*◌, ◌<◌, ◌≤◌, List, [], ◌∷◌, ◌++◌, refl, sym, ap, ◌∙◌, arith, append-nil}
+use Rattle.std.proofs.Common.{◌≡◌, ◌≢◌, ℕ, suc, ◌+◌, ◌*◌, ◌/◌, ◌%◌, ◌<◌, ◌≤◌, List, [], ◌∷◌, ◌++◌, refl, sym, ap, ◌∙◌, arith, append-nil}
 use Rattle.std.proofs.Common.{append_assoc}
-use Rattle.std.specs.Prelude.{sum_by, All, Bool, true, false, nat_le}
+use Rattle.std.specs.Prelude.{sum_by, All, Bool, true, false, nat_le, if◌then◌else◌}
 use Rattle.std.specs.List.{AllPairs}
 use Rattle.std.proofs.lemmas.List.Elements.{All-nil, All-cons, All-head, All-tail}
 use Rattle.std.proofs.lemmas.List.Sums.{sum_by-drop_more}
@@ -14,10 +14,13 @@ use Rattle.ec_asm.specs.Run.{Running}
 use Rattle.ec_asm.specs.Takes.{Goes}
 use Rattle.ec_asm.proofs.Bytes.{put_other}
 use Rattle.ec_asm.proofs.Hoare.{has_parts, block_goes, goes_on_to}
+use Rattle.ec_select_startup.specs.declared.spans.Filling.{Filling}
+use Rattle.ec_select_startup.specs.declared.spans.Filling.TheVariants.{Copied, Cleared}
 use Rattle.ec_select_startup.specs.declared.spans.Span.{Span}
-use Rattle.ec_select_startup.specs.Startup.{stack_code, span_code, spans_code, main_code}
-use Rattle.ec_select_startup.specs.Laws.{source, target, CanBeSet, IsBeside, IsNoneOf, HasStack, IsSet, accesses, all_accesses}
-use Rattle.ec_select_startup.specs.Laws.{bytes_steps, span_steps, spans_steps, StartupIsRight}
+use Rattle.ec_select_startup.specs.Startup.{stack_code, byte_words, bytes_a_turn, most_stores, span_code, spans_code, main_code}
+use Rattle.ec_select_startup.specs.Laws.{target, CanBeSet, IsBeside, IsNoneOf, HasStack, IsSet, span_accesses}
+use Rattle.ec_select_startup.specs.Laws.{all_accesses, count_steps, turns_steps, row_or_turns_steps, bytes_steps, source_steps}
+use Rattle.ec_select_startup.specs.Laws.{span_steps, spans_steps, StartupIsRight}
 use Rattle.ec_select_startup.proofs.Bytes.{outside_ne, noted-append}
 use Rattle.ec_select_startup.proofs.OneSpan.{span_sets, address_is}
 
@@ -35,16 +38,45 @@ steps-cons : (s : Span) (ss : List Span)
     → sum_by (λ s. 6 + 4 * s.bytes) (s ∷ ss) ≡ 6 + 4 * s.bytes + sum_by (λ s. 6 + 4 * s.bytes) ss
 steps-cons s ss = sum_by-drop_more (λ (s : Span). 6 + 4 * s.bytes) (s ∷ ss) 0 s (omega arith)
 
-bytes_most : (few : Bool) (n : ℕ) → bytes_steps few n ≤ 2 + 4 * n
-bytes_most true n = omega arith
-bytes_most false n = omega arith
+count_most : (small : Bool) → count_steps small ≤ 2
+count_most true = omega arith
+count_most false = omega arith
+
+four_most : (few : Bool) (n : ℕ) → turns_steps 2 (if few then 4 else 3) n ≤ 2 + 4 * n
+four_most true n = let c = count_most (nat_le (n / 4) 255) in omega (arith, c)
+four_most false n = let c = count_most (nat_le (n / 3) 255) in omega (arith, c)
+
+eight_most : (few : Bool) (n : ℕ) → turns_steps 1 (if few then 8 else 7) n ≤ 2 + 4 * n
+eight_most true n = let c = count_most (nat_le (n / 8) 255) in omega (arith, c)
+eight_most false n = let c = count_most (nat_le (n / 7) 255) in omega (arith, c)
+
+turns_most : (filling : Filling) (n : ℕ) → turns_steps (byte_words filling) (bytes_a_turn filling n) n ≤ 2 + 4 * n
+turns_most Copied n = four_most (nat_le (n % 4) 2) n
+turns_most Cleared n = eight_most (nat_le (n % 8) 5) n
+
+row_most : (filling : Filling) (n : ℕ) → byte_words filling * n ≤ 2 + 4 * n
+row_most Copied n = omega arith
+row_most Cleared n = omega arith
+
+row_or_turns_most : (filling : Filling) (few : Bool) (n : ℕ) → row_or_turns_steps filling few n ≤ 2 + 4 * n
+row_or_turns_most filling true n = row_most filling n
+row_or_turns_most filling false n = turns_most filling n
+
+bytes_most : (filling : Filling) (few : Bool) (n : ℕ) → bytes_steps filling few n ≤ 4 + 4 * n
+bytes_most filling true n = let r = row_most filling n in omega (arith, r)
+bytes_most filling false n = let r = row_or_turns_most filling (nat_le n 8) n in omega (arith, r)
+
+source_most : (filling : Filling) → source_steps filling ≤ 2
+source_most Copied = omega arith
+source_most Cleared = omega arith
 
 spans_most : (spans : List Span) → spans_steps spans ≤ sum_by (λ s. 6 + 4 * s.bytes) spans
 spans_most [] = omega arith
 spans_most (s ∷ ss) =
-    let a = bytes_most (nat_le s.bytes 3) s.bytes in
-    let b = spans_most ss in
-    omega (arith, a, b, steps-cons s ss)
+    let a = bytes_most s.filling (nat_le s.bytes (most_stores s.filling)) s.bytes in
+    let b = source_most s.filling in
+    let c = spans_most ss in
+    omega (arith, a, b, c, steps-cons s ss)
 
 spans_set : (e : Env) (spans : List Span) (v : View) (pc end : ℕ) → All (CanBeSet e) spans
     → AllPairs (IsBeside e) spans → HasAt e (spans_code spans) pc end → SetsAll e spans pc v end
@@ -62,7 +94,7 @@ spans_set e (s ∷ ss) v pc end can apart at =
     let mine = All-head (CanBeSet e) s ss can in
     let first = span_sets e s mine v pc parts.0 parts.1 in
     let v1 = first.last in
-    let m = first.moved in
+    let m = first.holds in
     let beside : All (IsBeside e s) ss = λ j d l. apart 0 (suc j) d (omega arith) (omega arith) in
     let rest = spans_set e ss v1 parts.0 end (All-tail (CanBeSet e) s ss can)
     (λ i j d l h. apart (suc i) (suc j) d (omega arith) (omega arith)) parts.2 in
@@ -80,7 +112,7 @@ spans_set e (s ∷ ss) v pc end can apart at =
       seen = rest.seen
           ∙ ap (λ l. l ++ noted_all e (all_accesses e ss)) m.seen
           ∙ append_assoc v.seen _ _
-          ∙ ap (λ l. v.seen ++ l) (sym (noted-append e (accesses e (source e s) (target e s) s.bytes) (all_accesses e ss)));
+          ∙ ap (λ l. v.seen ++ l) (sym (noted-append e (span_accesses e s) (all_accesses e ss)));
     }
 
 -- the stack pointer is set, through R25:R24

@@ -1,6 +1,6 @@
 -- What the code before `main` does.
-use Rattle.std.specs.Prelude.{◌≡◌, ◌≢◌, ℕ, zero, suc, ◌+◌, ◌*◌, ◌<◌, ◌≤◌, true, List, [], ◌∷◌, ◌++◌, slice_index, Some, Bool, false}
-use Rattle.std.specs.Prelude.{nat_le}
+use Rattle.std.specs.Prelude.{◌≡◌, ◌≢◌, ℕ, zero, suc, ◌+◌, ◌*◌, ◌/◌, ◌%◌, ◌<◌, ◌≤◌, true, List, [], ◌∷◌, ◌++◌, slice_index}
+use Rattle.std.specs.Prelude.{Some, Bool, false, nat_le}
 use Rattle.std.specs.Prelude.{sum_by, All, length, IsTrue, count_by}
 use Rattle.std.specs.List.{AllPairs, list_all}
 use Rattle.ec_space.specs.declared.space.Bank.TheVariants.{Flash as FlashBank}
@@ -16,8 +16,10 @@ use Rattle.ec_asm.specs.Pieces.{Outside, is_held}
 use Rattle.ec_asm.specs.Shows.{noted_all}
 use Rattle.ec_asm.specs.Takes.{Goes}
 use Rattle.ec_asm.specs.Valid.{Sizes, is_offset, is_valid_item, used_label, is_label, stands_once, is_placed}
+use Rattle.ec_select_startup.specs.declared.spans.Filling.{Filling}
+use Rattle.ec_select_startup.specs.declared.spans.Filling.TheVariants.{Copied, Cleared}
 use Rattle.ec_select_startup.specs.declared.spans.Span.{Span}
-use Rattle.ec_select_startup.specs.Startup.{startup_code}
+use Rattle.ec_select_startup.specs.Startup.{byte_words, bytes_a_turn, most_stores, startup_code}
 
 -- ---- where spans stand
 
@@ -28,11 +30,12 @@ source e s = e.address_of s.from 0
 abbrev pub target : Env → Span → ℕ
 target e s = e.address_of s.to 0
 
--- all bytes are code's own or an object's, and those that are set stand above the ports
+-- all bytes are code's own or an object's, and those that are set stand above the ports, one behind another
 pub record CanBeSet (e : Env) (s : Span) : Type 0 where
   pub source_room : source e s + s.bytes < 65536
   pub target_room : target e s + s.bytes < 65536
   pub above : 256 ≤ target e s
+  pub address : (k : ℕ) → k < s.bytes → e.address_of s.to k ≡ target e s + k
   pub table : (k : ℕ) → k < s.bytes → is_held (e.table (source e s + k)) ≡ true
   pub kind : (k : ℕ) → k < s.bytes → is_held (e.kind (target e s + k)) ≡ true
 
@@ -52,28 +55,62 @@ pub record HasStack (e : Env) : Type 0 where
 
 -- ---- what is done
 
+-- the initial value of byte k
+abbrev pub byte_of : Env → (from : ℕ) → Filling → (k : ℕ) → ℕ
+byte_of e from Copied k = slice_index e.flash (from + k)
+byte_of e from Cleared k = 0
+
+abbrev pub initial_byte : Env → Span → ℕ → ℕ
+initial_byte e s k = byte_of e (source e s) s.filling k
+
 -- the bytes of a span are its initial bytes
 abbrev pub IsSet : Env → View → Span → Type 0
-IsSet e v s = (k : ℕ) → k < s.bytes → v.at (target e s + k) ≡ slice_index e.flash (source e s + k)
+IsSet e v s = (k : ℕ) → k < s.bytes → v.at (target e s + k) ≡ initial_byte e s k
 
--- the accesses: for each byte, rising, a read of the flash and a write
-abbrev pub accesses : Env → (from to n : ℕ) → List Access
-accesses e from to zero = []
-accesses e from to (suc n) =
-    let byte = slice_index e.flash (from + n) in
-    accesses e from to n ++ Read FlashBank (from + n) byte ∷ Write (to + n) byte ∷ []
+-- the accesses of a byte: a read of the flash, where it is copied, and a write
+abbrev pub reads : Env → (from : ℕ) → Filling → (k : ℕ) → List Access
+reads e from Copied k = Read FlashBank (from + k) (slice_index e.flash (from + k)) ∷ []
+reads e from Cleared k = []
+
+abbrev pub byte_accesses : Env → Filling → (from to k : ℕ) → List Access
+byte_accesses e filling from to k = reads e from filling k ++ Write (to + k) (byte_of e from filling k) ∷ []
+
+-- those of all bytes, rising
+abbrev pub accesses : Env → Filling → (from to n : ℕ) → List Access
+accesses e filling from to zero = []
+accesses e filling from to (suc n) = accesses e filling from to n ++ byte_accesses e filling from to n
+
+abbrev pub span_accesses : Env → Span → List Access
+span_accesses e s = accesses e s.filling (source e s) (target e s) s.bytes
 
 abbrev pub all_accesses : Env → List Span → List Access
 all_accesses e [] = []
-all_accesses e (s ∷ ss) = accesses e (source e s) (target e s) s.bytes ++ all_accesses e ss
+all_accesses e (s ∷ ss) = span_accesses e s ++ all_accesses e ss
 
--- the steps of a span: 4 for both pointers, two for each byte of up to three, and else two and 4 for each byte
-abbrev pub bytes_steps : (few : Bool) → ℕ → ℕ
-bytes_steps true n = 2 * n
-bytes_steps false n = 2 + 4 * n
+-- the steps of a loop: one or two to set the count, and those of the bytes and two more in each turn
+abbrev pub count_steps : (small : Bool) → ℕ
+count_steps true = 1
+count_steps false = 2
+
+abbrev pub turns_steps : (width bytes n : ℕ) → ℕ
+turns_steps width bytes n = count_steps (nat_le (n / bytes) 255) + (width * bytes + 2) * (n / bytes) + width * (n % bytes)
+
+abbrev pub row_or_turns_steps : Filling → (few : Bool) → ℕ → ℕ
+row_or_turns_steps filling true n = byte_words filling * n
+row_or_turns_steps filling false n = turns_steps (byte_words filling) (bytes_a_turn filling n) n
+
+-- by their addresses one after another, or two for X and those by X
+abbrev pub bytes_steps : Filling → (few : Bool) → ℕ → ℕ
+bytes_steps filling true n = byte_words filling * n
+bytes_steps filling false n = 2 + row_or_turns_steps filling (nat_le n 8) n
+
+-- two for Z, or one to clear R0
+abbrev pub source_steps : Filling → ℕ
+source_steps Copied = 2
+source_steps Cleared = 1
 
 abbrev pub span_steps : Span → ℕ
-span_steps s = 4 + bytes_steps (nat_le s.bytes 3) s.bytes
+span_steps s = source_steps s.filling + bytes_steps s.filling (nat_le s.bytes (most_stores s.filling)) s.bytes
 
 abbrev pub spans_steps : List Span → ℕ
 spans_steps [] = 0
@@ -113,14 +150,14 @@ StartupIsRight =
 
 abbrev pub StartupHasWords : Type 0
 StartupHasWords =
-    (spans : List Span) (main : ℕ) → code_words (startup_code spans main) ≤ 8 + 10 * length spans
+    (spans : List Span) (main : ℕ) → code_words (startup_code spans main) ≤ 8 + 20 * length spans
 
 -- ---- items
 
--- both numbers of a span name something, and its bytes have a number of 16 bits
+-- both numbers of a span name something, of which it has no more bytes, and these have a number of 16 bits
 pub record IsValidSpan (sizes : Sizes) (s : Span) : Type 0 where
   pub from : IsTrue (is_offset sizes s.from 0)
-  pub to : IsTrue (is_offset sizes s.to 0)
+  pub to : (k : ℕ) → k ≤ s.bytes → IsTrue (is_offset sizes s.to k)
   pub bytes : s.bytes < 65536
 
 -- the fields of all items are in range where those of the spans are

@@ -2,7 +2,7 @@
 ghost use Rattle.ec_select_startup.specs.Laws.{StartupIsRight, StartupHasWords, StartupIsValid};
 ghost use Rattle.ec_select_startup.specs.Laws.{StartupUsesMain, StartupPlacesNoLabel};
 
-/// In at most so many steps the code sets the stack pointer, copies the initial bytes of each span, and comes to the
+/// In at most so many steps the code sets the stack pointer, copies or clears the bytes of each span, and comes to the
 /// call of `main`, behind which BREAK stands. Nothing rests on what memory held at reset, no port is accessed, and all
 /// other bytes are kept but those of the work registers.
 pub fn startup_is_right()

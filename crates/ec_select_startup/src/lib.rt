@@ -6,4 +6,4 @@
 pub mod laws;
 mod spans;
 
-pub use spans::{Span, startup};
+pub use spans::{Filling, Span, startup};

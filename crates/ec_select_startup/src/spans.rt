@@ -1,13 +1,22 @@
 //! The stack pointer, the initial bytes of objects, and the call of `main`.
-ghost use Rattle.std.specs.Prelude.{◌≡◌, ◌++◌, ◌<◌, OnOk, OnErr};
+ghost use Rattle.std.specs.Prelude.{◌≡◌, ◌++◌, ◌<◌, ◌≤◌, nat_le, OnOk, OnErr};
 ghost use Rattle.ec_runs.specs.Behaviours.{BeginWith};
-ghost use Rattle.ec_asm.specs.Items.{chain};
-ghost use Rattle.ec_select_startup.specs.Startup.{address_code, stack_code, pointers_code, byte_code, repeated_code, bytes_code};
-ghost use Rattle.ec_select_startup.specs.Startup.{span_code, spans_code, startup_code};
+ghost use Rattle.ec_select_startup.specs.Startup.{address_code, stack_code, source_code, byte_code, stores_code, row_code};
+ghost use Rattle.ec_select_startup.specs.Startup.{count_code, down, end_code, byte_words, loop_code, bytes_a_turn, turns_code};
+ghost use Rattle.ec_select_startup.specs.Startup.{pointed_code, most_stores, span_code, spans_code, startup_code};
 
 use ec_asm::AsmItem;
 use ec_isa::Instr;
 use ec_space::{NoMemory, Seq};
+
+/// What the bytes of a span are set to.
+#[derive(Clone, Copy)]
+pub enum Filling {
+    /// The initial bytes in flash.
+    Copied,
+    /// 0.
+    Cleared,
+}
 
 /// Bytes of an object that have initial values.
 ///
@@ -18,6 +27,7 @@ pub struct Span {
     pub from: u16,
     pub to: u16,
     pub bytes: u16,
+    pub filling: Filling,
 }
 
 /// Appends code that sets registers Rd + 1 and Rd to the address of an object.
@@ -54,45 +64,175 @@ fn stack(out: &mut Seq<AsmItem>) -> Result<(), NoMemory>
     ])
 }
 
-/// Appends code that sets Z to the first initial byte and X to the first byte of the object.
-fn pointers(out: &mut Seq<AsmItem>, span: Span) -> Result<(), NoMemory>
-    ensures ok { OnOk result (out.new.items ≡ out.old.items ++ pointers_code span) }
+/// Appends code that sets Z to the first initial byte, or clears R0.
+fn source(out: &mut Seq<AsmItem>, filling: Filling, from: u16) -> Result<(), NoMemory>
+    ensures ok { OnOk result (out.new.items ≡ out.old.items ++ source_code filling from) }
     ensures err { OnErr result (BeginWith out.old.items out.new.items) }
 {
-    address(out, 30, span.from)?;
-    address(out, 26, span.to)
+    match filling {
+        Filling::Copied => address(out, 30, from),
+        Filling::Cleared => out.extend_from_slice(&[AsmItem::Plain(Instr::Eor { d: 0, r: 0 })]),
+    }
 }
 
-/// Appends code that copies so many bytes, one after another.
-fn unrolled(out: &mut Seq<AsmItem>, bytes: u16) -> Result<(), NoMemory>
-    ensures ok { OnOk result (out.new.items ≡ out.old.items ++ chain (λ i. byte_code) bytes) }
+/// Appends code that has the next byte in R0.
+fn byte(out: &mut Seq<AsmItem>, filling: Filling) -> Result<(), NoMemory>
+    ensures ok { OnOk result (out.new.items ≡ out.old.items ++ byte_code filling) }
     ensures err { OnErr result (BeginWith out.old.items out.new.items) }
 {
-    for _ in 0..bytes {
-        out.extend_from_slice(&[
-            AsmItem::Plain(Instr::LpmZPlus { d: 0 }),
-            AsmItem::Plain(Instr::StXPlus { r: 0 }),
-        ])?;
+    match filling {
+        Filling::Copied => out.extend_from_slice(&[AsmItem::Plain(Instr::LpmZPlus { d: 0 })]),
+        Filling::Cleared => Ok(()),
+    }
+}
+
+/// Appends code that sets the first so many bytes of an object, each by its address.
+fn stores(out: &mut Seq<AsmItem>, filling: Filling, object: u16, bytes: u16) -> Result<(), NoMemory>
+    ensures ok { OnOk result (out.new.items ≡ out.old.items ++ stores_code filling object bytes) }
+    ensures err { OnErr result (BeginWith out.old.items out.new.items) }
+{
+    for offset in 0..bytes {
+        byte(out, filling)?;
+        out.push(AsmItem::StoreObj {
+            object,
+            offset: offset as u32,
+            r: 0,
+        })?;
     }
     Ok(())
 }
 
-/// Appends a loop that copies so many bytes, at least one. It counts in R25:R24, and branches back over four words where
-/// the count is not yet 0.
-fn repeated(out: &mut Seq<AsmItem>, bytes: u16) -> Result<(), NoMemory>
-    ensures ok { OnOk result (out.new.items ≡ out.old.items ++ repeated_code bytes) }
+/// Appends code that sets so many bytes from X on, one after another.
+fn row(out: &mut Seq<AsmItem>, filling: Filling, bytes: u16) -> Result<(), NoMemory>
+    ensures ok { OnOk result (out.new.items ≡ out.old.items ++ row_code filling bytes) }
     ensures err { OnErr result (BeginWith out.old.items out.new.items) }
 {
-    let low = (bytes % 256) as u8;
-    let high = (bytes / 256) as u8;
+    for _ in 0..bytes {
+        byte(out, filling)?;
+        out.push(AsmItem::Plain(Instr::StXPlus { r: 0 }))?;
+    }
+    Ok(())
+}
+
+/// Appends code that sets R24, or R25:R24 where the number does not fit in a byte.
+fn count(out: &mut Seq<AsmItem>, turns: u16) -> Result<(), NoMemory>
+    ensures ok { OnOk result (out.new.items ≡ out.old.items ++ count_code (nat_le turns 255) turns) }
+    ensures err { OnErr result (BeginWith out.old.items out.new.items) }
+{
+    if turns <= 255 {
+        out.extend_from_slice(&[AsmItem::Plain(Instr::Ldi {
+            d: 24,
+            k: turns as u8,
+        })])
+    } else {
+        let low = (turns % 256) as u8;
+        let high = (turns / 256) as u8;
+        out.extend_from_slice(&[
+            AsmItem::Plain(Instr::Ldi { d: 24, k: low }),
+            AsmItem::Plain(Instr::Ldi { d: 25, k: high }),
+        ])
+    }
+}
+
+/// The instruction that counts down.
+fn down(small: bool) -> Instr
+    ensures { result ≡ down small }
+{
+    if small {
+        Instr::Dec { d: 24 }
+    } else {
+        Instr::Sbiw { d: 24, k: 1 }
+    }
+}
+
+/// Appends the end of a turn: the count goes down, and where it is not yet 0 the code branches back over so many words.
+fn end(out: &mut Seq<AsmItem>, small: bool, words: u16) -> Result<(), NoMemory>
+    requires { words ≤ 16 }
+    ensures ok { OnOk result (out.new.items ≡ out.old.items ++ end_code small words) }
+    ensures err { OnErr result (out.new.items ≡ out.old.items) }
+{
+    let back = -2 - (words as i16);
     out.extend_from_slice(&[
-        AsmItem::Plain(Instr::Ldi { d: 24, k: low }),
-        AsmItem::Plain(Instr::Ldi { d: 25, k: high }),
-        AsmItem::Plain(Instr::LpmZPlus { d: 0 }),
-        AsmItem::Plain(Instr::StXPlus { r: 0 }),
-        AsmItem::Plain(Instr::Sbiw { d: 24, k: 1 }),
-        AsmItem::Plain(Instr::Brbc { s: 1, k: -4 }),
+        AsmItem::Plain(down(small)),
+        AsmItem::Plain(Instr::Brbc { s: 1, k: back }),
     ])
+}
+
+/// The words of a byte, which are its steps.
+fn byte_words(filling: Filling) -> u16
+    ensures is { result ≡ byte_words filling }
+    ensures few { result ≤ 2 }
+{
+    match filling {
+        Filling::Copied => 2,
+        Filling::Cleared => 1,
+    }
+}
+
+/// Appends a loop of so many turns, at least one, each of which sets so many bytes.
+fn repeated(
+    out: &mut Seq<AsmItem>,
+    filling: Filling,
+    bytes: u16,
+    turns: u16,
+) -> Result<(), NoMemory>
+    requires { bytes ≤ 8 }
+    ensures ok { OnOk result (out.new.items ≡ out.old.items ++ loop_code filling (nat_le turns 255) bytes turns) }
+    ensures err { OnErr result (BeginWith out.old.items out.new.items) }
+{
+    count(out, turns)?;
+    row(out, filling, bytes)?;
+    end(out, turns <= 255, byte_words(filling) * bytes)
+}
+
+/// How many bytes a turn of a loop over so many bytes sets.
+fn bytes_a_turn(filling: Filling, bytes: u16) -> u16
+    ensures is { result ≡ bytes_a_turn filling bytes }
+    ensures some { 1 ≤ result }
+    ensures few { result ≤ 8 }
+{
+    match filling {
+        Filling::Copied => { if bytes % 4 <= 2 { 4 } else { 3 } }
+        Filling::Cleared => { if bytes % 8 <= 5 { 8 } else { 7 } }
+    }
+}
+
+/// Appends code that sets so many bytes from X on in a loop, and what is left over one after another.
+fn turns(out: &mut Seq<AsmItem>, filling: Filling, bytes: u16) -> Result<(), NoMemory>
+    ensures ok { OnOk result (out.new.items ≡ out.old.items ++ turns_code filling (bytes_a_turn filling bytes) bytes) }
+    ensures err { OnErr result (BeginWith out.old.items out.new.items) }
+{
+    let one = bytes_a_turn(filling, bytes);
+    repeated(out, filling, one, bytes / one)?;
+    row(out, filling, bytes % one)
+}
+
+/// Appends code that sets the first so many bytes of an object by X.
+fn pointed(
+    out: &mut Seq<AsmItem>,
+    filling: Filling,
+    object: u16,
+    bytes: u16,
+) -> Result<(), NoMemory>
+    ensures ok { OnOk result (out.new.items ≡ out.old.items ++ pointed_code filling object bytes) }
+    ensures err { OnErr result (BeginWith out.old.items out.new.items) }
+{
+    address(out, 26, object)?;
+    if bytes <= 8 {
+        row(out, filling, bytes)
+    } else {
+        turns(out, filling, bytes)
+    }
+}
+
+/// As many bytes are set by their addresses.
+fn most_stores(filling: Filling) -> u16
+    ensures { result ≡ most_stores filling }
+{
+    match filling {
+        Filling::Copied => 6,
+        Filling::Cleared => 8,
+    }
 }
 
 /// Appends code that sets the bytes of a span.
@@ -100,11 +240,11 @@ fn set_span(out: &mut Seq<AsmItem>, span: Span) -> Result<(), NoMemory>
     ensures ok { OnOk result (out.new.items ≡ out.old.items ++ span_code span) }
     ensures err { OnErr result (BeginWith out.old.items out.new.items) }
 {
-    pointers(out, span)?;
-    if span.bytes <= 3 {
-        unrolled(out, span.bytes)
+    source(out, span.filling, span.from)?;
+    if span.bytes <= most_stores(span.filling) {
+        stores(out, span.filling, span.to, span.bytes)
     } else {
-        repeated(out, span.bytes)
+        pointed(out, span.filling, span.to, span.bytes)
     }
 }
 

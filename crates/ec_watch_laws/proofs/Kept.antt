@@ -21,9 +21,11 @@ use Rattle.ec_emu_watch.specs.declared.run.WatchEnd.TheVariants.{Hit, Ended, Ste
 use Rattle.ec_emu_watch.specs.Hits.{emulated, emulation, IsWatchedBy}
 use Rattle.ec_map.specs.declared.map.Map.{Map}
 use Rattle.ec_locate.specs.declared.placing.Located.{Located}
-use Rattle.ec_select.specs.Program.{has_initial_bytes}
+use Rattle.ec_select.specs.Program.{has_initial_bytes, filling_of}
 use Rattle.ec_select_reset.specs.Laws.{all_but_silent}
-use Rattle.ec_build_laws.specs.Whole.{copying, copying_objects, ProgramsShowTheirSources, ShowsWhole}
+use Rattle.ec_select_startup.specs.declared.spans.Filling.{Filling}
+use Rattle.ec_select_startup.specs.declared.spans.Filling.TheVariants.{Copied, Cleared}
+use Rattle.ec_build_laws.specs.Whole.{copying, clearing, fills, copying_objects, ProgramsShowTheirSources, ShowsWhole}
 use Rattle.ec_core.specs.Layout.{size_of_type}
 use Rattle.ec_watch_laws.specs.Laws.{any_answer, WatchedRunsKeepSources}
 use Rattle.ec_watch_laws.specs.Watched.{KeepsWatched}
@@ -47,6 +49,14 @@ no_stack_copying : (flash : List ℕ) (from to n : ℕ) → has_stack (copying f
 no_stack_copying flash from to zero = refl
 no_stack_copying flash from to (suc n) = no_stack-append (copying flash from to n) _ (no_stack_copying flash from to n) refl
 
+no_stack_clearing : (to n : ℕ) → has_stack (clearing to n) ≡ false
+no_stack_clearing to zero = refl
+no_stack_clearing to (suc n) = no_stack-append (clearing to n) _ (no_stack_clearing to n) refl
+
+no_stack_fills : (flash : List ℕ) (by : Filling) (from to n : ℕ) → has_stack (fills flash by from to n) ≡ false
+no_stack_fills flash Copied from to n = no_stack_copying flash from to n
+no_stack_fills flash Cleared from to n = no_stack_clearing to n
+
 no_stack_copies : (flash : List ℕ) (structs : List PlainStruct) (os : List PlainObject) (initials : List ℕ) (places : List Place)
     → has_stack (copying_objects flash structs os initials places) ≡ false
 no_stack_copies flash structs [] initials places = refl
@@ -54,11 +64,13 @@ no_stack_copies flash structs (o ∷ os) [] places = refl
 no_stack_copies flash structs (o ∷ os) (at ∷ ats) [] = refl
 no_stack_copies flash structs (o ∷ os) (at ∷ ats) (q ∷ qs) =
     no_stack-append
-    (if has_initial_bytes o.storage o.home then copying flash at q.offset (size_of_type structs o.ty) else [])
+    (if has_initial_bytes o.storage o.home
+    then fills flash (filling_of o.storage) at q.offset (size_of_type structs o.ty) else [])
     (copying_objects flash structs os ats qs) (by_test (has_initial_bytes o.storage o.home)) (no_stack_copies flash structs os ats qs)
   where
-    by_test : (b : Bool) → has_stack (if b then copying flash at q.offset (size_of_type structs o.ty) else []) ≡ false
-    by_test true = no_stack_copying flash at q.offset (size_of_type structs o.ty)
+    by_test : (b : Bool)
+        → has_stack (if b then fills flash (filling_of o.storage) at q.offset (size_of_type structs o.ty) else []) ≡ false
+    by_test true = no_stack_fills flash (filling_of o.storage) at q.offset (size_of_type structs o.ty)
     by_test false = refl
 
 same_stack : (trace : List Access) → has_stack (all_but_silent trace) ≡ has_stack trace
