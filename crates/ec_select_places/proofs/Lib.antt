@@ -11,3 +11,4 @@ mod Inverted
 mod Sized
 mod FarPlaces
 mod FarFormed
+mod Indexed

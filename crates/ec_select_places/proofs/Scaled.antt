@@ -1,11 +1,13 @@
 -- A number of elements is loaded to R31:R30, and becomes one of bytes.
 use Rattle.std.proofs.Common.{◌≡◌, ◌≢◌, ℕ, zero, suc, ◌+◌, ◌*◌, ◌/◌, ◌%◌, ◌^◌, ◌<◌, ◌≤◌, ◌==◌, ⊎_elim, Bool, true, false}
-use Rattle.std.proofs.Common.{Some, refl, sym, ap, ◌∙◌, subst, arith, append-nil}
+use Rattle.std.proofs.Common.{Some, [], ◌∷◌, refl, sym, ap, ◌∙◌, subst, arith, append-nil}
 use Rattle.std.specs.Prelude.{if◌then◌else◌, nat_lt, Option, None}
 use Rattle.std.proofs.lemmas.Bool.{cases_eq, eqb-true, ne_eqb, ltb-true}
 use native.Mathlib.Nat.{pow-suc}
 use Rattle.ec_isa.specs.declared.instructions.Instr.TheVariants.{Ldi, Movw, Mul, Add, Adc}
+use Rattle.ec_asm.specs.declared.items.AsmItem.TheVariants.{Plain}
 use Rattle.ec_asm.specs.declared.pieces.Location.{Location}
+use Rattle.ec_asm.specs.declared.pieces.Location.TheVariants.{InRegisters, InMemory}
 use Rattle.ec_asm.specs.View.{View}
 use Rattle.ec_asm.specs.Change.{Env, Own, change}
 use Rattle.ec_asm.specs.Items.{block}
@@ -15,6 +17,7 @@ use Rattle.ec_asm.proofs.Bytes.{put_other}
 use Rattle.ec_asm.proofs.Hoare.{block-append}
 use Rattle.ec_select_bytes.specs.Values.{extend_code, fill_of}
 use Rattle.ec_select_bytes.specs.Laws.{ExtensionsAreRight}
+use Rattle.ec_select_pointers.specs.Accesses.{point_code}
 use Rattle.ec_select_places.specs.Steps.{z_pair, index_code, product_code, byte_product_code, double_z, doublings_code}
 use Rattle.ec_select_places.specs.Steps.{doublings_of, scale_by, scale_code}
 use Rattle.ec_select_places.specs.StepLaws.{LeavesZ, index_of, Scales, IndexesAreScaled}
@@ -61,6 +64,50 @@ two_loaded copies e p n a v l s z h =
       safe = c.safe;
       seen = c.seen ∙ append-nil v.seen;
     }
+
+-- by one MOVW
+one_pair_loaded : (e : Env) (r : ℕ) (v : View) → 2 ≤ r → HoldsNumbers v
+    → Loads v (value v.at r 2) (change e (Movw 30 r) v)
+one_pair_loaded e r v two h =
+    let w = change e (Movw 30 r) v in
+    let x = h r two in
+    let y = h (r + 1) (omega arith) in
+    let n = v.at r + 256 * v.at (r + 1) in
+    let low : w.at 30 ≡ n % 256 = refl in
+    let high : w.at 31 ≡ n / 256 = refl in
+    let same : r + 0 ≡ r = omega arith in
+    record {
+      number_is = rw (low, high, same) (omega (arith, x, y));
+      numbers = λ k u.
+          ⊎_elim
+          (λ (q : k ≡ 30). rw (q, low) (omega arith))
+          (λ (q : k ≢ 30).
+          ⊎_elim
+          (λ (t : k ≡ 31). rw (t, high) (omega (arith, x, y)))
+          (λ (t : k ≢ 31). rw (pair_other v.at 30 n k q t) (h k u))
+          (cases_eq k 31))
+          (cases_eq k 30);
+      same = λ k n0 n1 o.
+          pair_other v.at 30 n k (λ (q : k ≡ 30). let b = o (omega arith) in omega arith)
+          (λ (q : k ≡ 31). let b = o (omega arith) in omega arith);
+      inputs = refl;
+      safe = refl;
+      seen = refl;
+    }
+
+pub pair_loaded : (copies : CopiesAreRight) (e : Env) (p : Location) (n a : ℕ) (v : View) → 2 ≤ n
+    → StandsFrom e p n a Own → LeavesZ a n → HoldsNumbers v → Loads v (value v.at a 2) (block e (point_code p) v)
+pair_loaded copies e (InMemory o k) n a v l s z h = two_loaded copies e (InMemory o k) n a v l s z h
+pair_loaded copies e (InRegisters r) n a v l s z h = by_evenness (r % 2 == 0)
+  where
+    by_evenness : (b : Bool)
+        → Loads v (value v.at a 2) (block e (if b then Plain (Movw 30 r) ∷ [] else copy_code (InRegisters r) z_pair 2) v)
+    by_evenness true =
+        let first = s.at 0 (omega arith) in
+        let is : r ≡ a = omega (arith, first) in
+        let two = s.clear in
+        subst (λ i. Loads v (value v.at i 2) (change e (Movw 30 r) v)) is (one_pair_loaded e r v (omega (arith, two, is)) h)
+    by_evenness false = two_loaded copies e (InRegisters r) n a v l s z h
 
 fill_is_below : (signed : Bool) (x : ℕ) → x < 256 → fill_of signed x < 256
 fill_is_below true x l = omega arith
@@ -114,7 +161,7 @@ index_loads lower e p signed (suc (suc n)) a v s z l h =
     let ua = s.clear in
     let low : value v.at a (suc (suc n)) % 65536 ≡ value v.at a 2 =
     lower.low v.at a 2 (suc (suc n)) (omega arith) (λ j m. h (a + j) (omega arith)) in
-    rw (ne_eqb (suc (suc n)) 1 (omega arith), low) (two_loaded lower.copies e p (suc (suc n)) a v (omega arith) s z h)
+    rw (ne_eqb (suc (suc n)) 1 (omega arith), low) (pair_loaded lower.copies e p (suc (suc n)) a v (omega arith) s z h)
 
 -- ---- scaled
 

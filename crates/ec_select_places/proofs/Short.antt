@@ -1,9 +1,11 @@
 -- The form of the code: straight code, and its steps and words.
-use Rattle.std.proofs.Common.{ℕ, zero, suc, ◌+◌, ◌*◌, ◌≤◌, ◌==◌, Bool, true, false, List}
+use Rattle.std.proofs.Common.{ℕ, zero, suc, ◌+◌, ◌*◌, ◌%◌, ◌≤◌, ◌==◌, Bool, true, false, List, [], ◌∷◌}
 use Rattle.std.proofs.Common.{◌++◌, refl, arith}
 use Rattle.std.specs.Prelude.{if◌then◌else◌}
 use Rattle.std.proofs.lemmas.List.Sums.{sum_by-append}
+use Rattle.ec_isa.specs.declared.instructions.Instr.TheVariants.{Movw}
 use Rattle.ec_asm.specs.declared.items.AsmItem.{AsmItem}
+use Rattle.ec_asm.specs.declared.items.AsmItem.TheVariants.{Plain}
 use Rattle.ec_asm.specs.declared.pieces.Location.{Location}
 use Rattle.ec_asm.specs.declared.pieces.Location.TheVariants.{InRegisters, InMemory}
 use Rattle.ec_asm.specs.declared.pieces.Operator.TheVariants.{Difference}
@@ -12,8 +14,9 @@ use Rattle.ec_asm.specs.Pieces.{copy_code, operate_code}
 use Rattle.ec_asm.proofs.Hoare.{straight-append, steps-append}
 use Rattle.ec_select_bytes.specs.Values.{extend_code}
 use Rattle.ec_select_order.specs.Laws.{RelationsHaveWords}
+use Rattle.ec_select_pointers.specs.Accesses.{point_code}
 use Rattle.ec_select_places.specs.Steps.{z_pair, index_code, scale_code, advance_code, compared_bytes}
-use Rattle.ec_select_places.specs.Conversions.{tag_code, put_tag, embed_code}
+use Rattle.ec_select_places.specs.Conversions.{embed_code}
 use Rattle.ec_select_places.specs.Distances.{halve_z, halvings_code, distance_code}
 use Rattle.ec_select_places.specs.Form.{DistancesAreShort}
 use Rattle.ec_select_places.proofs.Multiples.{of_each}
@@ -65,16 +68,23 @@ copy_short (InMemory o k) (InRegisters s) =
 copy_short (InMemory o k) (InMemory u j) =
     record { straight = refl; at_least = omega arith; at_most = omega arith; words_are = omega arith }
 
+point_short : (p : Location) → IsShort (point_code p) 1 4 8
+point_short (InMemory o k) = within _ 1 2 4 4 8 8 (omega arith) (omega arith) (omega arith) (copy_short (InMemory o k) z_pair)
+point_short (InRegisters r) =
+    by_test (r % 2 == 0) (Plain (Movw 30 r) ∷ []) (copy_code (InRegisters r) z_pair 2) 1 4 8
+    (record { straight = refl; at_least = omega arith; at_most = omega arith; words_are = omega arith })
+    (within _ 1 2 4 4 8 8 (omega arith) (omega arith) (omega arith) (copy_short (InRegisters r) z_pair))
+
 extend_short : (signed : Bool) → IsShort (extend_code signed z_pair 1 2) 0 5 8
 extend_short true = record { straight = refl; at_least = omega arith; at_most = omega arith; words_are = omega arith }
 extend_short false = record { straight = refl; at_least = omega arith; at_most = omega arith; words_are = omega arith }
 
 index_short : (p : Location) (signed : Bool) (n : ℕ) → IsShort (index_code p signed n) 1 9 14
 index_short p signed n =
-    by_test (n == 1) (copy_code p z_pair 1 ++ extend_code signed z_pair 1 2) (copy_code p z_pair 2) 1 9 14
+    by_test (n == 1) (copy_code p z_pair 1 ++ extend_code signed z_pair 1 2) (point_code p) 1 9 14
     (within _ 1 1 7 9 12 14 (omega arith) (omega arith) (omega arith)
     (joined (copy_code p z_pair 1) (extend_code signed z_pair 1 2) 1 0 2 5 4 8 (copy_one p) (extend_short signed)))
-    (within _ 1 2 4 9 8 14 (omega arith) (omega arith) (omega arith) (copy_short p z_pair))
+    (within _ 1 1 4 9 8 14 (omega arith) (omega arith) (omega arith) (point_short p))
 
 scale_short : (size : ℕ) → IsShort (scale_code size) 0 10 10
 scale_short size =
@@ -96,19 +106,11 @@ advance_short false (InRegisters r) =
 advance_short false (InMemory o k) =
     record { straight = refl; at_least = omega arith; at_most = omega arith; words_are = omega arith }
 
-tag_short : (to_data : Bool) → IsShort (tag_code to_data) 1 5 5
-tag_short true = record { straight = refl; at_least = omega arith; at_most = omega arith; words_are = omega arith }
-tag_short false = record { straight = refl; at_least = omega arith; at_most = omega arith; words_are = omega arith }
-
-put_short : (q : Location) → IsShort (put_tag q) 1 1 2
-put_short (InRegisters r) = record { straight = refl; at_least = omega arith; at_most = omega arith; words_are = omega arith }
-put_short (InMemory o k) = record { straight = refl; at_least = omega arith; at_most = omega arith; words_are = omega arith }
-
-embed_short : (to_data : Bool) (p q : Location) → IsShort (embed_code to_data p q) 6 14 23
-embed_short to_data p q =
-    let t = joined (tag_code to_data) (put_tag q) 1 1 5 1 5 2 (tag_short to_data) (put_short q) in
-    let u = joined (copy_code z_pair q 2) (tag_code to_data ++ put_tag q) 2 2 4 6 8 7 (copy_short z_pair q) t in
-    joined (copy_code p z_pair 2) (copy_code z_pair q 2 ++ (tag_code to_data ++ put_tag q)) 2 4 4 10 8 15 (copy_short p z_pair) u
+embed_short : (to_data : Bool) (q : Location) → IsShort (embed_code to_data q) 1 10 10
+embed_short true (InRegisters r) = record { straight = refl; at_least = omega arith; at_most = omega arith; words_are = omega arith }
+embed_short true (InMemory o k) = record { straight = refl; at_least = omega arith; at_most = omega arith; words_are = omega arith }
+embed_short false (InRegisters r) = record { straight = refl; at_least = omega arith; at_most = omega arith; words_are = omega arith }
+embed_short false (InMemory o k) = record { straight = refl; at_least = omega arith; at_most = omega arith; words_are = omega arith }
 
 difference_short : (c : Location) → IsShort (operate_code Difference c z_pair 2) 2 4 6
 difference_short (InRegisters r) = record { straight = refl; at_least = omega arith; at_most = omega arith; words_are = omega arith }
@@ -130,7 +132,7 @@ steps_are_short p q signed minus n size =
     (joined (index_code p signed n) (scale_code size) 1 0 9 10 14 10 (index_short p signed n) (scale_short size), advance_short minus q)
 
 pub conversions_are_short : ConversionsAreShort
-conversions_are_short to_data p q = (embed_short to_data p q, copy_short p q)
+conversions_are_short to_data p q = (embed_short to_data q, copy_short p q)
 
 pub orders_have_words : RelationsHaveWords → OrdersHaveWords
 orders_have_words words r left right n = words r false left right (compared_bytes r n)

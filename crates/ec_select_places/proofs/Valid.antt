@@ -1,11 +1,13 @@
 -- The items of the code are valid, and have no labels.
 use Rattle.std.proofs.Common.{◌≡◌, ℕ, zero, suc, ◌+◌, ◌/◌, ◌%◌, ◌<◌, ◌≤◌, ◌==◌, Bool, true, false, List}
-use Rattle.std.proofs.Common.{◌++◌, refl, ◌∙◌, arith}
+use Rattle.std.proofs.Common.{[], ◌∷◌, ◌++◌, refl, ◌∙◌, arith}
 use Rattle.std.specs.Prelude.{count_by, cond, if◌then◌else◌}
 use Rattle.std.specs.List.{list_all}
 use Rattle.std.proofs.lemmas.Bool.{lt-ltb, eqb-true, eqb-false}
 use Rattle.std.proofs.lemmas.List.Folds.{sum_by-zero}
+use Rattle.ec_isa.specs.declared.instructions.Instr.TheVariants.{Movw}
 use Rattle.ec_asm.specs.declared.items.AsmItem.{AsmItem}
+use Rattle.ec_asm.specs.declared.items.AsmItem.TheVariants.{Plain}
 use Rattle.ec_asm.specs.declared.pieces.Location.{Location}
 use Rattle.ec_asm.specs.declared.pieces.Location.TheVariants.{InRegisters, InMemory}
 use Rattle.ec_asm.specs.declared.pieces.Operator.TheVariants.{Difference}
@@ -15,11 +17,12 @@ use Rattle.ec_select_bytes.specs.Values.{extend_code}
 use Rattle.ec_select_order.specs.declared.relations.Relation.{Relation}
 use Rattle.ec_select_order.specs.declared.relations.Relation.TheVariants.{Less, NotLess, Equal, NotEqual}
 use Rattle.ec_select_order.specs.Relations.{truth_code, relation_code}
+use Rattle.ec_select_pointers.specs.Accesses.{point_code}
 use Rattle.ec_select_pointers.proofs.Valid.{both, all_pass, is_plain, no_use, no_place, passing}
 use Rattle.ec_select_places.specs.Steps.{z_pair, index_code, product_code, scale_code, scale_index_code}
 use Rattle.ec_select_places.specs.Steps.{advance_code}
 use Rattle.ec_select_places.specs.Steps.{order_code, compared_bytes}
-use Rattle.ec_select_places.specs.Conversions.{tag_code, put_tag, embed_code, narrow_code}
+use Rattle.ec_select_places.specs.Conversions.{embed_code, narrow_code}
 use Rattle.ec_select_places.proofs.Multiples.{of_each}
 use Rattle.ec_select_places.specs.Form.{HasPlaces, HasNoLabel, StepsAreValid, OrdersAreValid, ConversionsAreValid}
 use Rattle.ec_select_places.specs.Distances.{halve_z, halvings_code, distance_code}
@@ -44,13 +47,6 @@ module _ (t : AsmItem → Bool) where
       → list_all t (relation_code r false left right n) ≡ true
   order_passes r left right n h k =
       both t (compare_code right left n) (truth_code r false) (all_pass t (compare_byte right left) n h) k
-
-  embed_passes : (to_data : Bool) (p q : Location) → list_all t (copy_code p z_pair 2) ≡ true
-      → list_all t (copy_code z_pair q 2) ≡ true → list_all t (tag_code to_data) ≡ true → list_all t (put_tag q) ≡ true
-      → list_all t (embed_code to_data p q) ≡ true
-  embed_passes to_data p q a b c d =
-      both t (copy_code p z_pair 2) (copy_code z_pair q 2 ++ (tag_code to_data ++ put_tag q)) a
-      (both t (copy_code z_pair q 2) (tag_code to_data ++ put_tag q) b (both t (tag_code to_data) (put_tag q) c d))
 
   distance_passes : (p c q : Location) (twos inverse : ℕ) → list_all t (copy_code p z_pair 2) ≡ true
       → list_all t (operate_code Difference c z_pair 2) ≡ true → list_all t halve_z ≡ true
@@ -81,6 +77,15 @@ module _ (sizes : Sizes) where
   to_z_valid (InRegisters r) n l h = rw (lt-ltb (r + 0) 32 (omega arith), lt-ltb (r + 1) 32 (omega arith)) refl
   to_z_valid (InMemory o k) n l h = rw (h 0 (omega arith), h 1 (omega arith)) refl
 
+  pair_valid : (p : Location) (n : ℕ) → 2 ≤ n → HasPlaces sizes p n → list_all valid (point_code p) ≡ true
+  pair_valid (InMemory o k) n l h = to_z_valid (InMemory o k) n l h
+  pair_valid (InRegisters r) n l h = by_evenness (r % 2 == 0) refl
+    where
+      by_evenness : (b : Bool) → (r % 2 == 0) ≡ b
+          → list_all valid (if b then Plain (Movw 30 r) ∷ [] else copy_code (InRegisters r) z_pair 2) ≡ true
+      by_evenness true e = rw (lt-ltb r 32 (omega arith), e) refl
+      by_evenness false e = to_z_valid (InRegisters r) n l h
+
   from_z_valid : (q : Location) (n : ℕ) → 2 ≤ n → HasPlaces sizes q n → list_all valid (copy_code z_pair q 2) ≡ true
   from_z_valid (InRegisters r) n l h = rw (lt-ltb (r + 0) 32 (omega arith), lt-ltb (r + 1) 32 (omega arith)) refl
   from_z_valid (InMemory o k) n l h = rw (h 0 (omega arith), h 1 (omega arith)) refl
@@ -105,10 +110,10 @@ module _ (sizes : Sizes) where
   extend_valid false = refl
 
   index_valid : (p : Location) (signed : Bool) (n : ℕ) (b : Bool) → (n == 1) ≡ b → 1 ≤ n → HasPlaces sizes p n
-      → list_all valid (if b then copy_code p z_pair 1 ++ extend_code signed z_pair 1 2 else copy_code p z_pair 2) ≡ true
+      → list_all valid (if b then copy_code p z_pair 1 ++ extend_code signed z_pair 1 2 else point_code p) ≡ true
   index_valid p signed n true e l h =
       both valid (copy_code p z_pair 1) (extend_code signed z_pair 1 2) (one_valid p n l h) (extend_valid signed)
-  index_valid p signed n false e l h = let q = eqb-false n 1 e in to_z_valid p n (omega (arith, q)) h
+  index_valid p signed n false e l h = let q = eqb-false n 1 e in pair_valid p n (omega (arith, q)) h
 
   product_valid : (size : ℕ) → size < 65536 → list_all valid (product_code size) ≡ true
   product_valid size l = rw (lt-ltb (size % 256) 256 (omega arith), lt-ltb (size / 256) 256 (omega arith)) refl
@@ -147,13 +152,11 @@ module _ (sizes : Sizes) where
   truth_valid Equal = refl
   truth_valid NotEqual = refl
 
-  tag_valid : (to_data : Bool) → list_all valid (tag_code to_data) ≡ true
-  tag_valid true = refl
-  tag_valid false = refl
-
-  put_valid : (q : Location) → HasPlaces sizes q 3 → list_all valid (put_tag q) ≡ true
-  put_valid (InRegisters r) h = rw (lt-ltb (r + 2) 32 (omega arith)) refl
-  put_valid (InMemory o k) h = rw (h 2 (omega arith)) refl
+  embed_valid : (to_data : Bool) (q : Location) → HasPlaces sizes q 3 → list_all valid (embed_code to_data q) ≡ true
+  embed_valid true (InRegisters b) h = rw (lt-ltb (b + 2) 32 (omega arith), lt-ltb b 32 (omega arith), lt-ltb (b + 1) 32 (omega arith)) refl
+  embed_valid true (InMemory o k) h = rw (h 0 (omega arith), h 1 (omega arith), h 2 (omega arith)) refl
+  embed_valid false (InRegisters b) h = rw (lt-ltb (b + 2) 32 (omega arith)) refl
+  embed_valid false (InMemory o k) h = rw (h 2 (omega arith)) refl
 
 pub steps_are_valid : StepsAreValid
 steps_are_valid sizes p q signed minus n size hp some l hq = (
@@ -169,11 +172,7 @@ orders_are_valid sizes r left right n two hl hr =
     (λ i l. compare_valid sizes right left n i hr hl (omega (arith, m, l))) (truth_valid sizes r)
 
 pub conversions_are_valid : ConversionsAreValid
-conversions_are_valid sizes to_data p q hp = (
-  λ h. embed_passes (is_valid_item sizes) to_data p q (to_z_valid sizes p 2 (omega arith) hp)
-      (from_z_valid sizes q 3 (omega arith) h) (tag_valid sizes to_data) (put_valid sizes q h),
-  λ h. copy_valid sizes p q hp h,
-)
+conversions_are_valid sizes to_data p q = (λ h. embed_valid sizes to_data q h, λ hp h. copy_valid sizes p q hp h)
 
 pub distances_are_valid : DistancesAreValid
 distances_are_valid sizes p c q twos inverse hp hc hq l =
@@ -202,15 +201,19 @@ one_plain : (p : Location) → list_all is_plain (copy_code p z_pair 1) ≡ true
 one_plain (InRegisters r) = refl
 one_plain (InMemory o j) = refl
 
+pair_plain : (p : Location) → list_all is_plain (point_code p) ≡ true
+pair_plain (InRegisters r) = by_test is_plain (r % 2 == 0) (Plain (Movw 30 r) ∷ []) (copy_code (InRegisters r) z_pair 2) refl refl
+pair_plain (InMemory o j) = refl
+
 extend_plain : (signed : Bool) → list_all is_plain (extend_code signed z_pair 1 2) ≡ true
 extend_plain true = refl
 extend_plain false = refl
 
 index_plain : (p : Location) (signed : Bool) (n : ℕ) → list_all is_plain (index_code p signed n) ≡ true
 index_plain p signed n =
-    by_test is_plain (n == 1) (copy_code p z_pair 1 ++ extend_code signed z_pair 1 2) (copy_code p z_pair 2)
+    by_test is_plain (n == 1) (copy_code p z_pair 1 ++ extend_code signed z_pair 1 2) (point_code p)
     (both is_plain (copy_code p z_pair 1) (extend_code signed z_pair 1 2) (one_plain p) (extend_plain signed))
-    (copy_plain p z_pair)
+    (pair_plain p)
 
 scale_plain : (size : ℕ) → list_all is_plain (scale_code size) ≡ true
 scale_plain size = of_each (λ (code : List AsmItem). list_all is_plain code ≡ true) size refl refl refl refl (λ small. refl) refl
@@ -233,13 +236,11 @@ truth_plain NotLess = refl
 truth_plain Equal = refl
 truth_plain NotEqual = refl
 
-tag_plain : (to_data : Bool) → list_all is_plain (tag_code to_data) ≡ true
-tag_plain true = refl
-tag_plain false = refl
-
-put_plain : (q : Location) → list_all is_plain (put_tag q) ≡ true
-put_plain (InRegisters r) = refl
-put_plain (InMemory o k) = refl
+embed_plain : (to_data : Bool) (q : Location) → list_all is_plain (embed_code to_data q) ≡ true
+embed_plain true (InRegisters b) = refl
+embed_plain true (InMemory o k) = refl
+embed_plain false (InRegisters b) = refl
+embed_plain false (InMemory o k) = refl
 
 pub places_have_no_label : PlacesHaveNoLabel
 places_have_no_label p q signed minus to_data r n size = (
@@ -247,8 +248,7 @@ places_have_no_label p q signed minus to_data r n size = (
   has_no_label (advance_code minus q) (advance_plain minus q),
   has_no_label (order_code r p q n)
       (order_passes is_plain r p q (compared_bytes r n) (λ i l. compare_plain q p i) (truth_plain r)),
-  has_no_label (embed_code to_data p q)
-      (embed_passes is_plain to_data p q (copy_plain p z_pair) (copy_plain z_pair q) (tag_plain to_data) (put_plain q)),
+  has_no_label (embed_code to_data q) (embed_plain to_data q),
   has_no_label (narrow_code p q) (copy_plain p q),
 )
 

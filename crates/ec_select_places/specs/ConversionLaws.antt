@@ -20,12 +20,11 @@ pub record HasPut (v : View) (b n number : ℕ) (w : View) : Type 0 where
   pub safe : w.safe ≡ v.safe
   pub seen : w.seen ≡ v.seen
 
--- two bytes become three, wherever both stand
+-- two bytes become three, where they stand
 abbrev pub PointersAreEmbedded : Type 0
 PointersAreEmbedded =
-    (to_data : Bool) (e : Env) (p q : Location) (a b : ℕ) (v : View) → StandsFrom e p 2 a Own → LeavesZ a 2
-    → StandsFrom e q 3 b Own → LeavesZ b 3 → HoldsNumbers v
-    → HasPut v b 3 (embedded to_data (value v.at a 2)) (block e (embed_code to_data p q) v)
+    (to_data : Bool) (e : Env) (q : Location) (b : ℕ) (v : View) → StandsFrom e q 3 b Own → LeavesZ b 3 → HoldsNumbers v
+    → HasPut v b 3 (embedded to_data (value v.at b 2)) (block e (embed_code to_data q) v)
 
 -- three bytes become two
 abbrev pub PointersAreNarrowed : Type 0

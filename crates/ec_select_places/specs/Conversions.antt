@@ -1,12 +1,12 @@
 -- Pieces of code for pointers of two bytes that become pointers of three bytes, and back. R0, R1, R30 and R31 are work
 -- registers.
 use Rattle.std.specs.Prelude.{ℕ, ◌+◌, ◌*◌, ◌==◌, Bool, true, false, if◌then◌else◌, List, [], ◌∷◌, ◌++◌}
-use Rattle.ec_isa.specs.declared.instructions.Instr.TheVariants.{Ldi, Eor, Cp, Cpc, Ror}
+use Rattle.ec_isa.specs.declared.instructions.Instr.TheVariants.{Eor, Cp, Cpc, Ror}
 use Rattle.ec_asm.specs.declared.items.AsmItem.{AsmItem}
-use Rattle.ec_asm.specs.declared.items.AsmItem.TheVariants.{Plain}
+use Rattle.ec_asm.specs.declared.items.AsmItem.TheVariants.{Plain, StoreObj}
 use Rattle.ec_asm.specs.declared.pieces.Location.{Location}
-use Rattle.ec_asm.specs.declared.pieces.Location.TheVariants.{InRegisters}
-use Rattle.ec_asm.specs.Pieces.{copy_code, copy_byte}
+use Rattle.ec_asm.specs.declared.pieces.Location.TheVariants.{InRegisters, InMemory}
+use Rattle.ec_asm.specs.Pieces.{copy_code}
 use Rattle.ec_select_places.specs.Steps.{z_pair}
 
 -- the tags of the two banks
@@ -23,19 +23,17 @@ tag_of to_data = if to_data then data_tag else flash_tag
 abbrev pub embedded : Bool → ℕ → ℕ
 embedded to_data x = if x == 0 then 0 else x + tag_of to_data * 65536
 
--- R30 becomes the tag of the pointer in R31:R30. For data C tells whether 0 is less than it, and becomes the top bit
-abbrev pub tag_code : Bool → List AsmItem
-tag_code true =
-    Plain (Eor 1 1) ∷ Plain (Cp 1 30) ∷ Plain (Cpc 1 31) ∷ Plain (Ldi 30 0) ∷ Plain (Ror 30) ∷ []
-tag_code false = Plain (Ldi 30 0) ∷ []
+-- C tells whether 0 is less than the pointer of two bytes in two registers, and becomes the top bit of a third one
+abbrev pub data_tag_code : (t low high : ℕ) → List AsmItem
+data_tag_code t low high = Plain (Eor t t) ∷ Plain (Cp t low) ∷ Plain (Cpc t high) ∷ Plain (Ror t) ∷ []
 
--- byte 2 from R30 is R30 where byte 0 is R28
-abbrev pub put_tag : Location → List AsmItem
-put_tag q = copy_byte (InRegisters 28) q 2
-
--- the pointer goes through R31:R30, which are looked at for the tag
-abbrev pub embed_code : Bool → (p q : Location) → List AsmItem
-embed_code to_data p q = copy_code p z_pair 2 ++ (copy_code z_pair q 2 ++ (tag_code to_data ++ put_tag q))
+-- a pointer of two bytes gets its tag behind them. In memory the tag is made in R1
+abbrev pub embed_code : Bool → Location → List AsmItem
+embed_code true (InRegisters b) = data_tag_code (b + 2) b (b + 1)
+embed_code true (InMemory o k) =
+    copy_code (InMemory o k) z_pair 2 ++ (data_tag_code 1 30 31 ++ StoreObj o (k + 2) 1 ∷ [])
+embed_code false (InRegisters b) = Plain (Eor (b + 2) (b + 2)) ∷ []
+embed_code false (InMemory o k) = Plain (Eor 1 1) ∷ StoreObj o (k + 2) 1 ∷ []
 
 abbrev pub narrow_code : (p q : Location) → List AsmItem
 narrow_code p q = copy_code p q 2

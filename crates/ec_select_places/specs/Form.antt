@@ -27,7 +27,7 @@ StepsAreShort =
 
 abbrev pub ConversionsAreShort : Type 0
 ConversionsAreShort =
-    (to_data : Bool) (p q : Location) → IsShort (embed_code to_data p q) 6 14 23 × IsShort (narrow_code p q) 2 4 8
+    (to_data : Bool) (p q : Location) → IsShort (embed_code to_data q) 1 10 10 × IsShort (narrow_code p q) 2 4 8
 
 abbrev pub DistancesAreShort : Type 0
 DistancesAreShort =
@@ -67,9 +67,9 @@ OrdersAreValid =
 
 abbrev pub ConversionsAreValid : Type 0
 ConversionsAreValid =
-    (sizes : Sizes) (to_data : Bool) (p q : Location) → HasPlaces sizes p 2
-    → (HasPlaces sizes q 3 → ItemsAreValid sizes (embed_code to_data p q))
-    × (HasPlaces sizes q 2 → ItemsAreValid sizes (narrow_code p q))
+    (sizes : Sizes) (to_data : Bool) (p q : Location)
+    → (HasPlaces sizes q 3 → ItemsAreValid sizes (embed_code to_data q))
+    × (HasPlaces sizes p 2 → HasPlaces sizes q 2 → ItemsAreValid sizes (narrow_code p q))
 
 abbrev pub DistancesAreValid : Type 0
 DistancesAreValid =
@@ -92,7 +92,7 @@ abbrev pub PlacesHaveNoLabel : Type 0
 PlacesHaveNoLabel =
     (p q : Location) (signed minus to_data : Bool) (r : Relation) (n size : ℕ)
     → HasNoLabel (scale_index_code p signed n size) × HasNoLabel (advance_code minus q)
-    × HasNoLabel (order_code r p q n) × HasNoLabel (embed_code to_data p q) × HasNoLabel (narrow_code p q)
+    × HasNoLabel (order_code r p q n) × HasNoLabel (embed_code to_data q) × HasNoLabel (narrow_code p q)
 
 abbrev pub DistancesHaveNoLabel : Type 0
 DistancesHaveNoLabel = (p c q : Location) (twos inverse : ℕ) → HasNoLabel (distance_code p c q twos inverse)

@@ -9,3 +9,5 @@ pub mod DistanceLaws
 pub mod Far
 pub mod FarLaws
 pub mod FarForm
+pub mod Indexes
+pub mod IndexLaws

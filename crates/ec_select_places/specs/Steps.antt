@@ -13,6 +13,7 @@ use Rattle.ec_select_order.specs.declared.relations.Relation.{Relation}
 use Rattle.ec_select_order.specs.declared.relations.Relation.TheVariants.{Less, NotLess, Equal, NotEqual}
 use Rattle.ec_select_order.specs.Relations.{relation_code}
 use Rattle.ec_select_bytes.specs.Values.{extend_code}
+use Rattle.ec_select_pointers.specs.Accesses.{point_code}
 
 -- R30 and R31
 abbrev pub z_pair : Location
@@ -23,7 +24,7 @@ z_pair = InRegisters 30
 -- the low two bytes of a number of n bytes, or one byte with its sign or 0 above it
 abbrev pub index_code : Location → Bool → ℕ → List AsmItem
 index_code p signed n =
-    if n == 1 then copy_code p z_pair 1 ++ extend_code signed z_pair 1 2 else copy_code p z_pair 2
+    if n == 1 then copy_code p z_pair 1 ++ extend_code signed z_pair 1 2 else point_code p
 
 -- R31:R30 times a constant: the product of the low bytes, and those of a low and a high byte above it
 abbrev pub product_code : ℕ → List AsmItem

@@ -1,6 +1,7 @@
 //! What the pieces of code do.
 ghost use Rattle.ec_select_places.specs.Numbers.{PlacesAreNumbers, OffsetsAreLow};
 ghost use Rattle.ec_select_places.specs.StepLaws.{IndexesAreScaled, PointersAreAdvanced, PointersAreCompared};
+ghost use Rattle.ec_select_places.specs.IndexLaws.{IndexesAreAdded, IndexesAreShort, IndexesAreValid, IndexesHaveNoLabel};
 ghost use Rattle.ec_select_places.specs.ConversionLaws.{PointersAreEmbedded, PointersAreNarrowed, EmbeddingsKeepPlaces};
 ghost use Rattle.ec_select_places.specs.Form.{StepsAreShort, ConversionsAreShort, OrdersHaveWords};
 ghost use Rattle.ec_select_places.specs.Form.{StepsAreValid, OrdersAreValid, ConversionsAreValid, PlacesHaveNoLabel};
@@ -13,9 +14,7 @@ ghost use Rattle.ec_select_places.specs.FarLaws.{FarPointersAreAdvanced, FarElem
 ghost use Rattle.ec_select_places.specs.FarForm.{FarStepsAreShort, FarOrdersHaveWords, FarStepsAreValid};
 ghost use Rattle.ec_select_places.specs.FarForm.{FarOrdersAreValid, FarPlacesHaveNoLabel};
 
-use ec_asm::laws::{
-    bytes_are_right, copies_are_right, numbers_are_their_bytes, operators_are_right,
-};
+use ec_asm::laws::{copies_are_right, numbers_are_their_bytes, operators_are_right};
 use ec_select_bytes::laws::extensions_are_right;
 use ec_select_order::laws::{relations_are_told, relations_have_words};
 
@@ -36,6 +35,21 @@ pub fn indexes_are_scaled()
     extensions_are_right();
     numbers_are_their_bytes();
 }
+
+/// The code of `add_index` adds an index to the offset in a pointer, or subtracts it, modulo 65,536, where `can_add` holds,
+/// and keeps all else but R0, R1, R26 and the flags.
+pub fn indexes_are_added()
+    ensures { IndexesAreAdded }
+{
+    numbers_are_their_bytes();
+}
+
+/// It is straight, and has so many steps and words. Its items can be placed, and have no labels.
+pub fn indexes_are_formed()
+    ensures short { IndexesAreShort }
+    ensures valid { IndexesAreValid }
+    ensures labels { IndexesHaveNoLabel }
+{}
 
 /// The code of `advance` adds R31:R30 to the offset in a pointer, or subtracts it, modulo 65,536, and keeps all else
 /// but R0, R1 and the flags.
@@ -86,14 +100,13 @@ pub fn pointers_are_compared()
     relations_are_told();
 }
 
-/// The code of `embed` puts a pointer of two bytes to three, with the tag of its bank where it is not null, and that of
-/// `narrow` puts the low two bytes of three. All else is kept but R0, R1, R30, R31 and the flags.
+/// The code of `embed` puts the tag of its bank behind a pointer of two bytes where it is not null, and 0 where it is, and
+/// that of `narrow` puts the low two bytes of three. All else is kept but R0, R1, R30, R31 and the flags.
 pub fn pointers_are_converted()
     ensures embedded { PointersAreEmbedded }
     ensures narrowed { PointersAreNarrowed }
 {
     copies_are_right();
-    bytes_are_right();
 }
 
 /// The code is straight but for that of `order`. It has at least and at most so many steps, and at most so many words.

@@ -10,6 +10,7 @@ use ec_asm::{AsmItem, Location, Operator, copy, operate};
 use ec_isa::Instr;
 use ec_select_bytes::extend;
 use ec_select_order::{Relation, relate};
+use ec_select_pointers::point;
 use ec_space::{NoMemory, Seq};
 
 /// R31:R30.
@@ -35,7 +36,7 @@ fn load_index(
         copy(out, from, z_pair(), 1)?;
         extend(out, signed, z_pair(), 1, 2)
     } else {
-        copy(out, from, z_pair(), 2)
+        point(out, from)
     }
 }
 

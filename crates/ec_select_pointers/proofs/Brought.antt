@@ -19,6 +19,7 @@ use Rattle.ec_asm.proofs.Bytes.{put_here, put_other}
 use Rattle.ec_select_pointers.specs.Accesses.{data_byte, flash_byte, store_byte}
 use Rattle.ec_select_pointers.specs.AccessLaws.{each, Brings}
 use Rattle.ec_select_pointers.specs.Far.{far_byte}
+use Rattle.ec_select_pointers.specs.Fetched.{member_byte}
 use Rattle.ec_select_pointers.proofs.Blocks.{outside_ne, fewer}
 
 -- ---- one byte
@@ -82,6 +83,15 @@ pub data_is_brought : (e : Env) (q : Location) (i t a : ℕ) (v : View) → addr
 data_is_brought e (InRegisters r) i t a v p k z ka low high =
     rw (p, z, ka) (at_once t (v.at a) (Read DataBank a (v.at a)) v low high)
 data_is_brought e (InMemory o j) i t a v p k z ka low high =
+    rw (p, z, ka, k) (by_r0 t (v.at a) (v.at a) (Read DataBank a (v.at a)) v low high)
+
+-- the same where the first byte stands at a displacement from Z
+pub member_is_brought : (e : Env) (d : ℕ) (q : Location) (i t a : ℕ) (v : View) → address e q i ≡ t → KindIs e q t Own
+    → (pair v.at 30 + (d + i)) % 65536 ≡ a → e.kind a ≡ Object → t ≢ 30 → t ≢ 31
+    → BringsByte v (block e (member_byte d q i) v) t (v.at a) (Read DataBank a (v.at a)) (pair v.at 30)
+member_is_brought e d (InRegisters r) i t a v p k z ka low high =
+    rw (p, z, ka) (at_once t (v.at a) (Read DataBank a (v.at a)) v low high)
+member_is_brought e d (InMemory o j) i t a v p k z ka low high =
     rw (p, z, ka, k) (by_r0 t (v.at a) (v.at a) (Read DataBank a (v.at a)) v low high)
 
 pub byte_is_stored : (e : Env) (p : Location) (i a t : ℕ) (v : View) → address e p i ≡ a → KindIs e p a Own

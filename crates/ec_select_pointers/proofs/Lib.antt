@@ -1,4 +1,5 @@
 -- For the crates of the family.
+pub mod InZ
 pub mod Valid
 -- For this crate alone.
 mod Blocks

@@ -6,3 +6,5 @@ pub mod Form
 pub mod Far
 pub mod FarLaws
 pub mod FarForm
+pub mod Fetched
+pub mod FetchedLaws

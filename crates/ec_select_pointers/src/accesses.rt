@@ -12,8 +12,9 @@ use ec_asm::{AsmItem, Location, copy};
 use ec_isa::Instr;
 use ec_space::{NoMemory, Seq};
 
-/// Appends code that sets Z to the address in a pointer.
-pub(crate) fn point(out: &mut Seq<AsmItem>, pointer: Location) -> Result<(), NoMemory>
+/// Appends code that sets Z to the address in a pointer, or to another number of two bytes: by one MOVW from an even register.
+/// Where memory runs out, a part of the code is appended.
+pub fn point(out: &mut Seq<AsmItem>, pointer: Location) -> Result<(), NoMemory>
     requires { HasBytes pointer 2 }
     ensures ok { OnOk result (out.new.items ≡ out.old.items ++ point_code pointer) }
     ensures err { OnErr result (BeginWith out.old.items out.new.items) }

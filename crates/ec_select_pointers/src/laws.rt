@@ -11,6 +11,9 @@ ghost use Rattle.ec_select_pointers.specs.FarLaws.{FarFlashIsLoadedByTop, FarAdd
 ghost use Rattle.ec_select_pointers.specs.FarForm.{FarPointersAreStraight, FarPointersTake, FarPointersHave};
 ghost use Rattle.ec_select_pointers.specs.FarForm.{FarAddressesAreValid, FarTablesAreValid, FarAccessesAreValid};
 ghost use Rattle.ec_select_pointers.specs.FarForm.{FarPointersHaveNoLabel};
+ghost use Rattle.ec_select_pointers.specs.FetchedLaws.{PointersAreFetched, ZIsSet, MembersAreLoaded};
+ghost use Rattle.ec_select_pointers.specs.FetchedLaws.{FetchesAreShort, MembersAreShort, PointIsShort};
+ghost use Rattle.ec_select_pointers.specs.FetchedLaws.{FetchesAreValid, PointIsValid, MembersAreValid, FetchesHaveNoLabel};
 
 use ec_asm::laws::{copies_are_right, jumps_go, parts_stand, runs_join, straight_code_goes};
 
@@ -126,4 +129,25 @@ pub fn far_pointers_are_valid()
     ensures tables { FarTablesAreValid }
     ensures accesses { FarAccessesAreValid }
     ensures labels { FarPointersHaveNoLabel }
+{}
+
+/// The code of `fetch` reads each byte of a pointer once and leaves its address in Z, and that of `point` sets Z without
+/// being noted. All else is kept but R0. The code of `load_member` brings the bytes at a displacement from Z, each by one
+/// read, by rising address.
+pub fn pointers_stay_in_z()
+    ensures fetched { PointersAreFetched }
+    ensures set { ZIsSet }
+    ensures loaded { MembersAreLoaded }
+{}
+
+/// It is straight, takes at least and at most so many steps and has at most so many words. Its items can be placed, and
+/// have no labels.
+pub fn pointers_in_z_are_formed()
+    ensures fetches { FetchesAreShort }
+    ensures members { MembersAreShort }
+    ensures point { PointIsShort }
+    ensures fetches_valid { FetchesAreValid }
+    ensures point_valid { PointIsValid }
+    ensures members_valid { MembersAreValid }
+    ensures labels { FetchesHaveNoLabel }
 {}

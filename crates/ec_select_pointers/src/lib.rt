@@ -7,6 +7,9 @@
 //! `specs/AddressLaws.antt`, `specs/AccessLaws.antt` and `specs/Form.antt` what they do. R0, R30 and R31 are work
 //! registers.
 //!
+//! A pointer may stay in Z over loads at a displacement. `specs/Fetched.antt` has the pieces for this, and
+//! `specs/FetchedLaws.antt` what they do.
+//!
 //! On a core with RAMPZ a pointer of three bytes into flash has the whole address. `specs/Far.antt` has the pieces for
 //! these, `specs/FarLaws.antt` and `specs/FarForm.antt` what they do.
 #![tactic(auto)]
@@ -14,9 +17,11 @@
 mod accesses;
 mod addresses;
 mod far;
+mod fetched;
 pub mod laws;
 mod memory;
 
-pub use accesses::{load_any, load_data, load_flash, load_table, store_data};
+pub use accesses::{load_any, load_data, load_flash, load_table, point, store_data};
 pub use addresses::{address, field};
 pub use far::{far_address, far_field, load_any_far, load_far, load_far_table};
+pub use fetched::{fetch, load_member};

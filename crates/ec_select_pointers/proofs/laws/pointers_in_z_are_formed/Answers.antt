@@ -1,0 +1,14 @@
+use Rattle.ec_select_pointers.proofs.InZ.{fetches_are_short, members_are_short, point_is_short}
+use Rattle.ec_select_pointers.proofs.InZ.{fetches_are_valid, point_is_valid, members_are_valid, fetches_have_no_label}
+use Rattle.ec_select_pointers.proofs.laws.pointers_in_z_are_formed.Goals as goal
+
+pub returns : goal.returns
+returns c = record {
+  fetches = fetches_are_short;
+  members = members_are_short;
+  point = point_is_short;
+  fetches_valid = fetches_are_valid;
+  point_valid = point_is_valid;
+  members_valid = members_are_valid;
+  labels = fetches_have_no_label;
+}
