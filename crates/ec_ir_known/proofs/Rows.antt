@@ -13,7 +13,7 @@ use Rattle.ec_ir_known.specs.declared.known.KnownNumber.{KnownNumber}
 use Rattle.ec_ir_known.specs.declared.known.RightNumber.{RightNumber}
 use Rattle.ec_ir_known.specs.Known.{Known, is_set, of_bytes, converted, operand_number, known_after, right_number, right_of}
 use Rattle.ec_ir_known.specs.Known.{is_byte_of, byte_left, number_in, byte_where, leaves_byte, is_low, is_wide_type, is_below}
-use Rattle.ec_ir_known.specs.Known.{fits_byte}
+use Rattle.ec_ir_known.specs.Known.{fits_byte, fits_second}
 use Rattle.ec_ir_known.specs.Known.{known_at, known_of, numbers_from, numbers_left, right_numbers, HaveResultPlaces}
 use Rattle.ec_ir_known.proofs.Places.{Stands, known_next, next_stands, nothing_first, all_left}
 
@@ -98,8 +98,9 @@ after_same (cell_port false from cell offset index width) a b h place = h place
 
 right_same : (i : PlainIr) (a b : Known) → AreSame a b → right_number a i ≡ right_number b i
 right_same (binary_op op ty mode to c aty d bty) a b h =
-    ap (λ (x : Bool). right_of x (number_in a d)) (fits_same a b c h)
-    ∙ ap (λ (x : Option KnownNumber). right_of (fits_byte b c) (of_bytes d.bytes x)) (h d.at)
+    ap (λ (x : Bool). right_of x (fits_second a d bty) (number_in a d)) (fits_same a b c h)
+    ∙ ap (λ (x : Bool). right_of (fits_byte b c) (is_wide_type bty && x) (number_in a d)) (fits_same a b d h)
+    ∙ ap (λ (x : Option KnownNumber). right_of (fits_byte b c) (fits_second b d bty) (of_bytes d.bytes x)) (h d.at)
 right_same (label l) a b h = refl
 right_same (constant t n) a b h = refl
 right_same (copy to from) a b h = refl
@@ -112,7 +113,7 @@ right_same (store_object o offset t) a b h = refl
 right_same (unary_op op ty mode to c) a b h = refl
 right_same (conversion to ty mode c aty) a b h = refl
 right_same (jump l) a b h = refl
-right_same (branch_zero t l) a b h = ap (λ (x : Bool). right_of x (Some (pos 0))) (fits_same a b t h)
+right_same (branch_zero t l) a b h = ap (λ (x : Bool). right_of x false (Some (pos 0))) (fits_same a b t h)
 right_same (call_function f to) a b h = refl
 right_same (return_from from) a b h = refl
 right_same (port_in to port index width) a b h = refl

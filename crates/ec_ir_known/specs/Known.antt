@@ -181,20 +181,25 @@ known_behind (i ∷ before) = known_after i (known_behind before)
 abbrev pub known_at : (code rest : List PlainIr) → Known
 known_at code rest = known_behind (reverse (take (length code - length rest) code))
 
--- it is in a byte where the other operand is too
-abbrev pub right_of : (byte : Bool) → Option ℤ → Option RightNumber
-right_of byte None = None
-right_of byte (Some n) = Some (record { number = n; in_byte = byte && is_byte n })
+-- of a second operand something is known where it is known to hold a number, or where both operands are below 256
+abbrev pub right_of : (left right : Bool) → Option ℤ → Option RightNumber
+right_of left right None = if left && right then Some (record { number = None; in_byte = true }) else None
+right_of left right (Some n) = Some (record { number = Some n; in_byte = left && is_byte n })
 
 -- more bytes than one are known to be below 256
 abbrev pub fits_byte : Known → Temp → Bool
 fits_byte known t = nat_lt 1 t.bytes && is_byte_of t.bytes (known t.at)
 
+-- and so is a second operand of an integer type
+abbrev pub fits_second : Known → Temp → PlainType → Bool
+fits_second known t ty = is_wide_type ty && fits_byte known t
+
 -- the number that the second operand of a binary operator is known to hold. It is in a byte where the first operand, of
--- more bytes, is known to be below 256, and so is the number. A branch tests against 0
+-- more bytes, is known to be below 256, and so is the number, or what the second operand, of more bytes too, holds in
+-- place of a known number. A branch tests against 0
 abbrev pub right_number : Known → PlainIr → Option RightNumber
-right_number known (binary_op op ty mode to a aty b bty) = right_of (fits_byte known a) (number_in known b)
-right_number known (branch_zero t l) = right_of (fits_byte known t) (Some (pos 0))
+right_number known (binary_op op ty mode to a aty b bty) = right_of (fits_byte known a) (fits_second known b bty) (number_in known b)
+right_number known (branch_zero t l) = right_of (fits_byte known t) false (Some (pos 0))
 right_number known i = None
 
 -- for each of the operations that are left

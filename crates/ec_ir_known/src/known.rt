@@ -8,7 +8,7 @@ ghost use Rattle.ec_ir.specs.Operations.{plain_ir};
 ghost use Rattle.ec_ir_known.specs.Known.{known_of, number_in, is_integer_size, brought, converted, operand_number};
 ghost use Rattle.ec_ir_known.specs.Known.{converted_by, integer_of, numbers_from, keeps_bytes, byte_left, is_byte};
 ghost use Rattle.ec_ir_known.specs.Known.{is_byte_of, right_of, is_wide, is_small, is_below, is_low, is_low_result};
-ghost use Rattle.ec_ir_known.specs.Known.{is_wide_type, leaves_byte, byte_where, fits_byte};
+ghost use Rattle.ec_ir_known.specs.Known.{is_wide_type, leaves_byte, byte_where, fits_byte, fits_second};
 ghost use Rattle.ec_ir_known.specs.Known.{is_set, result_of, number_left, known_after, right_number, right_numbers};
 ghost use Rattle.ec_ir_known.specs.Known.{HasResultPlace, HaveResultPlaces};
 
@@ -26,11 +26,11 @@ pub struct KnownNumber {
     pub number: Option<i128>,
 }
 
-/// The number that the second operand of a binary operator holds. It is in a byte where it is below 256, and the first
-/// operand, which has more bytes, is too.
+/// The number that the second operand of a binary operator holds, where it is known. It is in a byte where it is below 256,
+/// and the first operand, which has more bytes, is too.
 #[derive(Clone, Copy, Debug, PartialEq, Eq)]
 pub struct RightNumber {
-    pub number: i128,
+    pub number: Option<i128>,
     pub in_byte: bool,
 }
 
@@ -315,6 +315,13 @@ impl KnownNumbers {
         1 < t.bytes && self.is_byte(t.at, t.bytes)
     }
 
+    /// And so is a second operand of an integer type.
+    fn fits_second(&self, t: Temp, ty: &CType) -> bool
+        ensures { result ≡ fits_second (known_of self.now) t (plain_type ty.now) }
+    {
+        is_wide_type(ty) && self.fits_byte(t)
+    }
+
     /// The number of an integer operand, whose temporary has as many bytes as its type.
     fn operand(&self, t: Temp, ty: &CType) -> Option<i128>
         ensures { result ≡ operand_number (known_of self.now) t (plain_type ty.now) }
@@ -383,26 +390,35 @@ impl KnownNumbers {
         }
     }
 
-    /// The number that the second operand of a binary operator is known to hold; a branch tests against 0.
+    /// What the second operand of a binary operator is known to hold; a branch tests against 0.
     pub fn right(&self, i: &Ir) -> Option<RightNumber>
         ensures { result ≡ right_number (known_of self.now) (plain_ir i.now) }
     {
         match i {
-            Ir::Bin { a, b, .. } => right_of(self.fits_byte(*a), self.number(*b)),
-            Ir::BranchZero(t, _) => right_of(self.fits_byte(*t), Some(0)),
+            Ir::Bin { a, b, bty, .. } => {
+                let right = self.fits_second(*b, bty);
+                right_of(self.fits_byte(*a), right, self.number(*b))
+            }
+            Ir::BranchZero(t, _) => right_of(self.fits_byte(*t), false, Some(0)),
             _ => None,
         }
     }
 }
 
-/// A number, which is in a byte where the other operand is too.
-fn right_of(byte: bool, number: Option<i128>) -> Option<RightNumber>
-    ensures { result ≡ right_of byte number }
+/// What is known of a second operand, which may be known to hold a number, where the operands are below 256, or not.
+fn right_of(left: bool, right: bool, number: Option<i128>) -> Option<RightNumber>
+    ensures { result ≡ right_of left right number }
 {
     match number {
-        Some(number) => {
-            let in_byte = byte && is_byte(number);
+        Some(n) => {
+            let in_byte = left && is_byte(n);
             Some(RightNumber { number, in_byte })
+        }
+        None if left && right => {
+            Some(RightNumber {
+                number,
+                in_byte: true,
+            })
         }
         None => None,
     }
@@ -434,8 +450,8 @@ fn push_numbers(
     Ok(())
 }
 
-/// For each operation of a function the number that the second operand of a binary operator is known to hold, and 0 for
-/// that which a branch tests against.
+/// For each operation of a function what the second operand of a binary operator is known to hold, and 0 for that which a
+/// branch tests against.
 ///
 /// The operations set places below `slots` alone.
 #[tactic(auto, using(crate::proofs::Rows::all_numbers))]
