@@ -8,9 +8,10 @@ use Rattle.ec_ir.specs.Operations.{store_object, binary_op, unary_op, conversion
 use Rattle.ec_ir.specs.Operations.{call_function, return_from, port_in, port_out, load_cell, store_cell, cell_port}
 use Rattle.ec_select_operations.specs.Code.{result_wanted, wanted_behind, wanted_bytes, register_places}
 use Rattle.ec_ir_known.specs.declared.known.RightNumber.{RightNumber}
-use Rattle.ec_select_operations.specs.Needs.{Need, at_least, without, either, wanted, is_whole, first_wanted, second_wanted}
+use Rattle.ec_select_operations.specs.Needs.{Need, at_least, without, either, wanted, is_fixed, is_whole, first_wanted}
+use Rattle.ec_select_operations.specs.Needs.{second_wanted, family_of, is_apart}
 use Rattle.ec_select_operations.specs.Needs.{only_wanted, index_needed, without_result, number_taken, takes_whole, right_taken}
-use Rattle.ec_select_operations.specs.Needs.{first_bytes, right_needed, before}
+use Rattle.ec_select_operations.specs.Needs.{right_needed, before}
 use Rattle.ec_select_operations.specs.Needs.{compared_bytes, facts_of, known_right, needs}
 use Rattle.ec_select_operations.specs.Written.{row_from, kept_row, kept_rows}
 use Rattle.ec_select_live.specs.Places.{HasPlace, HasPlaces, HavePlaces}
@@ -65,17 +66,19 @@ module _ (s : ℕ) (here there : ℕ → Need) where
   before_same n (load_object t o offset) a b l k h = same_without s t.at a b h
   before_same n (store_object o offset t) a b l k h = same_least s t.at t.bytes t.bytes a b refl h
   before_same n (binary_op op ty mode to x xty y yty) a b l k h =
-      let w = is_whole xty || is_whole yty in
+      let w = is_apart (family_of op) mode ty xty yty in
       let taken = number_taken n w op in
       let right = right_taken n (takes_whole op mode ty xty yty to y) w op in
-      same_least s x.at (first_wanted w op (first_bytes taken op x.bytes) (wanted a to)) (first_wanted w op (first_bytes taken op x.bytes) (wanted b to))
-      (right_needed right y.at (second_wanted w op y.bytes (wanted a to)) (without to.at a))
-      (right_needed right y.at (second_wanted w op y.bytes (wanted b to)) (without to.at b))
-      (λ j. first_wanted w op (first_bytes taken op x.bytes) (same_wanted s to a b l.0 h j))
-      (same_right s right to y.at (second_wanted w op y.bytes) a b l.0 h)
+      let first = first_wanted w op (compared_bytes taken x.bytes) in
+      let second = second_wanted w op (compared_bytes taken y.bytes) in
+      same_least s x.at (first (wanted a to)) (first (wanted b to))
+      (right_needed right y.at (second (wanted a to)) (without to.at a))
+      (right_needed right y.at (second (wanted b to)) (without to.at b))
+      (λ j. first (same_wanted s to a b l.0 h j))
+      (same_right s right to y.at second a b l.0 h)
   before_same n (unary_op op ty mode to x) a b l k h = same_value s to x.at (only_wanted (is_whole ty) x.bytes) a b l.0 h
   before_same n (conversion to ty mode x xty) a b l k h =
-      same_value s to x.at (only_wanted (is_whole ty || is_whole xty) x.bytes) a b l.0 h
+      same_value s to x.at (only_wanted (is_fixed ty || is_fixed xty) x.bytes) a b l.0 h
   before_same n (branch_zero t q) a b l k h =
       same_least s t.at (compared_bytes n t.bytes) (compared_bytes n t.bytes) (either a (here q)) (either b (there q)) refl
       (same_either s a b (here q) (there q) h k)

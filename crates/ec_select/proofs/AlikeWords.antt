@@ -29,7 +29,10 @@ use Rattle.ec_select_fixed.specs.Codes.{fixed_binary_code}
 use Rattle.ec_select_fixed.specs.Types.{AreFixedOperands}
 use Rattle.ec_select_operations.specs.declared.families.Told.{Told}
 use Rattle.ec_select_operations.specs.Code.{Linkage, operation_code, family_of, is_signed, is_on_integers, has_one_format, by_kind}
+use Rattle.ec_select_operations.specs.declared.families.Family.TheVariants.{Divided}
 use Rattle.ec_select_operations.specs.Code.{fixed_binary, pointer_binary, integer_binary, operator_code, is_placed, same_location}
+use Rattle.ec_select_operations.specs.Code.{taking_code}
+use Rattle.ec_select_functions.proofs.ByRoutine.{divided_number}
 use Rattle.ec_select_operations.specs.Code.{placed_binary, answer_code, answer_location, work_location}
 use Rattle.ec_select_operations.specs.Needs.{Need, is_fixed}
 use Rattle.ec_select_operations.specs.Pointers.{is_pointer}
@@ -183,18 +186,26 @@ module _ (slots : ℕ) (to a b : Temp) (ty aty bty : PlainType) where
 divided_alike : (known : Option RightNumber) (telling : Option Told) (left right : Bool) (p q to : Location) (bytes n : ℕ)
     → code_words (integer_binary known telling Div left right p q to bytes n)
     ≤ code_words (integer_binary known None Div left right p q to bytes n)
-divided_alike None None left right p q to bytes n = omega arith
-divided_alike None (Some told) left right p q to bytes n = omega arith
-divided_alike (Some k) None left right p q to bytes n = omega arith
-divided_alike (Some k) (Some told) left right p q to bytes n = omega arith
+divided_alike known telling left right p q to bytes n =
+    subst (λ x. code_words (taking_code x telling (Divided false) left right p q to bytes n)
+    ≤ code_words (taking_code x None (Divided false) left right p q to bytes n)) (sym (divided_number Div false refl known)) (alone telling)
+  where
+    alone : (telling : Option Told) → code_words (operator_code telling (Divided false) left right p q to bytes n)
+        ≤ code_words (operator_code None (Divided false) left right p q to bytes n)
+    alone None = omega arith
+    alone (Some told) = omega arith
 
 remainder_alike : (known : Option RightNumber) (telling : Option Told) (left right : Bool) (p q to : Location) (bytes n : ℕ)
     → code_words (integer_binary known telling Rem left right p q to bytes n)
     ≤ code_words (integer_binary known None Rem left right p q to bytes n)
-remainder_alike None None left right p q to bytes n = omega arith
-remainder_alike None (Some told) left right p q to bytes n = omega arith
-remainder_alike (Some k) None left right p q to bytes n = omega arith
-remainder_alike (Some k) (Some told) left right p q to bytes n = omega arith
+remainder_alike known telling left right p q to bytes n =
+    subst (λ x. code_words (taking_code x telling (Divided true) left right p q to bytes n)
+    ≤ code_words (taking_code x None (Divided true) left right p q to bytes n)) (sym (divided_number Rem true refl known)) (alone telling)
+  where
+    alone : (telling : Option Told) → code_words (operator_code telling (Divided true) left right p q to bytes n)
+        ≤ code_words (operator_code None (Divided true) left right p q to bytes n)
+    alone None = omega arith
+    alone (Some told) = omega arith
 
 integer_alike : (slots : ℕ) (to a b : Temp) (ty aty bty : PlainType) (known : Option RightNumber) (telling : Option Told)
     (left right : Bool) (p q r : Location) (n : ℕ) (op : BinOp) (mode : Mode) (s : Shape)
@@ -243,7 +254,7 @@ alike p results f called slots at k l told telling known n kept others (binary_o
     let rest = λ (core : Core) (y : Option Told). by_kind (is_pointer aty || is_pointer bty)
     (pointer_binary known core (is_pointer aty) (is_pointer bty) p op aty bty (at a) (at b) (at to) a.bytes b.bytes n)
     (integer_binary known y op (is_signed aty) (is_signed bty) (at a) (at b) (at to) a.bytes n) in
-    let whole = λ (y : Option Told). operator_code y (family_of op) (is_signed aty) (is_signed bty) (at a) (at b) (at to) a.bytes n in
+    let whole = λ (y : Option Told). integer_binary known y op (is_signed aty) (is_signed bty) (at a) (at b) (at to) a.bytes n in
     let other = if is_placed op mode ty aty bty && not (same_location (at b) (at to))
     then placed_binary known op (is_signed aty) (at a) (at b) (at to) a.bytes n
     else answer_code (fixed_binary_code op ty aty bty mode (at a) (at b) answer_location work_location) (at to) n in

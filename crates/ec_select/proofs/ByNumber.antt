@@ -1,5 +1,5 @@
 -- Operators with a known number: their items, and their words.
-use Rattle.std.proofs.Common.{◌≡◌, ℕ, zero, suc, ◌+◌, ◌*◌, ◌<◌, ◌≤◌, Bool, true, false, [], ◌∷◌, refl, arith}
+use Rattle.std.proofs.Common.{◌≡◌, ℕ, zero, suc, ◌+◌, ◌*◌, ◌<◌, ◌≤◌, Bool, true, false, ◌&&◌, [], ◌∷◌, refl, subst, arith}
 use Rattle.std.specs.Prelude.{nat_le, if◌then◌else◌}
 use Rattle.std.proofs.lemmas.Bool.{lt-ltb}
 use Rattle.ec_isa.specs.declared.instructions.Instr.TheVariants.{Cpi, Ldi, Mov}
@@ -11,14 +11,14 @@ use Rattle.ec_asm.specs.declared.pieces.Operator.{Operator}
 use Rattle.ec_asm.specs.declared.pieces.Operator.TheVariants.{Sum, Difference, BitAnd, BitOr, BitXor}
 use Rattle.ec_asm.specs.Items.{code_words}
 use Rattle.ec_asm.specs.Pieces.{compares}
-use Rattle.ec_asm.specs.Valid.{Sizes}
+use Rattle.ec_asm.specs.Valid.{Sizes, is_offset}
 use Rattle.ec_select_bytes.specs.Values.{byte_of}
 use Rattle.ec_select_numbers.specs.declared.operators.ByNumber.{ByNumber}
 use Rattle.ec_select_numbers.specs.declared.operators.ByNumber.TheVariants.{Subtract, Mask, Set}
 use Rattle.ec_select_numbers.specs.ByNumber.{immediate, is_neutral, immediate_byte, changed_byte, changed_code, negated}
 use Rattle.ec_select_numbers.specs.ByNumber.{compared_byte, compared_code as compared_with_code}
 use Rattle.ec_select_numbers.specs.Laws.{NumbersAreStraight}
-use Rattle.ec_select_operations.specs.Code.{changed_by_code}
+use Rattle.ec_select_operations.specs.Code.{changed_by_code, same_location, masked_at, masked_code}
 use Rattle.ec_select.proofs.Fitting.{fits, Fit, chained, ByteFits, BytesFit, reg}
 use Rattle.ec_select.proofs.Pieces.{compares_fits}
 
@@ -76,7 +76,29 @@ module _ (sizes : Sizes) where
       chained (fits sizes) (λ i. compared_byte p (byte_of number i) i) n
       (λ i l. compared_byte_fits p (byte_of number i) i (omega arith) (x i l))
 
+  -- a byte and a number
+  pub masked_fits : (p q : Location) (k : ℕ) → k < 256 → BytesFit sizes p 1 → Fit sizes (masked_code p q k)
+  masked_fits (InRegisters r) q k b x = by_place (nat_le 16 r) refl (same_location (InRegisters r) q) where
+    here : r < 32
+    here = let first = x 0 (omega arith) in omega (arith, first)
+
+    by_place : (high : Bool) → nat_le 16 r ≡ high → (same : Bool) → Fit sizes (masked_at (high && same) r k)
+    by_place true s true = rw (s, reg r here, lt-ltb k 256 b) refl
+    by_place true s false = rw (reg r here, lt-ltb k 256 b) refl
+    by_place false s same = rw (reg r here, lt-ltb k 256 b) refl
+  masked_fits (InMemory o j) q k b x =
+      let begin : j + 0 ≡ j = omega arith in
+      let first = subst (λ (i : ℕ). is_offset sizes o i ≡ true) begin (x 0 (omega arith)) in
+      rw (first, lt-ltb k 256 b) refl
+
 -- ---- words
+
+pub masked_words : (p q : Location) (k : ℕ) → code_words (masked_code p q k) ≤ 3
+masked_words (InRegisters r) q k = by_place (nat_le 16 r && same_location (InRegisters r) q) where
+  by_place : (here : Bool) → code_words (masked_at here r k) ≤ 3
+  by_place true = omega arith
+  by_place false = omega arith
+masked_words (InMemory o j) q k = omega arith
 
 pub changed_by_words : NumbersAreStraight → (op : Operator) (p : Location) (number n : ℕ)
     → code_words (changed_by_code op p number n) ≤ 5 * n

@@ -201,7 +201,8 @@ module _ (core : Core) (p : PlainIrProgram) (valid : ValidWithCells p) (has : Ha
   none_there x items h =
       eqb-true (count_by (is_label x) items) 0 (sum_by-zero (λ i. cond (is_label x i) 1 0) items ∙ h)
 
-  others_pass : (x f : ℕ) (g : PlainIrFunction) → slice_get p.functions f ≡ Some g → (told telling : Option Told) (known : Option RightNumber)
+  others_pass : (x f : ℕ) (g : PlainIrFunction) → slice_get p.functions f ≡ Some g → (told telling : Option Told)
+      (known : Option RightNumber)
       (need : Need)
       (i : PlainIr)
       → IsCovered (data_of p) has.results f (called_in g.code) g.slots i → UsesCells valid.0 i
@@ -266,7 +267,7 @@ module _ (core : Core) (p : PlainIrProgram) (valid : ValidWithCells p) (has : Ha
       ≡ placed_in x (link f g).label_of code
   code_places x f g e at told [] h u = refl
   code_places x f g e at told (i ∷ code) h u =
-      let next = tells_next at told i code in
+      let next = tells_next (data_of p) at told i code in
       let here = operation_places x f g e told next (at.known (i ∷ code)) (needs at code) i h.0 u.0 in
       let rest = code_places x f g e at next code h.1 u.1 in
       joined_count x (op_code (data_of p) (home (link f g).homes) (link f g) told next (at.known (i ∷ code)) (needs at code) i)

@@ -24,7 +24,7 @@ use Rattle.ec_select_fixed.specs.Codes.{fixed_binary_code}
 use Rattle.ec_select_routines.specs.Laws.{CallsHave}
 use Rattle.ec_select_operations.specs.declared.homes.Homes.{Homes}
 use Rattle.ec_select_operations.specs.Code.{family_of, is_signed, is_on_integers, same_location, placed_whole, answer_code}
-use Rattle.ec_select_operations.specs.Code.{answer_location, work_location, binary_code, fixed_binary, placed_binary, by_kind}
+use Rattle.ec_select_operations.specs.Code.{answer_location, work_location, fixed_binary, placed_binary, by_kind}
 use Rattle.ec_select_operations.specs.Code.{pointer_binary, integer_binary, called_code}
 use Rattle.ec_select_operations.specs.Homes.{home}
 use Rattle.ec_select_operations.specs.Needs.{is_fixed, is_placed, is_counted, takes_count}
@@ -107,7 +107,7 @@ module _ (calls : CallsHave) (core : Core) (p : PlainProgram) (results : ℕ →
       stopped = placed_binary known op (is_signed aty) (home h a) (home h b) (home h to) a.bytes n
 
       by_tests : (x y z : Bool) → x ≡ false → y ≡ true → z ≡ false → code_words stopped ≤ 12 + 14 * widest (ty ∷ aty ∷ bty ∷ [])
-          → code_words (if x then binary_code (family_of op) (is_signed aty) (is_signed bty) (home h a) (home h b) (home h to) a.bytes n
+          → code_words (if x then integer_binary known None op (is_signed aty) (is_signed bty) (home h a) (home h b) (home h to) a.bytes n
           else (if y && not z then stopped
           else answer_code (fixed_binary_code op ty aty bty mode (home h a) (home h b) answer_location work_location) (home h to) n))
           ≤ 12 + 14 * widest (ty ∷ aty ∷ bty ∷ [])
@@ -157,7 +157,8 @@ module _ (calls : CallsHave) (core : Core) (p : PlainProgram) (results : ℕ →
           let same : r ≡ s = of_shape (shape_code r) r s e in
           let call : shape_call s ≡ 12 + 14 * wide =
           sym (ap shape_call same)
-          ∙ fixed_call op exact on_fixed on_pointers wide (not_exact op exact on_fixed on_pointers wide r s e) (some_fixed ty aty bty either) in
+          ∙ fixed_call op exact on_fixed on_pointers wide (not_exact op exact on_fixed on_pointers wide r s e)
+          (some_fixed ty aty bty either) in
           subst (λ (x : ℕ). code_words (own_items core p h known n i) ≤ x) (sym call) own
   used_within (unary_op op ty mode to a) s covered bytes e few = call_within calls (home h) 0 n (unary_op op ty mode to a) s bytes e few
   used_within (conversion to ty mode a aty) s covered bytes e few =

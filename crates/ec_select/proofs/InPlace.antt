@@ -1,6 +1,6 @@
 -- The code of operators on fixed-point numbers whose result is computed in its place: its items fit, and its words.
 use Rattle.std.proofs.Common.{◌≡◌, ℕ, zero, suc, ◌+◌, ◌-◌, ◌*◌, ◌%◌, ◌^◌, ◌<◌, ◌≤◌, Bool, true, false, ◌++◌, refl, arith, ◌∷◌, [], Option}
-use Rattle.std.proofs.Common.{Some, pos, leb-true}
+use Rattle.std.proofs.Common.{Some, pos, leb-true, ℤ}
 use Rattle.std.specs.Prelude.{None, nat_le, nat_lt, if◌then◌else◌}
 use Rattle.std.proofs.lemmas.Bool.{lt-ltb, and_parts}
 use Rattle.std.proofs.lemmas.Bool.Decides.{nat_tests}
@@ -30,6 +30,7 @@ use Rattle.ec_ir_known.specs.declared.known.RightNumber.{RightNumber}
 use Rattle.ec_select_shifts.specs.declared.shifts.Direction.TheVariants.{Left, Right}
 use Rattle.ec_select_shifts.specs.Shifts.{counted_code}
 use Rattle.ec_select_operations.specs.Code.{is_difference, takes_place, move_code, stopped_code, placed_shift, placed_whole}
+use Rattle.ec_select_operations.specs.Needs.{number_known}
 use Rattle.ec_select_operations.specs.Emitted.{second_bytes}
 use Rattle.ec_select.proofs.Fitting.{fits, Fit, joined, chained, ByteFits, BytesFit, reg}
 use Rattle.ec_select.proofs.Limits.{stopped_words, stopped_fits}
@@ -56,17 +57,18 @@ placed_not_bitwise Ge mode one q = absurd cc
 placed_not_bitwise Eq mode one q = absurd cc
 placed_not_bitwise Ne mode one q = absurd cc
 
-module _ (known : Option RightNumber) (signed : Bool) (a b to : Location) (top : ℕ) (moved : code_words (move_code a to (suc top)) ≤ 4 * suc top)
+module _ (known : Option RightNumber) (signed : Bool) (a b to : Location) (top : ℕ)
+    (moved : code_words (move_code a to (suc top)) ≤ 4 * suc top)
     (counted : code_words (move_code b (InRegisters 30) 1) ≤ 4) where
   sum_words : (minus : Bool) → code_words (stopped_code minus signed a b to top) ≤ 14 * suc top + 12
   sum_words minus = let x = stopped_words minus signed a b to top moved in omega (arith, x)
 
-  shift_words : (known : Option RightNumber) (left : Bool) → code_words (placed_shift known left signed a b to top) ≤ 14 * suc top + 12
+  shift_words : (known : Option ℤ) (left : Bool) → code_words (placed_shift known left signed a b to top) ≤ 14 * suc top + 12
   shift_words (Some k) left =
-      let z = placed_counts_have left signed to (suc top) (low_bytes 16 k.number % 256) in
+      let z = placed_counts_have left signed to (suc top) (low_bytes 16 k % 256) in
       omega (
         arith,
-        joined_words (move_code a to (suc top)) (placed_by_code left signed to (suc top) (low_bytes 16 k.number % 256)),
+        joined_words (move_code a to (suc top)) (placed_by_code left signed to (suc top) (low_bytes 16 k % 256)),
         moved,
         z,
       )
@@ -82,8 +84,8 @@ module _ (known : Option RightNumber) (signed : Bool) (a b to : Location) (top :
       )
 
   pub placed_words : (op : BinOp) → code_words (placed_whole known op signed a b to top) ≤ 14 * suc top + 12
-  placed_words Shl = shift_words known true
-  placed_words Shr = shift_words known false
+  placed_words Shl = shift_words (number_known known) true
+  placed_words Shr = shift_words (number_known known) false
   placed_words Plus = sum_words (is_difference Plus)
   placed_words Sub = sum_words (is_difference Sub)
   placed_words Mul = sum_words (is_difference Mul)
@@ -200,13 +202,14 @@ module _ (sizes : Sizes) where
   placed_by_fits false true p n k some few small x = rounded_by_fits p n k some few small x
   placed_by_fits false false p n k some few small x = counted_fits sizes (Right false) p n k few small x
 
-  module _ (known : Option RightNumber) (signed : Bool) (a b to : Location) (top : ℕ) (few : top ≤ 7) (moved : Fit sizes (move_code a to (suc top)))
+  module _ (known : Option RightNumber) (signed : Bool) (a b to : Location) (top : ℕ) (few : top ≤ 7)
+      (moved : Fit sizes (move_code a to (suc top)))
       (z : BytesFit sizes to (suc top)) where
-    shifted_fits : (known : Option RightNumber) (left : Bool) → Fit sizes (move_code b (InRegisters 30) 1)
+    shifted_fits : (known : Option ℤ) (left : Bool) → Fit sizes (move_code b (InRegisters 30) 1)
         → Fit sizes (placed_shift known left signed a b to top)
     shifted_fits (Some k) left counted =
-        joined (fits sizes) (move_code a to (suc top)) (placed_by_code left signed to (suc top) (low_bytes 16 k.number % 256)) moved
-        (placed_by_fits left signed to (suc top) (low_bytes 16 k.number % 256) (omega arith) (omega arith) (omega arith) z)
+        joined (fits sizes) (move_code a to (suc top)) (placed_by_code left signed to (suc top) (low_bytes 16 k % 256)) moved
+        (placed_by_fits left signed to (suc top) (low_bytes 16 k % 256) (omega arith) (omega arith) (omega arith) z)
     shifted_fits None left counted =
         joined (fits sizes) (move_code b (InRegisters 30) 1) (move_code a to (suc top) ++ placed_code left signed to (suc top)) counted
         (joined (fits sizes) (move_code a to (suc top)) (placed_code left signed to (suc top)) moved
@@ -217,8 +220,8 @@ module _ (sizes : Sizes) where
 
     pub whole_fits : (op : BinOp) → (BytesFit sizes b 1 → Fit sizes (move_code b (InRegisters 30) 1))
         → BytesFit sizes b (second_bytes op (suc top)) → Fit sizes (placed_whole known op signed a b to top)
-    whole_fits Shl counted y = shifted_fits known true (counted y)
-    whole_fits Shr counted y = shifted_fits known false (counted y)
+    whole_fits Shl counted y = shifted_fits (number_known known) true (counted y)
+    whole_fits Shr counted y = shifted_fits (number_known known) false (counted y)
     whole_fits Plus counted y = summed_fits (is_difference Plus) y
     whole_fits Sub counted y = summed_fits (is_difference Sub) y
     whole_fits Mul counted y = summed_fits (is_difference Mul) y

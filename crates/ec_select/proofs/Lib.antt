@@ -28,6 +28,7 @@ mod RoutineItems
 mod Linked
 mod Placing
 mod RoutinesStand
+mod Zeros
 mod Runs
 mod OperationCode
 mod CountedTypes

@@ -1,7 +1,7 @@
 -- What the items of an operation's code pass.
 use Rattle.std.proofs.Common.{◌≡◌, ◌⊎◌, ℕ, suc, ◌+◌, ◌-◌, ◌*◌, ◌%◌, ◌<◌, ◌≤◌, ◌==◌, Bool, true, false, not, List, []}
 use Rattle.std.proofs.Common.{◌∷◌, ◌++◌}
-use Rattle.std.proofs.Common.{refl, sym, ap, ◌∙◌, subst, arith, leb-true, eqb-true, inl, inr}
+use Rattle.std.proofs.Common.{refl, sym, ap, ◌∙◌, subst, arith, leb-true, leb-false, eqb-true, inl, inr, ⊎_elim, ℤ}
 use Rattle.std.specs.Prelude.{⊤, min, nat_le, nat_lt, ◌&&◌, ◌||◌, if◌then◌else◌, Option, Some, None, option_map}
 use Rattle.std.specs.Prelude.{slice_get}
 use Rattle.std.specs.List.{list_all, AllByRecursion}
@@ -33,11 +33,13 @@ use Rattle.ec_ir.specs.Temporaries.{low_bytes}
 use Rattle.ec_select_bytes.specs.Values.{constant_code, test_code, extend_code}
 use Rattle.ec_select_places.specs.Conversions.{embed_code}
 use Rattle.ec_select_places.specs.Distances.{elements_code}
+use Rattle.ec_select_places.specs.Indexes.{can_add, add_index_code}
 use Rattle.ec_select_places.specs.Steps.{scale_index_code}
 use Rattle.ec_select_pointers.specs.Accesses.{store_data_code}
 use Rattle.ec_select_pointers.specs.Form.{HasPlaces as HasPointerPlaces}
 use Rattle.ec_space.specs.Spaces.{width}
 use Rattle.ec_space.specs.declared.space.Home.{Home}
+use Rattle.ec_space.specs.declared.space.SpaceId.{SpaceId}
 use Rattle.ec_space.specs.declared.space.Home.TheVariants.{Flash as FlashHome, Far as FarHome, Data as DataHome}
 use Rattle.ec_select_order.specs.declared.relations.Relation.{Relation}
 use Rattle.ec_select_order.specs.declared.relations.Relation.TheVariants.{Less, NotLess, Equal, NotEqual}
@@ -51,9 +53,12 @@ use Rattle.ec_select_operations.specs.declared.families.Family.{Family}
 use Rattle.ec_select_operations.specs.declared.families.Family.TheVariants.{Combined, Compared, Multiplied, Shifted}
 use Rattle.ec_select_operations.specs.declared.families.Family.TheVariants.{Divided}
 use Rattle.ec_select_operations.specs.declared.families.Told.{Told}
+use Rattle.ec_select_operations.specs.declared.families.Told.TheVariants.{Operands, InZ}
 use Rattle.ec_select_operations.specs.declared.homes.Homes.{Homes}
+use Rattle.ec_select_numbers.specs.ByNumber.{compared_code as compared_with_code}
 use Rattle.ec_select_operations.specs.Code.{counted_by_code}
-use Rattle.ec_select_operations.specs.Code.{compared_signed, counted_code, same_location, transfer_code, move_code, reversed_code, family_of, is_signed}
+use Rattle.ec_select_operations.specs.Code.{compared_signed, counted_code, same_location, transfer_code, move_code}
+use Rattle.ec_select_operations.specs.Code.{reversed_code, family_of, is_signed}
 use Rattle.ec_select_operations.specs.Code.{conversion_code, combined_code}
 use Rattle.ec_select_operations.specs.Code.{compared_code, multiplied_code, shift_of, shifted_bytes, turned_code}
 use Rattle.ec_select_operations.specs.Code.{shifted_code, long_code}
@@ -73,7 +78,13 @@ use Rattle.ec_select_fixed.specs.Types.{format_in}
 use Rattle.ec_select_operations.specs.Emitted.{second_bytes}
 use Rattle.ec_select_operations.proofs.OneFormat.{placed_bytes}
 use Rattle.ec_select_operations.specs.Code.{fixed_conversion, addressed_code, member_code, load_code, banked_code, moved_code, offset_code}
+use Rattle.ec_select_operations.specs.Code.{is_far, takes_index, indexed_code, scaled_code}
 use Rattle.ec_select_operations.specs.Code.{known_bytes, known_offset, offset_by}
+use Rattle.ec_select_operations.specs.Code.{object_code, further_code, displacement, loaded_code, is_in_reach}
+use Rattle.ec_select_pointers.specs.Accesses.{point_code}
+use Rattle.ec_select_pointers.specs.Fetched.{fetch_code, load_member_code}
+use Rattle.ec_select_pointers.specs.FetchedLaws.{IsInRange}
+use Rattle.ec_select_pointers.proofs.InZ.{fetches_are_valid, point_is_valid, members_are_valid, fetches_have_no_label}
 use Rattle.ec_select_operations.specs.Code.{related_bytes, pointers_code, is_difference, pointer_binary, pointer_conversion}
 use Rattle.ec_select_functions.specs.Covered.{AreIntegers}
 use Rattle.ec_select_functions.specs.Covered.{HasIndex, HasScalarAt, IsBinary, IsFixedBinary, IsFixedUnary}
@@ -84,28 +95,32 @@ use Rattle.ec_select_functions.proofs.Counts.{used_is}
 use Rattle.ec_select_functions.proofs.OnIntegers.{whole_type}
 use Rattle.ec_select_functions.proofs.OnWholes.{on_wholes}
 use Rattle.ec_select_operations.specs.Homes.{HasHome, depth, home, result_location}
-use Rattle.ec_select_functions.proofs.Taken.{TakesSum, TakesOrder, TakesShift, takes, taken_is, compared_few, compared_within, compared_some}
-use Rattle.ec_select_operations.specs.Code.{taking_code, integer_binary, changed_by_code}
+use Rattle.ec_select_functions.proofs.Taken.{TakesSum, TakesOrder, TakesShift, takes, taken_is, compared_few}
+use Rattle.ec_select_functions.proofs.Taken.{compared_within, compared_some}
+use Rattle.ec_select_operations.specs.Code.{taking_code, integer_binary, changed_by_code, bytes_code}
 use Rattle.ec_ir_known.specs.declared.known.RightNumber.{RightNumber}
-use Rattle.ec_select_operations.specs.Needs.{Need, Facts, wanted, wanted_result, needs, is_fixed, number_taken, compared_bytes as bytes_compared}
-use Rattle.ec_select_operations.specs.Needs.{takes_count}
-use Rattle.ec_select.proofs.ByNumber.{changed_by_fits, compared_with_fits}
+use Rattle.ec_select_operations.specs.Needs.{Need, Facts, wanted, wanted_result, needs, is_fixed, number_taken}
+use Rattle.ec_select_operations.specs.Needs.{compared_bytes as bytes_compared}
+use Rattle.ec_select_operations.specs.Needs.{takes_count, number_known}
+use Rattle.ec_select.proofs.ByNumber.{changed_by_fits, compared_with_fits, masked_fits}
+use Rattle.ec_select_functions.proofs.Taken.{TakenNumber, as_known, no_number, HasNumber, number_or_none, ComparesSo}
+use Rattle.ec_select_functions.proofs.Taken.{compares}
 use Rattle.ec_select_operations.specs.Places.{object_location}
 use Rattle.ec_select_operations.specs.Pointers.{is_pointer, is_into_data, kept_in, has_tables, IsPointerSize}
 use Rattle.ec_select_operations.specs.Ports.{in_code, out_code, first_cell, cell_place, cell_in_code, cell_out_code}
-use Rattle.ec_select.proofs.FixedItems.{FixedItemLaws, plain_fits, has_places, answer_fits, own_fits, others_fit}
+use Rattle.ec_select.proofs.FixedItems.{FixedItemLaws, all_fit, plain_fits, has_places, answer_fits, own_fits, others_fit}
 use Rattle.ec_select.proofs.Carried.{carried_fits}
 use Rattle.ec_select.proofs.InPlace.{whole_fits}
 use Rattle.ec_select.proofs.Limits.{negated_fits}
 use Rattle.ec_select.proofs.FixedTypes.{type_fixed, either_fixed, no_fixed, no_fixed_operand, none_converted}
-use Rattle.ec_select.proofs.Fitting.{fits, Fit, joined, chained, passing, and_first, and_second, BytesFit}
+use Rattle.ec_select.proofs.Fitting.{fits, Fit, joined, chained, passing, and_first, and_second, ByteFits, BytesFit}
 use Rattle.ec_select.proofs.Fitting.{registers_fit, fewer_fit}
 use Rattle.ec_select.proofs.Pieces.{copy_fits, transfer_fits, operate_fits, compare_fits, relation_fits, constant_fits, test_fits}
 use Rattle.ec_select.proofs.Pieces.{extend_fits}
 use Rattle.ec_select.proofs.Pieces.{complement_fits, negation_fits}
 use Rattle.ec_select.proofs.PointerItems.{PointerItemLaws, fewer_places, few_related, addressed_fits, member_fits}
 use Rattle.ec_select.proofs.PointerItems.{load_fits, far_object_fits}
-use Rattle.ec_select.proofs.PointerItems.{store_fits, table_fits, scale_fits, moved_fits, elements_fit, embed_fits}
+use Rattle.ec_select.proofs.PointerItems.{store_fits, table_fits, scale_fits, added_fits, moved_fits, elements_fit, embed_fits}
 use Rattle.ec_select.proofs.PointerTypes.{some_width, two_pointers, first_pointer, second_pointer, pointers_only}
 use Rattle.ec_select.proofs.PointerTypes.{pointer_converted, stays_within, at_least_two, no_pointer, none_pointed}
 use Rattle.ec_select.proofs.PortItems.{IndexFits, in_fits, out_fits, cell_in_fits, cell_out_fits}
@@ -338,6 +353,121 @@ module _ (sizes : Sizes) where
     operator_fits None family to a b ty aty bty left right n h l = binary_fits family to a b ty aty bty left right n h l
     operator_fits (Some t) family to a b ty aty bty left right n h l = flag_fits family to a b ty aty bty h
 
+    -- operators that take numbers
+    taking_fits : (op : BinOp) (known : Option RightNumber) (telling : Option Told) (to a b : Temp) (ty aty bty : PlainType)
+        (left right : Bool) (n : ℕ) → IsBinary (family_of op) k.slots to a b ty aty bty → n ≤ to.bytes
+        → Fit sizes (integer_binary known telling op left right (home k.homes a) (home k.homes b) (home k.homes to) a.bytes n)
+    taking_fits op known telling to a b ty aty bty left right n h l = by_taken (number_taken known false op) refl
+      where
+        by_sum : (o : Operator) → AreIntegers k.slots to a b ty aty bty → (number : ℕ)
+            → Fit sizes (move_code (home k.homes a) (home k.homes to) n ++ changed_by_code o (home k.homes to) number n)
+        by_sum o i number =
+            let x = i.left_bytes in
+            joined (fits sizes) (move_code (home k.homes a) (home k.homes to) n) (changed_by_code o (home k.homes to) number n)
+            (move_fits (home k.homes a) (home k.homes to) n (low_home a n i.left (omega arith)) (low_home to n i.result l))
+            (changed_by_fits sizes o (home k.homes to) number n (low_home to n i.result l))
+
+        by_number : (x : TakesSum op ⊎ (TakesOrder op ⊎ TakesShift op)) → (told : Option Told) (number : TakenNumber)
+            → Fit sizes (taking_code (Some (as_known number)) told (family_of op) left right (home k.homes a) (home k.homes b)
+            (home k.homes to)
+            a.bytes n)
+        by_number (inl x) None number =
+            rw x.is (by_sum x.operator (subst (λ z. IsBinary z k.slots to a b ty aty bty) x.is h) (low_bytes 16 number.number))
+        by_number (inl x) (Some told) number =
+            let i = subst (λ z. IsBinary z k.slots to a b ty aty bty) x.is h in
+            let some = i.left.some in
+            rw x.is (masked_fits sizes (home k.homes a) (home k.homes to) (low_bytes 16 number.number % 256) (omega arith)
+            (low_home a 1 i.left some))
+        by_number (inr (inl x)) None number =
+            let i = subst (λ z. IsBinary z k.slots to a b ty aty bty) x.is h in
+            let compared = bytes_compared (Some (as_known number)) a.bytes in
+            let few = compared_few (as_known number) a.bytes in
+            let sign = compared_signed (Some (as_known number)) left in
+            let first = compared_with_code (home k.homes a) (low_bytes 16 number.number) compared in
+            let second = compared_code x.relation sign (home k.homes a) (home k.homes b) (home k.homes to) 0 n in
+            rw x.is (unless_none n (first ++ second)
+            (joined (fits sizes) first second
+            (compared_with_fits sizes (home k.homes a) (low_bytes 16 number.number) compared (low_home a compared i.left few))
+            (compared_fit x.relation sign (home k.homes a) (home k.homes b) (home k.homes to) 0 n
+            (low_home a 0 i.left (omega arith)) (low_home b 0 i.right (omega arith)) (low_home to n i.result l))))
+        by_number (inr (inl x)) (Some told) number =
+            let i = subst (λ z. IsBinary z k.slots to a b ty aty bty) x.is h in
+            let few = compared_few (as_known number) a.bytes in
+            rw x.is (compared_with_fits sizes (home k.homes a) (low_bytes 16 number.number)
+            (bytes_compared (Some (as_known number)) a.bytes)
+            (low_home a (bytes_compared (Some (as_known number)) a.bytes) i.left few))
+        by_number (inr (inr x)) None number =
+            let i = (subst (λ z. IsBinary z k.slots to a b ty aty bty) x.is h).0 in
+            let compared = bytes_compared (Some (as_known number)) a.bytes in
+            let sign = compared_signed (Some (as_known number)) left in
+            let count = low_bytes 16 number.number % 256 in
+            rw x.is (unless_none n (counted_by_code x.up sign (home k.homes a) (home k.homes to) compared n count)
+            (by_direction x.up sign i.left i.result i.same_bytes compared (compared_few (as_known number) a.bytes)
+            (compared_some (Some (as_known number)) a.bytes i.left.some)))
+          where
+            count_fits : (sh : Direction) (m : ℕ) → HasHome k.slots a → HasHome k.slots to → a.bytes ≡ to.bytes → m ≤ a.bytes
+                → Fit sizes (counted_code sh (home k.homes a) (home k.homes to) m (low_bytes 16 number.number % 256))
+            count_fits sh m ia it same few =
+                let most = ia.most in
+                joined (fits sizes) (move_code (home k.homes a) (home k.homes to) m)
+                (turned_by_code sh (home k.homes to) m (low_bytes 16 number.number % 256))
+                (move_fits (home k.homes a) (home k.homes to) m (low_home a m ia few) (low_home to m it (omega (arith, few, same))))
+                (counted_fits sizes sh (home k.homes to) m (low_bytes 16 number.number % 256) (omega (arith, few, most)) (omega arith)
+                (low_home to m it (omega (arith, few, same))))
+
+            by_direction : (up sign : Bool) → HasHome k.slots a → HasHome k.slots to → a.bytes ≡ to.bytes → (m : ℕ) → m ≤ a.bytes → 1 ≤ m
+                → Fit sizes (counted_by_code up sign (home k.homes a) (home k.homes to) m n (low_bytes 16 number.number % 256))
+            by_direction true sign ia it same m few some = count_fits Left n ia it same (omega (arith, l, same))
+            by_direction false sign ia it same m few some =
+                joined (fits sizes) (counted_code (Right sign) (home k.homes a) (home k.homes to) m (low_bytes 16 number.number % 256))
+                (extend_code false (home k.homes to) m n) (count_fits (Right sign) m ia it same few)
+                (extend_fits sizes false (home k.homes to) m n some (low_home to n it l))
+        by_number (inr (inr x)) (Some told) number =
+            let i = (subst (λ z. IsBinary z k.slots to a b ty aty bty) x.is h).0 in
+            let few = compared_few (as_known number) a.bytes in
+            rw x.is (compared_with_fits sizes (home k.homes a) (low_bytes 16 number.number)
+            (bytes_compared (Some (as_known number)) a.bytes)
+            (low_home a (bytes_compared (Some (as_known number)) a.bytes) i.left few))
+
+        low_fits : (telling : Option Told) (r : Relation) (x : Bool) (compared : ℕ) → BytesFit sizes (home k.homes a) compared
+            → BytesFit sizes (home k.homes b) compared → BytesFit sizes (home k.homes to) n
+            → Fit sizes (bytes_code telling (Compared r x) (home k.homes a) (home k.homes b) (home k.homes to) compared n)
+        low_fits None r false compared x y z = compared_fit r false (home k.homes a) (home k.homes b) (home k.homes to) compared n x y z
+        low_fits None r true compared x y z = compared_fit r false (home k.homes b) (home k.homes a) (home k.homes to) compared n y x z
+        low_fits (Some told) r false compared x y z = compare_fits sizes (home k.homes b) (home k.homes a) compared y x
+        low_fits (Some told) r true compared x y z = compare_fits sizes (home k.homes a) (home k.homes b) compared x y
+
+        by_bytes : (order : ComparesSo op) (byte : Bool)
+            → Fit sizes (taking_code (Some (no_number byte)) telling (family_of op) left right (home k.homes a) (home k.homes b)
+            (home k.homes to) a.bytes n)
+        by_bytes order byte =
+            let i = subst (λ z. IsBinary z k.slots to a b ty aty bty) order.is h in
+            let compared = bytes_compared (Some (no_number byte)) a.bytes in
+            let few = compared_few (no_number byte) a.bytes in
+            let same = i.same_bytes in
+            subst (λ f. Fit sizes (bytes_code telling f (home k.homes a) (home k.homes b) (home k.homes to) compared n)) (sym order.is)
+            (low_fits telling order.relation order.exchanged compared (low_home a compared i.left few)
+            (low_home b compared i.right (omega (arith, few, same))) (low_home to n i.result l))
+
+        by_taken : (x : Option RightNumber) → number_taken known false op ≡ x
+            → Fit sizes (taking_code x telling (family_of op) left right (home k.homes a) (home k.homes b) (home k.homes to) a.bytes n)
+        by_taken None q = operator_fits telling (family_of op) to a b ty aty bty left right n h l
+        by_taken (Some j) q =
+            ⊎_elim
+            (λ (x : HasNumber j). with_number x.taken (q ∙ ap Some x.is) x.is)
+            (λ (x : j ≡ no_number j.in_byte).
+            subst (λ z. Fit sizes (taking_code (Some z) telling (family_of op) left right (home k.homes a) (home k.homes b)
+            (home k.homes to) a.bytes n)) (sym x)
+            (by_bytes (compares op (taken_is op known (no_number j.in_byte) (q ∙ ap Some x)).1) j.in_byte))
+            (number_or_none j)
+          where
+            with_number : (number : TakenNumber) → number_taken known false op ≡ Some (as_known number) → j ≡ as_known number
+                → Fit sizes (taking_code (Some j) telling (family_of op) left right (home k.homes a) (home k.homes b) (home k.homes to)
+                a.bytes n)
+            with_number number q is =
+                subst (λ z. Fit sizes (taking_code (Some z) telling (family_of op) left right (home k.homes a) (home k.homes b)
+                (home k.homes to) a.bytes n)) (sym is) (by_number (takes op (taken_is op known (as_known number) q).1) telling number)
+
     turn_fits : (op : UnOp) (q : Location) (n : ℕ) → BytesFit sizes q n → Fit sizes (turn_code op q n)
     turn_fits Minus q n x = negation_fits sizes q n x
     turn_fits Invert q n x = complement_fits sizes q n x
@@ -363,7 +493,8 @@ module _ (sizes : Sizes) where
     answer_places : (n : ℕ) → n ≤ 8 → HasPlaces sizes answer_location n
     answer_places n few i l = room.work (40 + i) (omega arith)
 
-    fixed_binary_fits : (known : Option RightNumber) (telling : Option Told) (op : BinOp) (ty aty bty : PlainType) (mode : Mode) (to a b : Temp) (n : ℕ)
+    fixed_binary_fits : (known : Option RightNumber) (telling : Option Told) (op : BinOp) (ty aty bty : PlainType) (mode : Mode)
+        (to a b : Temp) (n : ℕ)
         → IsFixedBinary k.slots op to a b ty aty bty → n ≤ to.bytes
         → Fit sizes (fixed_binary known telling op ty aty bty mode (home k.homes a) (home k.homes b) (home k.homes to) a.bytes n)
     fixed_binary_fits known telling op ty aty bty mode to a b n h l = by_code (is_on_integers (family_of op) mode ty aty bty) refl
@@ -402,11 +533,11 @@ module _ (sizes : Sizes) where
             (low_home to n h.result l)
 
         by_code : (on : Bool) → is_on_integers (family_of op) mode ty aty bty ≡ on
-            → Fit sizes (if on then operator_code telling (family_of op) (is_signed aty) (is_signed bty) (home k.homes a)
+            → Fit sizes (if on then integer_binary known telling op (is_signed aty) (is_signed bty) (home k.homes a)
             (home k.homes b) (home k.homes to) a.bytes n else (if stops then stopped else answer_code code (home k.homes to) n))
         by_code true on =
             let w = on_wholes k.slots op mode to a b ty aty bty h on in
-            operator_fits telling (family_of op) to a b w.result (whole_type w.kind) (whole_type w.kind) (is_signed aty)
+            taking_fits op known telling to a b w.result (whole_type w.kind) (whole_type w.kind) (is_signed aty)
             (is_signed bty) n w.binary l
         by_code false on = by_stop stops refl
 
@@ -489,27 +620,58 @@ module _ (sizes : Sizes) where
     -- a pointer comes to the place of the result, and goes on there
     offset_fits : (minus signed : Bool) (from index to : Temp) (size n : ℕ) → HasHome k.slots from → HasHome k.slots index
         → HasHome k.slots to → 2 ≤ from.bytes → to.bytes ≡ from.bytes
-        → Fit sizes (offset_code k.core minus signed (home k.homes from) (home k.homes index) (home k.homes to) from.bytes index.bytes size n)
+        → Fit sizes (offset_code k.core minus signed (home k.homes from) (home k.homes index)
+        (home k.homes to) from.bytes index.bytes size n)
     offset_fits minus signed from index to size n x y z some same =
-        let a = home k.homes from in let b = home k.homes index in let c = home k.homes to in
-        let pair = low_leaves to 2 z (omega (arith, some, same)) in
-        let moved = moved_code k.core from.bytes minus c in
-        unless_none n (scale_index_code b signed index.bytes (size % 65536) ++ (move_code a c from.bytes ++ moved))
-        (joined (fits sizes) (scale_index_code b signed index.bytes (size % 65536)) (move_code a c from.bytes ++ moved)
-        (scale_fits sizes laws.pointers b c signed index.bytes (size % 65536) y.some (omega arith)
-        (home_leaves cells k.homes k.slots room index y) pair)
-        (joined (fits sizes) (move_code a c from.bytes) moved
-        (move_fits a c from.bytes (at_home from x) (low_home to from.bytes z (omega (arith, same))))
-        (moved_fits sizes laws.pointers k.core c minus from.bytes some (low_leaves to from.bytes z (omega (arith, same))))))
+        unless_none n (if takes_index k.core signed b c from.bytes index.bytes (size % 65536) then indexed else scaled)
+        (by_way (takes_index k.core signed b c from.bytes index.bytes (size % 65536)) refl)
+      where
+        a : Location
+        a = home k.homes from
+
+        b : Location
+        b = home k.homes index
+
+        c : Location
+        c = home k.homes to
+
+        indexed : List AsmItem
+        indexed = indexed_code minus a b c from.bytes index.bytes (size % 65536)
+
+        scaled : List AsmItem
+        scaled = scaled_code k.core minus signed a b c from.bytes index.bytes (size % 65536)
+
+        move : Fit sizes (move_code a c from.bytes)
+        move = move_fits a c from.bytes (at_home from x) (low_home to from.bytes z (omega (arith, same)))
+
+        index_leaves : HasPointerPlaces sizes b index.bytes
+        index_leaves = home_leaves cells k.homes k.slots room index y
+
+        pair : HasPointerPlaces sizes c 2
+        pair = low_leaves to 2 z (omega (arith, some, same))
+
+        by_way : (way : Bool) → takes_index k.core signed b c from.bytes index.bytes (size % 65536) ≡ way
+            → Fit sizes (if way then indexed else scaled)
+        by_way true e =
+            joined (fits sizes) (move_code a c from.bytes) (add_index_code minus b c index.bytes (size % 65536)) move
+            (added_fits sizes laws.pointers minus signed b c index.bytes (size % 65536) y.some index_leaves pair
+            (and_second (not (is_far k.core from.bytes)) (can_add signed b c index.bytes (size % 65536)) e))
+        by_way false e =
+            let moved = moved_code k.core from.bytes minus c in
+            joined (fits sizes) (scale_index_code b signed index.bytes (size % 65536)) (move_code a c from.bytes ++ moved)
+            (scale_fits sizes laws.pointers b c signed index.bytes (size % 65536) y.some (omega arith) index_leaves pair)
+            (joined (fits sizes) (move_code a c from.bytes) moved move
+            (moved_fits sizes laws.pointers k.core c minus from.bytes some (low_leaves to from.bytes z (omega (arith, same)))))
 
     -- so it does where the number of elements is known
-    offset_by_fits : (known : Option RightNumber) (minus signed : Bool) (from index to : Temp) (size n : ℕ) → HasHome k.slots from
+    offset_by_fits : (known : Option ℤ) (minus signed : Bool) (from index to : Temp) (size n : ℕ) → HasHome k.slots from
         → HasHome k.slots index → HasHome k.slots to → 2 ≤ from.bytes → to.bytes ≡ from.bytes
-        → Fit sizes (offset_by known k.core minus signed (home k.homes from) (home k.homes index) (home k.homes to) from.bytes index.bytes size n)
+        → Fit sizes (offset_by known k.core minus signed (home k.homes from) (home k.homes index) (home k.homes to) from.bytes index.bytes
+        size n)
     offset_by_fits None minus signed from index to size n x y z some same = offset_fits minus signed from index to size n x y z some same
     offset_by_fits (Some number) minus signed from index to size n x y z some same =
         let a = home k.homes from in let c = home k.homes to in
-        let offset = known_offset minus (known_bytes signed index.bytes (low_bytes 16 number.number) size) in
+        let offset = known_offset minus (known_bytes signed index.bytes (low_bytes 16 number) size) in
         let member = member_code k.core from.bytes c offset in
         unless_none n (move_code a c from.bytes ++ member)
         (joined (fits sizes) (move_code a c from.bytes) member
@@ -553,7 +715,7 @@ module _ (sizes : Sizes) where
       by_kinds true false d e =
           let t = first_pointer op ty aty bty d e h.types in
           let s = t.some in let r = t.result in let i = h.left_bytes in let w = h.result_bytes in
-          offset_by_fits known (is_difference op) (is_signed bty) a b to (element_size p aty) n h.left h.right h.result
+          offset_by_fits (number_known known) (is_difference op) (is_signed bty) a b to (element_size p aty) n h.left h.right h.result
           (omega (arith, s, i)) (omega (arith, r, i, w))
       by_kinds false true d e =
           let t = second_pointer op ty aty bty d e h.types in
@@ -564,114 +726,28 @@ module _ (sizes : Sizes) where
 
     pointer_conversion_fits : (to a : Temp) (ty aty : PlainType) (n : ℕ) → IsPointerConversion k.slots to a ty aty
         → n ≤ to.bytes
-        → Fit sizes (pointer_conversion aty (home k.homes a) (home k.homes to) a.bytes to.bytes n)
-    pointer_conversion_fits to a ty aty n h l = by_bytes (a.bytes == 2 && to.bytes == 3) refl where
-      size : IsPointerSize to.bytes
-      size = subst (λ (m : ℕ). IsPointerSize m) (sym h.result_bytes) (pointer_converted ty aty h.pointer h.types).size
+        → Fit sizes (pointer_conversion aty (home k.homes a) (home k.homes to) a.bytes n)
+    pointer_conversion_fits to a ty aty n h l =
+        joined (fits sizes) (move_code (home k.homes a) (home k.homes to) (min n a.bytes)) _
+        (move_fits (home k.homes a) (home k.homes to) (min n a.bytes) (low_home a (min n a.bytes) h.from (omega arith))
+        (low_home to (min n a.bytes) h.result (omega (arith, l)))) (by_bytes (nat_le n a.bytes) refl) where
+          size : IsPointerSize to.bytes
+          size = subst (λ (m : ℕ). IsPointerSize m) (sym h.result_bytes) (pointer_converted ty aty h.pointer h.types).size
 
-      from_size : IsPointerSize a.bytes
-      from_size = subst (λ (m : ℕ). IsPointerSize m) (sym h.from_bytes) (pointer_converted ty aty h.pointer h.types).size_from
+          from_size : IsPointerSize a.bytes
+          from_size = subst (λ (m : ℕ). IsPointerSize m) (sym h.from_bytes) (pointer_converted ty aty h.pointer h.types).size_from
 
-      by_bytes : (more : Bool) → (a.bytes == 2 && to.bytes == 3) ≡ more
-          → Fit sizes (if more then (if n == 0 then [] else embed_code (is_into_data aty) (home k.homes a) (home k.homes to))
-          else move_code (home k.homes a) (home k.homes to) n)
-      by_bytes true e =
-          let three : to.bytes ≡ 3 = eqb-true to.bytes 3 (and_second (a.bytes == 2) (to.bytes == 3) e) in
-          unless_none n (embed_code (is_into_data aty) (home k.homes a) (home k.homes to))
-          (embed_fits sizes laws.pointers (is_into_data aty) (home k.homes a) (home k.homes to)
-          (low_leaves a 2 h.from (at_least_two a.bytes from_size))
-          (low_leaves to 3 h.result (omega (arith, three))))
-      by_bytes false e =
-          let few = stays_within a.bytes to.bytes from_size size e in
-          move_fits (home k.homes a) (home k.homes to) n (low_home a n h.from (omega (arith, few, l))) (low_home to n h.result l)
-
-    -- what is put to the second operand's place before a comparison
-    put_fits : (number n : ℕ) (b : Temp) (bytes : ℕ) (code : List AsmItem) → HasHome k.slots b → bytes ≤ b.bytes → Fit sizes code
-        → Fit sizes (if n == 0 then [] else constant_code (home k.homes b) number bytes ++ code)
-    put_fits number n b bytes code h l f =
-        unless_none n (constant_code (home k.homes b) number bytes ++ code)
-        (joined (fits sizes) (constant_code (home k.homes b) number bytes) code
-        (constant_fits sizes (home k.homes b) number bytes (low_home b bytes h l)) f)
-
-    -- operators that take numbers
-    taking_fits : (op : BinOp) (known : Option RightNumber) (telling : Option Told) (to a b : Temp) (ty aty bty : PlainType)
-        (left right : Bool) (n : ℕ) → IsBinary (family_of op) k.slots to a b ty aty bty → n ≤ to.bytes
-        → Fit sizes (integer_binary known telling op left right (home k.homes a) (home k.homes b) (home k.homes to) a.bytes n)
-    taking_fits op known telling to a b ty aty bty left right n h l = by_taken (number_taken known false op) refl
-      where
-        by_sum : (o : Operator) → AreIntegers k.slots to a b ty aty bty → (number : ℕ)
-            → Fit sizes (move_code (home k.homes a) (home k.homes to) n ++ changed_by_code o (home k.homes to) number n)
-        by_sum o i number =
-            let x = i.left_bytes in
-            joined (fits sizes) (move_code (home k.homes a) (home k.homes to) n) (changed_by_code o (home k.homes to) number n)
-            (move_fits (home k.homes a) (home k.homes to) n (low_home a n i.left (omega arith)) (low_home to n i.result l))
-            (changed_by_fits sizes o (home k.homes to) number n (low_home to n i.result l))
-
-        by_number : (x : TakesSum op ⊎ (TakesOrder op ⊎ TakesShift op)) → (told : Option Told) (number : RightNumber)
-            → Fit sizes (taking_code (Some number) told (family_of op) left right (home k.homes a) (home k.homes b) (home k.homes to)
-            a.bytes n)
-        by_number (inl x) None number =
-            rw x.is (by_sum x.operator (subst (λ z. IsBinary z k.slots to a b ty aty bty) x.is h) (low_bytes 16 number.number))
-        by_number (inl x) (Some told) number =
-            let i = subst (λ z. IsBinary z k.slots to a b ty aty bty) x.is h in
-            let few = compared_few number a.bytes in
-            compared_with_fits sizes (home k.homes a) (low_bytes 16 number.number) (bytes_compared (Some number) a.bytes)
-            (low_home a (bytes_compared (Some number) a.bytes) i.left few)
-        by_number (inr (inl x)) None number =
-            let i = subst (λ z. IsBinary z k.slots to a b ty aty bty) x.is h in
-            let compared = bytes_compared (Some number) a.bytes in
-            let few = compared_few number a.bytes in
-            let same = i.same_bytes in
-            let sign = compared_signed (Some number) left in
-            let own = compared_fit x.relation sign (home k.homes a) (home k.homes b) (home k.homes to) compared n
-            (low_home a compared i.left few) (low_home b compared i.right (omega (arith, few, same))) (low_home to n i.result l) in
-            rw x.is (put_fits (low_bytes 16 number.number) n b a.bytes
-            (compared_code x.relation sign (home k.homes a) (home k.homes b) (home k.homes to) compared n) i.right
-            (omega (arith, same)) own)
-        by_number (inr (inl x)) (Some told) number =
-            let i = subst (λ z. IsBinary z k.slots to a b ty aty bty) x.is h in
-            let few = compared_few number a.bytes in
-            compared_with_fits sizes (home k.homes a) (low_bytes 16 number.number) (bytes_compared (Some number) a.bytes)
-            (low_home a (bytes_compared (Some number) a.bytes) i.left few)
-        by_number (inr (inr x)) None number =
-            let i = (subst (λ z. IsBinary z k.slots to a b ty aty bty) x.is h).0 in
-            let compared = bytes_compared (Some number) a.bytes in
-            let sign = compared_signed (Some number) left in
-            let count = low_bytes 16 number.number % 256 in
-            rw x.is (unless_none n (counted_by_code x.up sign (home k.homes a) (home k.homes to) compared n count)
-            (by_direction x.up sign i.left i.result i.same_bytes compared (compared_few number a.bytes)
-            (compared_some (Some number) a.bytes i.left.some)))
-          where
-            count_fits : (sh : Direction) (m : ℕ) → HasHome k.slots a → HasHome k.slots to → a.bytes ≡ to.bytes → m ≤ a.bytes
-                → Fit sizes (counted_code sh (home k.homes a) (home k.homes to) m (low_bytes 16 number.number % 256))
-            count_fits sh m ia it same few =
-                let most = ia.most in
-                joined (fits sizes) (move_code (home k.homes a) (home k.homes to) m)
-                (turned_by_code sh (home k.homes to) m (low_bytes 16 number.number % 256))
-                (move_fits (home k.homes a) (home k.homes to) m (low_home a m ia few) (low_home to m it (omega (arith, few, same))))
-                (counted_fits sizes sh (home k.homes to) m (low_bytes 16 number.number % 256) (omega (arith, few, most)) (omega arith)
-                (low_home to m it (omega (arith, few, same))))
-
-            by_direction : (up sign : Bool) → HasHome k.slots a → HasHome k.slots to → a.bytes ≡ to.bytes → (m : ℕ) → m ≤ a.bytes → 1 ≤ m
-                → Fit sizes (counted_by_code up sign (home k.homes a) (home k.homes to) m n (low_bytes 16 number.number % 256))
-            by_direction true sign ia it same m few some = count_fits Left n ia it same (omega (arith, l, same))
-            by_direction false sign ia it same m few some =
-                joined (fits sizes) (counted_code (Right sign) (home k.homes a) (home k.homes to) m (low_bytes 16 number.number % 256))
-                (extend_code false (home k.homes to) m n) (count_fits (Right sign) m ia it same few)
-                (extend_fits sizes false (home k.homes to) m n some (low_home to n it l))
-        by_number (inr (inr x)) (Some told) number =
-            let i = (subst (λ z. IsBinary z k.slots to a b ty aty bty) x.is h).0 in
-            let few = compared_few number a.bytes in
-            compared_with_fits sizes (home k.homes a) (low_bytes 16 number.number) (bytes_compared (Some number) a.bytes)
-            (low_home a (bytes_compared (Some number) a.bytes) i.left few)
-
-        by_taken : (x : Option RightNumber) → number_taken known false op ≡ x
-            → Fit sizes (taking_code x telling (family_of op) left right (home k.homes a) (home k.homes b) (home k.homes to) a.bytes n)
-        by_taken None q = operator_fits telling (family_of op) to a b ty aty bty left right n h l
-        by_taken (Some number) q = by_number (takes op (taken_is op known number q).1) telling number
+          by_bytes : (few : Bool) → nat_le n a.bytes ≡ few
+              → Fit sizes (if few then [] else embed_code (is_into_data aty) (home k.homes to))
+          by_bytes true e = refl
+          by_bytes false e =
+              let more = leb-false n a.bytes e in
+              let two = at_least_two a.bytes from_size in
+              embed_fits sizes laws.pointers (is_into_data aty) (home k.homes to) (low_leaves to 3 h.result (omega (arith, more, two, l)))
 
     -- an operation on integers, one with a fixed-point type, or one on pointers
-    of_binary : (known : Option RightNumber) (telling : Option Told) (op : BinOp) (ty aty bty : PlainType) (mode : Mode) (to a b : Temp) (n : ℕ)
+    of_binary : (known : Option RightNumber) (telling : Option Told) (op : BinOp) (ty aty bty : PlainType) (mode : Mode)
+        (to a b : Temp) (n : ℕ)
         → IsBinary (family_of op) k.slots to a b ty aty bty
         ⊎ (IsFixedBinary k.slots op to a b ty aty bty ⊎ IsPointerBinary p k.slots op to a b ty aty bty) → n ≤ to.bytes
         → Fit sizes (by_kind (is_fixed aty || is_fixed bty)
@@ -726,11 +802,11 @@ module _ (sizes : Sizes) where
         → AreConverted k.slots to a ty aty ⊎ (IsFixedConversion k.slots to a ty aty ⊎ IsPointerConversion k.slots to a ty aty)
         → n ≤ to.bytes
         → Fit sizes (by_kind (is_fixed ty || is_fixed aty) (fixed_conversion ty aty mode (home k.homes a) (home k.homes to) a.bytes n)
-        (by_kind (is_pointer aty) (pointer_conversion aty (home k.homes a) (home k.homes to) a.bytes to.bytes n)
+        (by_kind (is_pointer aty) (pointer_conversion aty (home k.homes a) (home k.homes to) a.bytes n)
         (conversion_code (is_signed aty) (home k.homes a) (home k.homes to) a.bytes n)))
     of_conversion ty aty mode to a n (inl h) l =
         let own = fixed_conversion ty aty mode (home k.homes a) (home k.homes to) a.bytes n in
-        let pointed = pointer_conversion aty (home k.homes a) (home k.homes to) a.bytes to.bytes n in
+        let pointed = pointer_conversion aty (home k.homes a) (home k.homes to) a.bytes n in
         let usual = conversion_code (is_signed aty) (home k.homes a) (home k.homes to) a.bytes n in
         others_fit sizes (is_fixed ty || is_fixed aty) own (by_kind (is_pointer aty) pointed usual)
         (none_converted k.slots to a ty aty h)
@@ -739,13 +815,13 @@ module _ (sizes : Sizes) where
         (low_home to n h.result l)))
     of_conversion ty aty mode to a n (inr (inl h)) l =
         let own = fixed_conversion ty aty mode (home k.homes a) (home k.homes to) a.bytes n in
-        let pointed = pointer_conversion aty (home k.homes a) (home k.homes to) a.bytes to.bytes n in
+        let pointed = pointer_conversion aty (home k.homes a) (home k.homes to) a.bytes n in
         let usual = conversion_code (is_signed aty) (home k.homes a) (home k.homes to) a.bytes n in
         own_fits sizes (is_fixed ty || is_fixed aty) own (by_kind (is_pointer aty) pointed usual)
         (either_fixed ty aty h.types.fixed) (fixed_conversion_fits ty aty mode to a n h l)
     of_conversion ty aty mode to a n (inr (inr h)) l =
         let own = fixed_conversion ty aty mode (home k.homes a) (home k.homes to) a.bytes n in
-        let pointed = pointer_conversion aty (home k.homes a) (home k.homes to) a.bytes to.bytes n in
+        let pointed = pointer_conversion aty (home k.homes a) (home k.homes to) a.bytes n in
         let usual = conversion_code (is_signed aty) (home k.homes a) (home k.homes to) a.bytes n in
         others_fit sizes (is_fixed ty || is_fixed aty) own (by_kind (is_pointer aty) pointed usual)
         (pointer_converted ty aty h.pointer h.types).no_fixed
@@ -762,6 +838,49 @@ module _ (sizes : Sizes) where
         (objects.begins o offset t.bytes s)
     bank_fits DataHome o offset t h s =
         copy_fits sizes (object_location p.objects o offset) (home k.homes t) t.bytes (objects.scalars o offset t.bytes s) (at_home t h)
+
+    -- ---- a pointer that stays in Z
+
+    in_range : (q : Location) (i : ℕ) → ByteFits sizes q i → IsInRange sizes q i
+    in_range (InRegisters r) i x = x
+    in_range (InMemory o n) i x = x
+
+    object_fits : (telling : Option Told) (kept : Home) (o offset : ℕ) (t : Temp) → HasHome k.slots t → HasScalarAt p o offset t.bytes
+        → Fit sizes (object_code telling k.core kept p.objects o offset (home k.homes t) t.bytes)
+    object_fits None kept o offset t h s = bank_fits kept o offset t h s
+    object_fits (Some told) kept o offset t h s =
+        let from = object_location p.objects o offset in
+        let none = (fetches_have_no_label 0 from from t.bytes).0 in
+        all_fit sizes (fetch_code from t.bytes)
+        (fetches_are_valid sizes from t.bytes (λ i l. in_range from i (objects.scalars o offset t.bytes s i l))) (none.uses []) none.places
+
+    further_fits : (told telling : Option Told) (ptr : Temp) (offset : ℕ) → HasHome k.slots ptr → 2 ≤ ptr.bytes
+        → Fit sizes (further_code told telling k.core ptr.bytes (home k.homes ptr) offset)
+    further_fits (Some told) telling ptr offset h two = refl
+    further_fits None (Some told) ptr offset h two =
+        let q = home k.homes ptr in
+        let none = (fetches_have_no_label 0 q q 0).1 in
+        all_fit sizes (point_code q) (point_is_valid sizes q (low_leaves ptr 2 h two)) (none.uses []) none.places
+    further_fits None None ptr offset h two =
+        member_fits sizes laws.pointers k.core (home k.homes ptr) ptr.bytes offset two (at_home ptr h)
+
+    loaded_fits : (told : Option Told) (space : SpaceId) (to ptr : Temp) → HasHome k.slots to
+        → Fit sizes (load_code k.core (has_tables p.objects) space (home k.homes ptr) (home k.homes to) to.bytes)
+        → Fit sizes
+        (loaded_code (displacement told to.bytes) k.core (has_tables p.objects) space (home k.homes ptr) (home k.homes to) to.bytes)
+    loaded_fits None space to ptr h usual = usual
+    loaded_fits (Some (Operands r s)) space to ptr h usual = usual
+    loaded_fits (Some (InZ offset)) space to ptr h usual = by_reach (is_in_reach offset to.bytes) refl where
+      by_reach : (b : Bool) → is_in_reach offset to.bytes ≡ b
+          → Fit sizes (loaded_code (if b then Some offset else None) k.core (has_tables p.objects) space (home k.homes ptr)
+          (home k.homes to) to.bytes)
+      by_reach false e = usual
+      by_reach true e =
+          let q = home k.homes to in
+          let none = (fetches_have_no_label offset q q to.bytes).2 in
+          all_fit sizes (load_member_code offset q to.bytes)
+          (members_are_valid sizes offset q to.bytes (leb-true (offset + to.bytes) 64 e) (home_leaves cells k.homes k.slots room to h))
+          (none.uses []) none.places
 
     -- ---- calls and returns
 
@@ -838,21 +957,21 @@ module _ (sizes : Sizes) where
       tested_passes : (told telling : Option Told) (t : Temp) (size l : ℕ) → HasHome k.slots t → size ≤ t.bytes
           → ((set : Bool) (flag : ℕ) → nat_lt flag 8 ≡ true → q (BranchTo set flag l) ≡ true)
           → list_all q (tested_code told telling (home k.homes t) size l) ≡ true
-      tested_passes None None t size l h few a = branch_passes t size l h few (a true 1 refl)
-      tested_passes None (Some behind) t size l h few a =
-          by_fit (test_code (home k.homes t) size) (test_fits sizes (home k.homes t) size (low_home t size h few))
-      tested_passes (Some told) None t size l h few a =
-          let one = a (not (is_set told.relation)) (flag_of told.relation told.signed) (flag_small told.relation told.signed) in
+      tested_passes (Some (Operands r s)) None t size l h few a =
+          let one = a (not (is_set r)) (flag_of r s) (flag_small r s) in
           rw one refl
-      tested_passes (Some told) (Some behind) t size l h few a = refl
+      tested_passes (Some (Operands r s)) (Some behind) t size l h few a = refl
+      tested_passes told None t size l h few a = branch_passes t size l h few (a true 1 refl)
+      tested_passes told (Some behind) t size l h few a =
+          by_fit (test_code (home k.homes t) size) (test_fits sizes (home k.homes t) size (low_home t size h few))
 
       jump_passes : (told : Option Told) (l : ℕ) → q (JumpTo l) ≡ true
           → ((set : Bool) (flag : ℕ) → nat_lt flag 8 ≡ true → q (BranchTo set flag l) ≡ true)
           → list_all q (jump_code told l) ≡ true
-      jump_passes None l h a = rw h refl
-      jump_passes (Some told) l h a =
-          let one = a (not (is_set told.relation)) (flag_of told.relation told.signed) (flag_small told.relation told.signed) in
+      jump_passes (Some (Operands r s)) l h a =
+          let one = a (not (is_set r)) (flag_of r s) (flag_small r s) in
           rw one refl
+      jump_passes told l h a = rw h refl
 
       call_passes : (results : ℕ → ℕ) (g : ℕ) (to : Option Temp) (n : ℕ) (kept : Need) → IsResult results g k.slots to
           → ((t : Temp) → to ≡ Some t → n ≤ t.bytes) → q (CallTo (k.entry_of g)) ≡ true
@@ -899,7 +1018,8 @@ module _ (sizes : Sizes) where
           (move_fits (home k.homes from) (home k.homes to) (wanted need to) (low_home from (wanted need to) h.1 (omega arith))
           (low_home to (wanted need to) h.0 (omega arith)))
       own_passes results f called told telling known need (load_object t o offset) h u a =
-          by_fit (banked_code k.core (kept_in p o) p.objects o offset (home k.homes t) t.bytes) (bank_fits (kept_in p o) o offset t h.0 h.1)
+          by_fit (object_code telling k.core (kept_in p o) p.objects o offset (home k.homes t) t.bytes)
+          (object_fits telling (kept_in p o) o offset t h.0 h.1)
       own_passes results f called told telling known need (store_object o offset t) h u a =
           by_fit (copy_code (home k.homes t) (object_location p.objects o offset) t.bytes)
           (copy_fits sizes (home k.homes t) (object_location p.objects o offset) t.bytes (at_home t h.0)
@@ -926,13 +1046,15 @@ module _ (sizes : Sizes) where
           (home_leaves cells k.homes k.slots room t h.result) (objects.offsets o offset h.declared h.is_object h.within))
       own_passes results f called told telling known need (field ptr space offset) h u a =
           let two = some_width space in let e = h.1 in
-          by_fit (member_code k.core ptr.bytes (home k.homes ptr) offset)
-          (member_fits sizes laws.pointers k.core (home k.homes ptr) ptr.bytes offset (omega (arith, two, e)) (at_home ptr h.0))
+          by_fit (further_code told telling k.core ptr.bytes (home k.homes ptr) offset)
+          (further_fits told telling ptr offset h.0 (omega (arith, two, e)))
       own_passes results f called told telling known need (load_at to ptr space) h u a =
           let few = h.0.most in let e = h.1.1 in
-          by_fit (load_code k.core (has_tables p.objects) space (home k.homes ptr) (home k.homes to) to.bytes)
+          by_fit
+          (loaded_code (displacement told to.bytes) k.core (has_tables p.objects) space (home k.homes ptr) (home k.homes to) to.bytes)
+          (loaded_fits told space to ptr h.0
           (load_fits sizes laws.pointers k.core (has_tables p.objects) space (home k.homes ptr) (home k.homes to) to.bytes
-          (omega (arith, few)) (low_leaves ptr (width space) h.1.0 (omega (arith, e))) (home_leaves cells k.homes k.slots room to h.0))
+          (omega (arith, few)) (low_leaves ptr (width space) h.1.0 (omega (arith, e))) (home_leaves cells k.homes k.slots room to h.0)))
       own_passes results f called told telling known need (store_at ptr space from) h u a =
           let few = h.0.most in let two = some_width space in let e = h.1.1 in
           by_fit (store_data_code (home k.homes from) (home k.homes ptr) from.bytes)
@@ -1030,7 +1152,8 @@ module _ (sizes : Sizes) where
       called_passes results f called l need i h c = refl
 
       pub operation_passes : (results : ℕ → ℕ) (f : ℕ) (called : List ℕ) (told telling : Option Told) (known : Option RightNumber)
-          (need : Need) (i : PlainIr) → IsCovered p results f called k.slots i → UsesCells cells i → AcceptsLabels q k i → AcceptsCalls q k i
+          (need : Need) (i : PlainIr) → IsCovered p results f called k.slots i → UsesCells cells i → AcceptsLabels q k i
+          → AcceptsCalls q k i
           → list_all q (op_code p (home k.homes) k told telling known need i) ≡ true
       operation_passes results f called told telling known need i h u a c =
           by_routine (routine_used known i (k.routine_of i)) (λ l e. used_is (takes_count known i) (k.routine_of i) l e) where
@@ -1047,7 +1170,7 @@ module _ (sizes : Sizes) where
           → list_all q (ops_code p (home k.homes) k at told code) ≡ true
       operations_pass results f called at told [] h u a = refl
       operations_pass results f called at told (i ∷ code) h u a =
-          joined q (op_code p (home k.homes) k told (tells_next at told i code) (at.known (i ∷ code)) (needs at code) i)
-          (ops_code p (home k.homes) k at (tells_next at told i code) code)
-          (operation_passes results f called told (tells_next at told i code) (at.known (i ∷ code)) (needs at code) i h.0 u.0 a.0 a.1)
-          (operations_pass results f called at (tells_next at told i code) code h.1 u.1 a.2)
+          joined q (op_code p (home k.homes) k told (tells_next p at told i code) (at.known (i ∷ code)) (needs at code) i)
+          (ops_code p (home k.homes) k at (tells_next p at told i code) code)
+          (operation_passes results f called told (tells_next p at told i code) (at.known (i ∷ code)) (needs at code) i h.0 u.0 a.0 a.1)
+          (operations_pass results f called at (tells_next p at told i code) code h.1 u.1 a.2)

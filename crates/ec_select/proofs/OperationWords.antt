@@ -1,6 +1,6 @@
 -- The words of operations' code.
 use Rattle.std.proofs.Common.{◌≡◌, ◌⊎◌, ℕ, zero, suc, ◌+◌, ◌-◌, ◌*◌, ◌≤◌, ◌==◌, Bool, true, false, not, List, [], ◌∷◌, ◌++◌}
-use Rattle.std.proofs.Common.{◌%◌, refl, sym, ap, ◌∙◌, subst, arith, leb-true, eqb-true, inl, inr}
+use Rattle.std.proofs.Common.{◌%◌, refl, sym, ap, ◌∙◌, subst, arith, leb-true, leb-false, eqb-true, inl, inr, ⊎_elim, ℤ}
 use Rattle.std.specs.Prelude.{⊤, min, nat_le, ◌&&◌, ◌||◌, if◌then◌else◌, Option, Some, None}
 use Rattle.std.proofs.Math.Nat.{mul-le-mul_left}
 use Rattle.std.proofs.lemmas.Bool.{le-leb, false≢true, and_parts}
@@ -46,6 +46,8 @@ use Rattle.ec_select_places.specs.Distances.{elements_code}
 use Rattle.ec_select_places.specs.Far.{advance_far_code}
 use Rattle.ec_select_places.specs.FarForm.{FarStepsAreShort}
 use Rattle.ec_select_places.specs.Form.{StepsAreShort, ConversionsAreShort, ElementsAreShort}
+use Rattle.ec_select_places.specs.Indexes.{can_add, add_index_code}
+use Rattle.ec_select_places.specs.IndexLaws.{IndexesAreShort}
 use Rattle.ec_select_places.specs.Steps.{scale_index_code, advance_code}
 use Rattle.ec_select_pointers.specs.Accesses.{load_flash_code, load_any_code, load_table_code}
 use Rattle.ec_select_pointers.specs.Addresses.{address_code, field_code}
@@ -71,9 +73,12 @@ use Rattle.ec_select_operations.specs.declared.families.Family.{Family}
 use Rattle.ec_select_operations.specs.declared.families.Family.TheVariants.{Combined, Compared, Multiplied, Shifted}
 use Rattle.ec_select_operations.specs.declared.families.Family.TheVariants.{Divided}
 use Rattle.ec_select_operations.specs.declared.families.Told.{Told}
+use Rattle.ec_select_operations.specs.declared.families.Told.TheVariants.{Operands}
 use Rattle.ec_select_operations.specs.declared.homes.Homes.{Homes}
 use Rattle.ec_select_operations.specs.Code.{counted_by_code}
-use Rattle.ec_select_operations.specs.Code.{compared_signed, counted_code, same_location, transfer_code, move_code, reversed_code, family_of, is_signed}
+use Rattle.ec_select_operations.specs.Code.{masked_code}
+use Rattle.ec_select_operations.specs.Code.{compared_signed, counted_code, same_location, transfer_code, move_code}
+use Rattle.ec_select_operations.specs.Code.{reversed_code, family_of, is_signed}
 use Rattle.ec_select_operations.specs.Code.{conversion_code, combined_code}
 use Rattle.ec_select_operations.specs.Code.{compared_code, multiplied_code, shift_of, shifted_bytes, turned_code}
 use Rattle.ec_select_operations.specs.Code.{shifted_code, long_code}
@@ -88,6 +93,9 @@ use Rattle.ec_select_operations.specs.Code.{keeps_number, is_brought, brought_co
 use Rattle.ec_select_fixed.specs.Types.{format_in}
 use Rattle.ec_select_operations.specs.Code.{fixed_conversion, by_core, is_far, is_whole_address, addressed_code, member_code}
 use Rattle.ec_select_operations.specs.Code.{load_code, banked_code, moved_code, offset_code}
+use Rattle.ec_select_operations.specs.Code.{takes_index, indexed_code, scaled_code, object_code, further_code}
+use Rattle.ec_select_operations.specs.Code.{loaded_code}
+use Rattle.ec_select_pointers.proofs.InZ.{fetches_are_short, members_are_short, point_is_short}
 use Rattle.ec_select_operations.specs.Code.{known_bytes, known_offset, offset_by}
 use Rattle.ec_select_operations.specs.Code.{related_bytes, pointers_code}
 use Rattle.ec_select_operations.specs.Code.{is_difference, pointer_binary, pointer_conversion}
@@ -99,13 +107,15 @@ use Rattle.ec_select_functions.proofs.OnWholes.{on_wholes}
 use Rattle.ec_select_operations.specs.Emitted.{OfKind}
 use Rattle.ec_select_operations.specs.Homes.{home, result_location, HasHome}
 use Rattle.ec_select_functions.proofs.Taken.{TakesSum, TakesOrder, TakesShift, takes, taken_is, compared_few}
+use Rattle.ec_select_functions.proofs.Taken.{TakenNumber, as_known, no_number, HasNumber, number_or_none, ComparesSo, compares}
 use Rattle.ec_select_functions.specs.Covered.{AreIntegers, AreCompared}
 use Rattle.ec_select_numbers.specs.ByNumber.{compared_code as compared_with_code}
 use Rattle.ec_select_numbers.specs.Laws.{NumbersAreStraight}
-use Rattle.ec_select_operations.specs.Code.{taking_code, integer_binary, by_number_code, changed_by_code}
+use Rattle.ec_select_operations.specs.Code.{taking_code, integer_binary, by_number_code, changed_by_code, bytes_code}
 use Rattle.ec_ir_known.specs.declared.known.RightNumber.{RightNumber}
 use Rattle.ec_select_operations.specs.Needs.{Need, wanted, wanted_result, is_fixed, number_taken, compared_bytes as bytes_compared}
-use Rattle.ec_select.proofs.ByNumber.{changed_by_words, compared_with_words}
+use Rattle.ec_select.proofs.ByNumber.{changed_by_words, compared_with_words, masked_words}
+use Rattle.ec_select_operations.specs.Needs.{number_known}
 use Rattle.ec_select_operations.specs.Places.{object_location}
 use Rattle.ec_select_operations.specs.Pointers.{is_pointer, is_into_data, home_of, tag_in, IsPointerSize}
 use Rattle.ec_select.proofs.FixedItems.{answer_words, own_words, others_words}
@@ -133,6 +143,7 @@ pub record WordLaws : Type 0 where
   pub tables : TablesAreShort
   pub far_pointers : FarPointersHave
   pub steps : StepsAreShort
+  pub indexes : IndexesAreShort
   pub far_steps : FarStepsAreShort
   pub conversions : ConversionsAreShort
   pub elements : ElementsAreShort
@@ -472,19 +483,19 @@ module _ (laws : WordLaws) where
 
       by_order : (r : Relation) (sign : Bool) → AreCompared slots to a b aty bty → is_bitwise op ≡ false → (number compared : ℕ)
           → compared ≤ a.bytes
-          → code_words (by_number_code (Compared r false) left sign (home h a) (home h b) (home h to) a.bytes compared number n)
+          → code_words (by_number_code (Compared r false) left sign (home h a) (home h b) (home h to) compared number n)
           ≤ binary_words op ty aty bty
       by_order r sign j q number compared fewer =
-          let put = constant_code (home h b) number a.bytes in
-          let own = compared_code r sign (home h a) (home h b) (home h to) compared n in
+          let alone = compared_with_code (home h a) number compared in
+          let own = compared_code r sign (home h a) (home h b) (home h to) 0 n in
           let y = other_row op ty aty bty q in
           let x = second_within ty aty bty j.signed a.bytes j.left_type in
           let few = j.result.most in
-          let c = (laws.values (home h b) number a.bytes a.bytes).0 in
-          let w = compared_most r sign (home h a) (home h b) (home h to) compared n (omega (arith, few, l)) in
-          let both = joined_words put own in
-          let u = unless_none n (10 * a.bytes + 55) (put ++ own) (omega (arith, c, w, both, fewer)) in
-          let z = within (code_words (if n == 0 then [] else put ++ own)) (widest (ty ∷ aty ∷ bty ∷ [])) (omega (arith, x, u))
+          let c = compared_with_words laws.numbers (home h a) number compared in
+          let w = compared_most r sign (home h a) (home h b) (home h to) 0 n (omega (arith, few, l)) in
+          let both = joined_words alone own in
+          let u = unless_none n (10 * a.bytes + 55) (alone ++ own) (omega (arith, c, w, both, fewer)) in
+          let z = within (code_words (if n == 0 then [] else alone ++ own)) (widest (ty ∷ aty ∷ bty ∷ [])) (omega (arith, x, u))
           (some_within ty aty bty) in
           omega (arith, y, z)
 
@@ -519,40 +530,89 @@ module _ (laws : WordLaws) where
           by_op Shr up q = refl
           by_op op up q = absurd cc
 
-      by_number : (x : TakesSum op ⊎ (TakesOrder op ⊎ TakesShift op)) → (told : Option Told) (number : RightNumber)
-          → code_words (taking_code (Some number) told (family_of op) left right (home h a) (home h b) (home h to) a.bytes n)
+      by_number : (x : TakesSum op ⊎ (TakesOrder op ⊎ TakesShift op)) → (told : Option Told) (number : TakenNumber)
+          → code_words (taking_code (Some (as_known number)) told (family_of op) left right (home h a) (home h b) (home h to) a.bytes n)
           ≤ binary_words op ty aty bty
       by_number (inl x) None number =
           rw x.is (by_sum x.operator (subst (λ z. IsBinary z slots to a b ty aty bty) x.is i) (low_bytes 16 number.number))
       by_number (inl x) (Some told) number =
           let j = subst (λ z. IsBinary z slots to a b ty aty bty) x.is i in
-          let compared = bytes_compared (Some number) a.bytes in
-          let few = compared_few number a.bytes in
-          let z = compared_with_words laws.numbers (home h a) (low_bytes 16 number.number) compared in
-          let s = j.left_bytes in
-          row (is_bitwise op) refl (code_words (compared_with_code (home h a) (low_bytes 16 number.number) compared))
-          (omega (arith, z, s, few)) (λ q. omega (arith, z, s, few)) j.signed j.result_type
+          let z = masked_words (home h a) (home h to) (low_bytes 16 number.number % 256) in
+          let some = j.result.some in
+          rw x.is (row (is_bitwise op) refl (code_words (masked_code (home h a) (home h to) (low_bytes 16 number.number % 256)))
+          (omega (arith, z, some)) (λ q. omega (arith, z, some)) j.signed j.result_type)
       by_number (inr (inl x)) None number =
           let j = subst (λ z. IsBinary z slots to a b ty aty bty) x.is i in
-          rw x.is (by_order x.relation (compared_signed (Some number) left) j (no_bits x) (low_bytes 16 number.number)
-          (bytes_compared (Some number) a.bytes) (compared_few number a.bytes))
+          rw x.is (by_order x.relation (compared_signed (Some (as_known number)) left) j (no_bits x) (low_bytes 16 number.number)
+          (bytes_compared (Some (as_known number)) a.bytes) (compared_few (as_known number) a.bytes))
       by_number (inr (inl x)) (Some told) number =
           let j = subst (λ z. IsBinary z slots to a b ty aty bty) x.is i in
-          by_flag j.left j.signed j.left_type (no_bits x) (low_bytes 16 number.number) (bytes_compared (Some number) a.bytes)
-          (compared_few number a.bytes)
+          rw x.is (by_flag j.left j.signed j.left_type (no_bits x) (low_bytes 16 number.number)
+          (bytes_compared (Some (as_known number)) a.bytes)
+          (compared_few (as_known number) a.bytes))
       by_number (inr (inr x)) None number =
-          rw x.is (by_shift x.up (compared_signed (Some number) left) (subst (λ z. IsBinary z slots to a b ty aty bty) x.is i)
-          (no_shifted_bits x) (low_bytes 16 number.number % 256) (bytes_compared (Some number) a.bytes) (compared_few number a.bytes))
+          rw x.is (by_shift x.up (compared_signed (Some (as_known number)) left) (subst (λ z. IsBinary z slots to a b ty aty bty) x.is i)
+          (no_shifted_bits x) (low_bytes 16 number.number % 256) (bytes_compared (Some (as_known number)) a.bytes)
+          (compared_few (as_known number) a.bytes))
       by_number (inr (inr x)) (Some told) number =
           let j = (subst (λ z. IsBinary z slots to a b ty aty bty) x.is i).0 in
-          by_flag j.left j.signed j.left_type (no_shifted_bits x) (low_bytes 16 number.number) (bytes_compared (Some number) a.bytes)
-          (compared_few number a.bytes)
+          rw x.is (by_flag j.left j.signed j.left_type (no_shifted_bits x) (low_bytes 16 number.number)
+          (bytes_compared (Some (as_known number)) a.bytes) (compared_few (as_known number) a.bytes))
+
+      no_order_bits : (op : BinOp) (r : Relation) (exchanged : Bool) → family_of op ≡ Compared r exchanged → is_bitwise op ≡ false
+      no_order_bits And r exchanged q = absurd cc
+      no_order_bits Or r exchanged q = absurd cc
+      no_order_bits Xor r exchanged q = absurd cc
+      no_order_bits op r exchanged q = refl
+
+      low_most : (telling : Option Told) (r : Relation) (x : Bool) (compared : ℕ) → n ≤ 8
+          → code_words (bytes_code telling (Compared r x) (home h a) (home h b) (home h to) compared n) ≤ 5 * compared + 55
+      low_most None r false compared e = compared_most r false (home h a) (home h b) (home h to) compared n e
+      low_most None r true compared e = compared_most r false (home h b) (home h a) (home h to) compared n e
+      low_most (Some told) r false compared e =
+          let x = flag_few (Compared r false) false false (home h a) (home h b) (home h to) compared in
+          let z = compared_most r false (home h a) (home h b) (home h to) compared 1 (omega arith) in
+          omega (arith, x, z)
+      low_most (Some told) r true compared e =
+          let x = flag_few (Compared r true) false false (home h a) (home h b) (home h to) compared in
+          let z = compared_most r false (home h b) (home h a) (home h to) compared 1 (omega arith) in
+          omega (arith, x, z)
+
+      by_bytes : (order : ComparesSo op) (byte : Bool)
+          → code_words (taking_code (Some (no_number byte)) telling (family_of op) left right (home h a) (home h b) (home h to) a.bytes n)
+          ≤ binary_words op ty aty bty
+      by_bytes order byte =
+          let j = subst (λ z. IsBinary z slots to a b ty aty bty) order.is i in
+          let compared = bytes_compared (Some (no_number byte)) a.bytes in
+          let code = bytes_code telling (Compared order.relation order.exchanged) (home h a) (home h b) (home h to) compared n in
+          let fewer = compared_few (no_number byte) a.bytes in
+          let few = j.result.most in
+          let w = low_most telling order.relation order.exchanged compared (omega (arith, few, l)) in
+          let y = other_row op ty aty bty (no_order_bits op order.relation order.exchanged order.is) in
+          let x = second_within ty aty bty j.signed a.bytes j.left_type in
+          let z = within (code_words code) (widest (ty ∷ aty ∷ bty ∷ [])) (omega (arith, x, w, fewer)) (some_within ty aty bty) in
+          subst (λ f. code_words (bytes_code telling f (home h a) (home h b) (home h to) compared n) ≤ binary_words op ty aty bty)
+          (sym order.is) (omega (arith, y, z))
 
       by_taken : (x : Option RightNumber) → number_taken known false op ≡ x
           → code_words (taking_code x telling (family_of op) left right (home h a) (home h b) (home h to) a.bytes n)
           ≤ binary_words op ty aty bty
       by_taken None q = operator_most telling op slots h to a b ty aty bty left right n i l same
-      by_taken (Some number) q = by_number (takes op (taken_is op known number q).1) telling number
+      by_taken (Some k) q =
+          ⊎_elim
+          (λ (x : HasNumber k). with_number x.taken (q ∙ ap Some x.is) x.is)
+          (λ (x : k ≡ no_number k.in_byte).
+          subst (λ z. code_words (taking_code (Some z) telling (family_of op) left right (home h a) (home h b) (home h to) a.bytes n)
+          ≤ binary_words op ty aty bty) (sym x)
+          (by_bytes (compares op (taken_is op known (no_number k.in_byte) (q ∙ ap Some x)).1) k.in_byte))
+          (number_or_none k)
+        where
+          with_number : (number : TakenNumber) → number_taken known false op ≡ Some (as_known number) → k ≡ as_known number
+              → code_words (taking_code (Some k) telling (family_of op) left right (home h a) (home h b) (home h to) a.bytes n)
+              ≤ binary_words op ty aty bty
+          with_number number q is =
+              subst (λ z. code_words (taking_code (Some z) telling (family_of op) left right (home h a) (home h b) (home h to) a.bytes n)
+              ≤ binary_words op ty aty bty) (sym is) (by_number (takes op (taken_is op known (as_known number) q).1) telling number)
 
   -- ---- other operations
 
@@ -598,7 +658,7 @@ module _ (laws : WordLaws) where
       by_address false e = address_few o offset q bytes bank size
 
   -- a pointer of so many bytes to a member
-  pub member_most : (core : Core) (q : Location) (bytes offset : ℕ) → code_words (member_code core bytes q offset) ≤ 15
+  member_most : (core : Core) (q : Location) (bytes offset : ℕ) → code_words (member_code core bytes q offset) ≤ 15
   member_most core q bytes offset = by_far (is_far core bytes) where
     by_far : (far : Bool) → code_words (if far then field_far_code q offset else field_code q offset) ≤ 15
     by_far true = (laws.far_pointers 0 offset q q 0).1
@@ -610,7 +670,7 @@ module _ (laws : WordLaws) where
   either_words Small small large most x y = x
   either_words Large small large most x y = y
 
-  pub load_most : (core : Core) (tables : Bool) (space : SpaceId) (p q : Location) (n : ℕ)
+  load_most : (core : Core) (tables : Bool) (space : SpaceId) (p q : Location) (n : ℕ)
       → code_words (load_code core tables space p q n) ≤ 10 + 6 * n
   load_most core tables Flash p q n = let x = (laws.pointers 0 0 None p q n).3 in omega (arith, x)
   load_most core tables Data p q n = let x = (laws.pointers 0 0 None p q n).2 in omega (arith, x)
@@ -628,12 +688,30 @@ module _ (laws : WordLaws) where
   far_object_most Small o offset q n some = let x = (laws.tables o offset q n).2 in omega (arith, x, some)
   far_object_most Large o offset q n some = let x = (laws.far_pointers o offset q q n).3 in omega (arith, x, some)
 
-  pub bank_most : (core : Core) (kept : Home) (objects : List PlainObject) (o offset : ℕ) (q : Location) (n : ℕ) → 1 ≤ n
+  bank_most : (core : Core) (kept : Home) (objects : List PlainObject) (o offset : ℕ) (q : Location) (n : ℕ) → 1 ≤ n
       → code_words (banked_code core kept objects o offset q n) ≤ 2 + 5 * n
   bank_most core FlashHome objects o offset q n some = let x = (laws.tables o offset q n).2 in omega (arith, x, some)
   bank_most core FarHome objects o offset q n some = far_object_most core o offset q n some
   bank_most core DataHome objects o offset q n some =
       let x = copy_words_most (object_location objects o offset) q n in omega (arith, x)
+
+  -- where a pointer stays in Z
+  pub object_most : (telling : Option Told) (core : Core) (kept : Home) (objects : List PlainObject) (o offset : ℕ) (q : Location)
+      (n : ℕ) → 1 ≤ n → code_words (object_code telling core kept objects o offset q n) ≤ 2 + 5 * n
+  object_most None core kept objects o offset q n some = bank_most core kept objects o offset q n some
+  object_most (Some told) core kept objects o offset q n some =
+      let x = (fetches_are_short (object_location objects o offset) n).2 in omega (arith, x)
+
+  pub further_most : (told telling : Option Told) (core : Core) (bytes : ℕ) (q : Location) (offset : ℕ)
+      → code_words (further_code told telling core bytes q offset) ≤ 15
+  further_most (Some told) telling core bytes q offset = omega arith
+  further_most None (Some told) core bytes q offset = let x = (point_is_short q).2 in omega (arith, x)
+  further_most None None core bytes q offset = member_most core q bytes offset
+
+  pub loaded_by_most : (from_z : Option ℕ) (core : Core) (tables : Bool) (space : SpaceId) (p q : Location) (n : ℕ)
+      → code_words (loaded_code from_z core tables space p q n) ≤ 10 + 6 * n
+  loaded_by_most None core tables space p q n = load_most core tables space p q n
+  loaded_by_most (Some offset) core tables space p q n = let x = (members_are_short offset q n).2 in omega (arith, x)
 
   moved_most : (core : Core) (bytes : ℕ) (minus : Bool) (q : Location) → code_words (moved_code core bytes minus q) ≤ 19
   moved_most core bytes minus q = by_far (is_far core bytes) where
@@ -644,27 +722,43 @@ module _ (laws : WordLaws) where
   pub offset_most : (core : Core) (minus signed : Bool) (a b c : Location) (bytes index_bytes size n : ℕ)
       → code_words (offset_code core minus signed a b c bytes index_bytes size n) ≤ 4 * bytes + 43
   offset_most core minus signed a b c bytes index_bytes size n =
-      let scale = scale_index_code b signed index_bytes (size % 65536) in
-      let moved = moved_code core bytes minus c in
-      let x = (laws.steps b c signed minus index_bytes (size % 65536)).0.words_are in
-      let y = move_words a c bytes in
-      let z = moved_most core bytes minus c in
-      unless_none n (4 * bytes + 43) (scale ++ (move_code a c bytes ++ moved))
-      (omega (
-        arith,
-        joined_words scale (move_code a c bytes ++ moved),
-        joined_words (move_code a c bytes) moved,
-        x,
-        y,
-        z,
-      ))
+      unless_none n (4 * bytes + 43) (if takes_index core signed b c bytes index_bytes (size % 65536) then indexed else scaled)
+      (by_way (takes_index core signed b c bytes index_bytes (size % 65536)) refl)
+    where
+      indexed : List AsmItem
+      indexed = indexed_code minus a b c bytes index_bytes (size % 65536)
+
+      scaled : List AsmItem
+      scaled = scaled_code core minus signed a b c bytes index_bytes (size % 65536)
+
+      by_way : (way : Bool) → takes_index core signed b c bytes index_bytes (size % 65536) ≡ way
+          → code_words (if way then indexed else scaled) ≤ 4 * bytes + 43
+      by_way true e =
+          let can = and_second (not (is_far core bytes)) (can_add signed b c index_bytes (size % 65536)) e in
+          let x = (laws.indexes minus signed b c index_bytes (size % 65536) can).words_are in
+          let y = move_words a c bytes in
+          omega (arith, joined_words (move_code a c bytes) (add_index_code minus b c index_bytes (size % 65536)), x, y)
+      by_way false e =
+          let scale = scale_index_code b signed index_bytes (size % 65536) in
+          let moved = moved_code core bytes minus c in
+          let x = (laws.steps b c signed minus index_bytes (size % 65536)).0.words_are in
+          let y = move_words a c bytes in
+          let z = moved_most core bytes minus c in
+          omega (
+            arith,
+            joined_words scale (move_code a c bytes ++ moved),
+            joined_words (move_code a c bytes) moved,
+            x,
+            y,
+            z,
+          )
 
   -- where the number of elements may be known
-  pub offset_by_most : (known : Option RightNumber) (core : Core) (minus signed : Bool) (a b c : Location) (bytes index_bytes size n : ℕ)
+  pub offset_by_most : (known : Option ℤ) (core : Core) (minus signed : Bool) (a b c : Location) (bytes index_bytes size n : ℕ)
       → code_words (offset_by known core minus signed a b c bytes index_bytes size n) ≤ 4 * bytes + 43
   offset_by_most None core minus signed a b c bytes index_bytes size n = offset_most core minus signed a b c bytes index_bytes size n
   offset_by_most (Some number) core minus signed a b c bytes index_bytes size n =
-      let offset = known_offset minus (known_bytes signed index_bytes (low_bytes 16 number.number) size) in
+      let offset = known_offset minus (known_bytes signed index_bytes (low_bytes 16 number) size) in
       let member = member_code core bytes c offset in
       let x = move_words a c bytes in
       let y = member_most core c bytes offset in
@@ -685,7 +779,8 @@ module _ (laws : WordLaws) where
   pointers_most core (Shifted up) a b c bytes size n some l = omega arith
   pointers_most core (Divided r) a b c bytes size n some l = omega arith
 
-  pub pointer_binary_most : (known : Option RightNumber) (core : Core) (p : PlainProgram) (op : BinOp) (slots : ℕ) (h : Homes) (to a b : Temp) (ty aty bty : PlainType)
+  pub pointer_binary_most : (known : Option RightNumber) (core : Core) (p : PlainProgram) (op : BinOp) (slots : ℕ) (h : Homes)
+      (to a b : Temp) (ty aty bty : PlainType)
       (n : ℕ) → IsPointerBinary p slots op to a b ty aty bty → n ≤ to.bytes
       → code_words (pointer_binary known core (is_pointer aty) (is_pointer bty) p op aty bty (home h a) (home h b) (home h to)
       a.bytes b.bytes n) ≤ binary_words op ty aty bty
@@ -713,9 +808,10 @@ module _ (laws : WordLaws) where
         in_row (pointers_code core (family_of op) (home h a) (home h b) (home h to) a.bytes (element_size p aty) n)
         (let w = left_within in omega (arith, m, w))
     by_kinds true false d e =
-        let m = offset_by_most known core (is_difference op) (is_signed bty) (home h a) (home h b) (home h to) a.bytes b.bytes
-        (element_size p aty) n in
-        in_row (offset_by known core (is_difference op) (is_signed bty) (home h a) (home h b) (home h to) a.bytes b.bytes (element_size p aty) n)
+        let m = offset_by_most (number_known known) core (is_difference op) (is_signed bty) (home h a) (home h b) (home h to)
+        a.bytes b.bytes (element_size p aty) n in
+        in_row (offset_by (number_known known) core (is_difference op) (is_signed bty) (home h a) (home h b) (home h to) a.bytes b.bytes
+        (element_size p aty) n)
         (let w = left_within in omega (arith, m, w))
     by_kinds false true d e =
         let m = offset_most core false (is_signed aty) (home h b) (home h a) (home h to) b.bytes a.bytes (element_size p bty) n in
@@ -725,24 +821,25 @@ module _ (laws : WordLaws) where
 
   pub pointer_conversion_most : (slots : ℕ) (h : Homes) (to a : Temp) (ty aty : PlainType) (n : ℕ)
       → IsPointerConversion slots to a ty aty → n ≤ to.bytes
-      → code_words (pointer_conversion aty (home h a) (home h to) a.bytes to.bytes n) ≤ conversion_words ty aty
-  pointer_conversion_most slots h to a ty aty n i l = by_bytes (a.bytes == 2 && to.bytes == 3) refl where
-    by_bytes : (more : Bool) → (a.bytes == 2 && to.bytes == 3) ≡ more
-        → code_words (if more then (if n == 0 then [] else embed_code (is_into_data aty) (home h a) (home h to))
-        else move_code (home h a) (home h to) n) ≤ conversion_words ty aty
-    by_bytes true e =
-        let three : to.bytes ≡ 3 = eqb-true to.bytes 3 (and_second (a.bytes == 2) (to.bytes == 3) e) in
-        let x = (laws.conversions (is_into_data aty) (home h a) (home h to)).0.words_are in
-        let y = conversion_row ty aty in let w = i.result_bytes in
-        unless_none n (conversion_words ty aty) (embed_code (is_into_data aty) (home h a) (home h to))
-        (omega (arith, three, x, y, w))
-    by_bytes false e =
-        let x = move_words (home h a) (home h to) n in let y = conversion_row ty aty in let w = i.result_bytes in
-        omega (arith, x, y, w, l)
+      → code_words (pointer_conversion aty (home h a) (home h to) a.bytes n) ≤ conversion_words ty aty
+  pointer_conversion_most slots h to a ty aty n i l =
+      let x = move_words (home h a) (home h to) (min n a.bytes) in let y = conversion_row ty aty in let w = i.result_bytes in
+      let z = by_bytes (nat_le n a.bytes) refl in
+      omega (arith, joined_words (move_code (home h a) (home h to) (min n a.bytes)) (behind (nat_le n a.bytes)), x, y, z, w, l)
+    where
+      behind : (few : Bool) → List AsmItem
+      behind few = if few then [] else embed_code (is_into_data aty) (home h to)
+
+      by_bytes : (few : Bool) → nat_le n a.bytes ≡ few → code_words (behind few) + 4 * min n a.bytes ≤ 10 * n
+      by_bytes true e = omega arith
+      by_bytes false e =
+          let more = leb-false n a.bytes e in
+          let x = (laws.conversions (is_into_data aty) (home h to) (home h to)).0.words_are in omega (arith, x, more)
 
   -- ---- operations with a fixed-point type
 
-  pub fixed_binary_most : (known : Option RightNumber) (telling : Option Told) (op : BinOp) (ty aty bty : PlainType) (mode : Mode) (slots : ℕ) (h : Homes)
+  pub fixed_binary_most : (known : Option RightNumber) (telling : Option Told) (op : BinOp) (ty aty bty : PlainType) (mode : Mode)
+      (slots : ℕ) (h : Homes)
       (to a b : Temp) (n : ℕ) → IsFixedBinary slots op to a b ty aty bty → n ≤ to.bytes
       → code_words (fixed_binary known telling op ty aty bty mode (home h a) (home h b) (home h to) a.bytes n)
       ≤ binary_words op ty aty bty
@@ -779,13 +876,13 @@ module _ (laws : WordLaws) where
           answer_words code (home h to) n (scalar_size ty) (binary_words op ty aty bty) (omega arith) few
 
       by_code : (on : Bool) → is_on_integers (family_of op) mode ty aty bty ≡ on
-          → code_words (if on then operator_code telling (family_of op) (is_signed aty) (is_signed bty) (home h a) (home h b)
+          → code_words (if on then integer_binary known telling op (is_signed aty) (is_signed bty) (home h a) (home h b)
           (home h to) a.bytes n else (if stops then stopped else answer_code code (home h to) n)) ≤ binary_words op ty aty bty
       by_code true on =
           let w = on_wholes slots op mode to a b ty aty bty i on in
           let k = whole_type w.kind in
           let bitwise = w.bitwise in
-          let most = operator_most telling op slots h to a b w.result k k (is_signed aty) (is_signed bty) n w.binary l
+          let most = taking_most known telling op slots h to a b w.result k k (is_signed aty) (is_signed bty) n w.binary l
           (λ q. absurd (false≢true (sym bitwise ∙ q))) in
           let words : binary_words op ty aty bty ≡ binary_words op w.result k k =
           ap (λ x. binary_words op ty x bty) w.left_is
@@ -858,7 +955,8 @@ module _ (laws : WordLaws) where
 
   -- ---- operations on integers, with a fixed-point type, or on pointers
 
-  pub one_binary : (core : Core) (p : PlainProgram) (known : Option RightNumber) (telling : Option Told) (op : BinOp) (ty aty bty : PlainType) (mode : Mode) (slots : ℕ)
+  pub one_binary : (core : Core) (p : PlainProgram) (known : Option RightNumber) (telling : Option Told) (op : BinOp)
+      (ty aty bty : PlainType) (mode : Mode) (slots : ℕ)
       (h : Homes) (to a b : Temp) (n : ℕ)
       → IsBinary (family_of op) slots to a b ty aty bty
       ⊎ (IsFixedBinary slots op to a b ty aty bty ⊎ IsPointerBinary p slots op to a b ty aty bty)
@@ -914,11 +1012,11 @@ module _ (laws : WordLaws) where
       → AreConverted slots to a ty aty ⊎ (IsFixedConversion slots to a ty aty ⊎ IsPointerConversion slots to a ty aty)
       → n ≤ to.bytes
       → code_words (by_kind (is_fixed ty || is_fixed aty) (fixed_conversion ty aty mode (home h a) (home h to) a.bytes n)
-      (by_kind (is_pointer aty) (pointer_conversion aty (home h a) (home h to) a.bytes to.bytes n)
+      (by_kind (is_pointer aty) (pointer_conversion aty (home h a) (home h to) a.bytes n)
       (conversion_code (is_signed aty) (home h a) (home h to) a.bytes n))) ≤ conversion_words ty aty
   one_conversion ty aty mode slots h to a n (inl i) l =
       let own = fixed_conversion ty aty mode (home h a) (home h to) a.bytes n in
-      let pointed = pointer_conversion aty (home h a) (home h to) a.bytes to.bytes n in
+      let pointed = pointer_conversion aty (home h a) (home h to) a.bytes n in
       let usual = conversion_code (is_signed aty) (home h a) (home h to) a.bytes n in
       let most = conversion_words ty aty in
       let x = conversion_few (is_signed aty) (home h a) (home h to) a.bytes n to.bytes l in
@@ -929,14 +1027,14 @@ module _ (laws : WordLaws) where
       (others_words (is_pointer aty) pointed usual most (none_pointed slots to a ty aty i) (omega (arith, x, y, w)))
   one_conversion ty aty mode slots h to a n (inr (inl i)) l =
       let own = fixed_conversion ty aty mode (home h a) (home h to) a.bytes n in
-      let pointed = pointer_conversion aty (home h a) (home h to) a.bytes to.bytes n in
+      let pointed = pointer_conversion aty (home h a) (home h to) a.bytes n in
       let usual = conversion_code (is_signed aty) (home h a) (home h to) a.bytes n in
       let most = conversion_words ty aty in
       own_words (is_fixed ty || is_fixed aty) own (by_kind (is_pointer aty) pointed usual) most
       (either_fixed ty aty i.types.fixed) (fixed_conversion_most ty aty mode slots h to a n i l)
   one_conversion ty aty mode slots h to a n (inr (inr i)) l =
       let own = fixed_conversion ty aty mode (home h a) (home h to) a.bytes n in
-      let pointed = pointer_conversion aty (home h a) (home h to) a.bytes to.bytes n in
+      let pointed = pointer_conversion aty (home h a) (home h to) a.bytes n in
       let usual = conversion_code (is_signed aty) (home h a) (home h to) a.bytes n in
       let most = conversion_words ty aty in
       others_words (is_fixed ty || is_fixed aty) own (by_kind (is_pointer aty) pointed usual) most
@@ -950,14 +1048,14 @@ module _ (laws : WordLaws) where
 
   pub tested_most : (told telling : Option Told) (p : Location) (bytes l : ℕ)
       → code_words (tested_code told telling p bytes l) ≤ 6 + 3 * bytes
-  tested_most None None p bytes l = branch_most p bytes l
-  tested_most None (Some behind) p bytes l = let x = (laws.values p 0 bytes bytes).1 in omega (arith, x)
-  tested_most (Some told) None p bytes l = omega arith
-  tested_most (Some told) (Some behind) p bytes l = omega arith
+  tested_most (Some (Operands r s)) None p bytes l = omega arith
+  tested_most (Some (Operands r s)) (Some behind) p bytes l = omega arith
+  tested_most told None p bytes l = branch_most p bytes l
+  tested_most told (Some behind) p bytes l = let x = (laws.values p 0 bytes bytes).1 in omega (arith, x)
 
   pub jump_most : (told : Option Told) (l : ℕ) → code_words (jump_code told l) ≤ 3
-  jump_most None l = omega arith
-  jump_most (Some told) l = omega arith
+  jump_most (Some (Operands r s)) l = omega arith
+  jump_most told l = omega arith
 
   -- ---- calls and returns
 

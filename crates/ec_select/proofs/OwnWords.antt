@@ -1,6 +1,7 @@
 -- The words of an operation's own code, by the numbers that operations count by shapes.
-use Rattle.std.proofs.Common.{◌≡◌, ◌⊎◌, ℕ, ◌+◌, ◌-◌, ◌*◌, ◌%◌, ◌<◌, ◌≤◌, ◌==◌, Bool, true, false, List, [], ◌∷◌, ◌++◌, refl, sym, ap, ◌∙◌, subst}
-use Rattle.std.proofs.Common.{arith, eqb-true, inl, inr, append-nil, leb-false}
+use Rattle.std.proofs.Common.{◌≡◌, ◌⊎◌, ℕ, ◌+◌, ◌-◌, ◌*◌, ◌%◌, ◌<◌, ◌≤◌, ◌==◌, Bool, true, false, List, [], ◌∷◌, ◌++◌}
+use Rattle.std.proofs.Common.{refl, sym, ap, ◌∙◌, subst}
+use Rattle.std.proofs.Common.{arith, eqb-true, inl, inr, append-nil, leb-false, ℤ}
 use Rattle.std.specs.Prelude.{⊤, min, nat_le, ◌&&◌, ◌||◌, not, if◌then◌else◌, Option, Some, None}
 use Rattle.std.proofs.lemmas.Bool.{false≢true, le-leb}
 use Rattle.ec_asm.specs.declared.items.AsmItem.{AsmItem}
@@ -44,10 +45,12 @@ use Rattle.ec_select_shifts.proofs.Counted.{counted_shifts_have_words}
 use Rattle.ec_select_operations.specs.declared.families.Family.TheVariants.{Combined, Compared, Multiplied, Shifted}
 use Rattle.ec_select_operations.specs.declared.families.Told.{Told}
 use Rattle.ec_select_operations.specs.declared.homes.Homes.{Homes}
+use Rattle.ec_select_numbers.specs.ByNumber.{compared_code as compared_with_code}
 use Rattle.ec_select_operations.specs.Code.{counted_by_code}
 use Rattle.ec_select_operations.specs.Code.{compared_signed, counted_code, move_code, family_of, is_signed, conversion_code, compared_code}
 use Rattle.ec_select_operations.specs.Code.{shift_of, shifted_bytes, turned_code, turn_code, unary_code, flag_code, operator_code}
 use Rattle.ec_select_operations.specs.Code.{changed_by_code, taking_code, integer_binary, by_kind, fixed_binary, fixed_unary}
+use Rattle.ec_select_operations.specs.Code.{bytes_code, known_code}
 use Rattle.ec_select_operations.specs.Code.{is_on_integers, is_placed, placed_binary, same_location, answer_code, answer_location}
 use Rattle.ec_select_operations.specs.Code.{work_location}
 use Rattle.ec_select_operations.specs.Code.{fixed_conversion, keeps_number, is_brought, brought_code, has_one_fraction, is_difference}
@@ -55,6 +58,7 @@ use Rattle.ec_select_operations.specs.Code.{pointer_binary, pointer_conversion}
 use Rattle.ec_select_operations.specs.Emitted.{OfKind}
 use Rattle.ec_select_operations.proofs.OneFormat.{one_size}
 use Rattle.ec_select_operations.specs.Homes.{home}
+use Rattle.ec_select_operations.specs.Needs.{number_known}
 use Rattle.ec_select_operations.specs.Needs.{is_fixed, number_taken, compared_bytes as bytes_compared}
 use Rattle.ec_select_operations.specs.Pointers.{is_pointer, is_into_data}
 use Rattle.ec_select_fixed.specs.Codes.{fixed_binary_code, fixed_conversion_code}
@@ -62,7 +66,7 @@ use Rattle.ec_select_fixed.specs.Types.{format_in}
 use Rattle.ec_select_functions.specs.Covered.{AreIntegers, AreCompared, AreFactors, AreShifted, AreDivided, IsBinary, IsFixedBinary}
 use Rattle.ec_select_functions.specs.Covered.{IsPointerBinary, IsUnary, IsFixedUnary, AreConverted, IsFixedConversion, IsPointerConversion}
 use Rattle.ec_select_functions.proofs.Taken.{compared_few, compared_one}
-use Rattle.ec_select.proofs.ByNumber.{changed_by_words, compared_with_words}
+use Rattle.ec_select.proofs.ByNumber.{changed_by_words, compared_with_words, masked_words}
 use Rattle.ec_select.proofs.CountedTypes.{on_integers_too, never_exact, some_fixed, some_pointer, fixed_count, pointer_count}
 use Rattle.ec_select.proofs.CountedTypes.{same_fixed, no_format, format_of_same}
 use Rattle.ec_select.proofs.Fitting.{and_second}
@@ -140,19 +144,23 @@ module _ (laws : WordLaws) where
   -- ---- families, whose second operand may be taken as a number
 
   summed : (taken : Option RightNumber) (telling : Option Told) (op : Operator) (left right : Bool) (p q to : Location)
-      (bytes n w : ℕ) → bytes ≤ w → n ≤ w
+      (bytes n w : ℕ) → 1 ≤ w → n ≤ w
       → code_words (taking_code taken telling (Combined op) left right p q to bytes n) ≤ 1 + 17 * w
   summed None None op left right p q to bytes n w m l = let x = combined_most laws op p q to n in omega (arith, x, l)
   summed None (Some told) op left right p q to bytes n w m l = omega arith
-  summed (Some k) None op left right p q to bytes n w m l =
-      let number = low_bytes 16 k.number in
-      let x = move_words p to n in
-      let y = changed_by_words laws.numbers op to number n in
-      omega (arith, joined_words (move_code p to n) (changed_by_code op to number n), x, y, l)
-  summed (Some k) (Some told) op left right p q to bytes n w m l =
-      let x = compared_with_words laws.numbers p (low_bytes 16 k.number) (bytes_compared (Some k) bytes) in
-      let few = compared_few k bytes in
-      omega (arith, x, few, m)
+  summed (Some k) telling op left right p q to bytes n w m l = known k.number telling
+    where
+      known : (z : Option ℤ) (telling : Option Told)
+          → code_words (known_code z telling (Combined op) left (compared_signed (Some k) left) p q to
+          (bytes_compared (Some k) bytes) n) ≤ 1 + 17 * w
+      known None telling = omega arith
+      known (Some z) None =
+          let number = low_bytes 16 z in
+          let x = move_words p to n in
+          let y = changed_by_words laws.numbers op to number n in
+          omega (arith, joined_words (move_code p to n) (changed_by_code op to number n), x, y, l)
+      known (Some z) (Some told) =
+          let x = masked_words p to (low_bytes 16 z % 256) in omega (arith, x, m)
 
   -- a truth value of n bytes
   truth_words : (to : Location) (n : ℕ) → code_words (conversion_code false (InRegisters 30) to 1 n) ≤ 8 + 2 * n
@@ -188,23 +196,39 @@ module _ (laws : WordLaws) where
 
   ordered : (taken : Option RightNumber) (telling : Option Told) (r : Relation) (exchanged left right : Bool)
       (p q to : Location) (bytes n : ℕ)
-      → code_words (taking_code taken telling (Compared r exchanged) left right p q to bytes n) ≤ 11 + 8 * bytes + 2 * n
+      → code_words (taking_code taken telling (Compared r exchanged) left right p q to bytes n) ≤ 11 + 5 * bytes + 2 * n
   ordered None telling r exchanged left right p q to bytes n =
       let x = ordered_alone telling r exchanged left right p q to bytes n in omega (arith, x)
-  ordered (Some k) None r exchanged left right p q to bytes n =
-      let number = low_bytes 16 k.number in
-      let compared = bytes_compared (Some k) bytes in
-      let signed = compared_signed (Some k) left in
-      let put = constant_code q number bytes in
-      let own = compared_code r signed p q to compared n in
-      let few = compared_few k bytes in
-      let x = (laws.values q number bytes bytes).0 in
-      let y = order_words r signed p q to compared n in
-      unless_none n (11 + 8 * bytes + 2 * n) (put ++ own) (omega (arith, joined_words put own, x, y, few))
-  ordered (Some k) (Some told) r exchanged left right p q to bytes n =
-      let x = compared_with_words laws.numbers p (low_bytes 16 k.number) (bytes_compared (Some k) bytes) in
-      let few = compared_few k bytes in
-      omega (arith, x, few)
+  ordered (Some k) telling r exchanged left right p q to bytes n = known k.number telling
+    where
+      compared : ℕ
+      compared = bytes_compared (Some k) bytes
+
+      -- by bytes, as without signs
+      low : (telling : Option Told) (x : Bool)
+          → code_words (bytes_code telling (Compared r x) p q to compared n) ≤ 11 + 5 * compared + 2 * n
+      low None false = order_words r false p q to compared n
+      low None true = order_words r false q p to compared n
+      low (Some told) false = let x = flag_words r false p q compared in omega (arith, x)
+      low (Some told) true = let x = flag_words r true p q compared in omega (arith, x)
+
+      known : (z : Option ℤ) (telling : Option Told)
+          → code_words (known_code z telling (Compared r exchanged) left (compared_signed (Some k) left) p q to compared n)
+          ≤ 11 + 5 * bytes + 2 * n
+      known None telling = let x = low telling exchanged in let few = compared_few k bytes in omega (arith, x, few)
+      known (Some z) None =
+          let number = low_bytes 16 z in
+          let signed = compared_signed (Some k) left in
+          let put = compared_with_code p number compared in
+          let own = compared_code r signed p q to 0 n in
+          let few = compared_few k bytes in
+          let x = compared_with_words laws.numbers p number compared in
+          let y = order_words r signed p q to 0 n in
+          unless_none n (11 + 5 * bytes + 2 * n) (put ++ own) (omega (arith, joined_words put own, x, y, few))
+      known (Some z) (Some told) =
+          let x = compared_with_words laws.numbers p (low_bytes 16 z) compared in
+          let few = compared_few k bytes in
+          omega (arith, x, few)
 
   multiplied : (taken : Option RightNumber) (telling : Option Told) (left right : Bool) (p q to : Location) (bytes n : ℕ)
       → code_words (taking_code taken telling Multiplied left right p q to bytes n) ≤ 9 + 2 * n + 4 * bytes
@@ -212,11 +236,17 @@ module _ (laws : WordLaws) where
       let x = unless_none n (9 + 2 * n) (product_code left right p q to n) (laws.products left right p q to n) in
       omega (arith, x)
   multiplied None (Some told) left right p q to bytes n = omega arith
-  multiplied (Some k) None left right p q to bytes n = omega arith
-  multiplied (Some k) (Some told) left right p q to bytes n =
-      let x = compared_with_words laws.numbers p (low_bytes 16 k.number) (bytes_compared (Some k) bytes) in
-      let few = compared_few k bytes in
-      omega (arith, x, few)
+  multiplied (Some k) telling left right p q to bytes n = known k.number telling
+    where
+      known : (z : Option ℤ) (telling : Option Told)
+          → code_words (known_code z telling Multiplied left (compared_signed (Some k) left) p q to
+          (bytes_compared (Some k) bytes) n) ≤ 9 + 2 * n + 4 * bytes
+      known None telling = omega arith
+      known (Some z) None = omega arith
+      known (Some z) (Some told) =
+          let x = compared_with_words laws.numbers p (low_bytes 16 z) (bytes_compared (Some k) bytes) in
+          let few = compared_few k bytes in
+          omega (arith, x, few)
 
   counted_words : (s : Direction) (p to : Location) (n k : ℕ) → code_words (counted_code s p to n k) ≤ 7 + 11 * n
   counted_words s p to n k =
@@ -257,17 +287,23 @@ module _ (laws : WordLaws) where
       let x = shift_most laws s p q to moved in
       unless_none n (7 + 11 * w) (turned_code s p q to moved) (omega (arith, x, fewer))
   shifted None (Some told) up left right p q to bytes n w m l few = omega arith
-  shifted (Some k) None up left right p q to bytes n w m l few =
-      let moved = bytes_compared (Some k) bytes in
-      let signed = compared_signed (Some k) left in
-      let count = low_bytes 16 k.number % 256 in
-      let fewer = compared_few k bytes in
-      unless_none n (7 + 11 * w) (counted_by_code up signed p to moved n count)
-      (counted_by_words up signed p to moved n w count (omega (arith, fewer, m)) l (compared_one k bytes n few))
-  shifted (Some k) (Some told) up left right p q to bytes n w m l few =
-      let x = compared_with_words laws.numbers p (low_bytes 16 k.number) (bytes_compared (Some k) bytes) in
-      let fewer = compared_few k bytes in
-      omega (arith, x, fewer, m)
+  shifted (Some k) telling up left right p q to bytes n w m l few = known k.number telling
+    where
+      known : (z : Option ℤ) (telling : Option Told)
+          → code_words (known_code z telling (Shifted up) left (compared_signed (Some k) left) p q to
+          (bytes_compared (Some k) bytes) n) ≤ 7 + 11 * w
+      known None telling = omega arith
+      known (Some z) None =
+          let moved = bytes_compared (Some k) bytes in
+          let signed = compared_signed (Some k) left in
+          let count = low_bytes 16 z % 256 in
+          let fewer = compared_few k bytes in
+          unless_none n (7 + 11 * w) (counted_by_code up signed p to moved n count)
+          (counted_by_words up signed p to moved n w count (omega (arith, fewer, m)) l (compared_one k bytes n few))
+      known (Some z) (Some told) =
+          let x = compared_with_words laws.numbers p (low_bytes 16 z) (bytes_compared (Some k) bytes) in
+          let fewer = compared_few k bytes in
+          omega (arith, x, fewer, m)
 
   -- ---- operators on integers, whose result has the bytes of its type
 
@@ -283,17 +319,16 @@ module _ (laws : WordLaws) where
     sum_own : (op : BinOp) (o : Operator) → family_of op ≡ Combined o → AreIntegers slots to a b ty aty bty
         → code_of op ≤ 1 + 17 * wide
     sum_own op o e i =
-        let same = i.left_bytes in
         let x = summed (number_taken known false op) telling o left right (home h a) (home h b) (home h to) a.bytes n wide
-        (omega (arith, same, size)) (omega (arith, size, few)) in
+        (omega arith) (omega (arith, size, few)) in
         subst (λ f. code_words (taking_code (number_taken known false op) telling f left right (home h a) (home h b) (home h to)
         a.bytes n) ≤ 1 + 17 * wide) (sym e) x
 
     order_own : (op : BinOp) (r : Relation) (exchanged : Bool) → family_of op ≡ Compared r exchanged
-        → AreCompared slots to a b aty bty → code_of op ≤ 11 + 8 * a.bytes + 2 * n
+        → AreCompared slots to a b aty bty → code_of op ≤ 11 + 5 * a.bytes + 2 * n
     order_own op r exchanged e i =
         subst (λ f. code_words (taking_code (number_taken known false op) telling f left right (home h a) (home h b) (home h to)
-        a.bytes n) ≤ 11 + 8 * a.bytes + 2 * n) (sym e)
+        a.bytes n) ≤ 11 + 5 * a.bytes + 2 * n) (sym e)
         (ordered (number_taken known false op) telling r exchanged left right (home h a) (home h b) (home h to) a.bytes n)
 
     -- in the row of an integer operator, and where the type of the result is that of a pointer, in the row of pointers
@@ -404,21 +439,21 @@ module _ (laws : WordLaws) where
 
   -- ---- operators with a fixed-point operand
 
-  module _ (known : Option RightNumber) (telling : Option Told) (mode : Mode) (slots : ℕ) (h : Homes) (to a b : Temp) (ty aty bty : PlainType) (n : ℕ) where
+  module _ (known : Option RightNumber) (telling : Option Told) (mode : Mode) (slots : ℕ) (h : Homes) (to a b : Temp)
+      (ty aty bty : PlainType) (n : ℕ) where
     -- so many words has an operator on integers
     abbrev same_words : BinOp → ℕ
     same_words op =
-        code_words (operator_code telling (family_of op) (is_signed aty) (is_signed bty) (home h a) (home h b) (home h to) a.bytes n)
+        code_words (integer_binary known telling op (is_signed aty) (is_signed bty) (home h a) (home h b) (home h to) a.bytes n)
 
     exact_sum : (op : BinOp) (o : Operator) → family_of op ≡ Combined o → IsFixedBinary slots op to a b ty aty bty → n ≤ to.bytes
         → same_words op ≤ 1 + 17 * widest (ty ∷ aty ∷ bty ∷ [])
     exact_sum op o e i l =
-        let u = i.left_bytes in
         let v = i.result_bytes in
-        let x = summed None telling o (is_signed aty) (is_signed bty) (home h a) (home h b) (home h to) a.bytes n
-        (widest (ty ∷ aty ∷ bty ∷ [])) (omega (arith, u)) (omega (arith, v, l)) in
-        subst (λ f. code_words (operator_code telling f (is_signed aty) (is_signed bty) (home h a) (home h b) (home h to) a.bytes n)
-        ≤ 1 + 17 * widest (ty ∷ aty ∷ bty ∷ [])) (sym e) x
+        let x = summed (number_taken known false op) telling o (is_signed aty) (is_signed bty) (home h a) (home h b) (home h to) a.bytes n
+        (widest (ty ∷ aty ∷ bty ∷ [])) (omega arith) (omega (arith, v, l)) in
+        subst (λ f. code_words (taking_code (number_taken known false op) telling f (is_signed aty) (is_signed bty) (home h a) (home h b)
+        (home h to) a.bytes n) ≤ 1 + 17 * widest (ty ∷ aty ∷ bty ∷ [])) (sym e) x
 
     exact_order : (op : BinOp) (r : Relation) (exchanged : Bool) → family_of op ≡ Compared r exchanged
         → IsFixedBinary slots op to a b ty aty bty → ty ≡ integer true 2 → n ≤ to.bytes
@@ -427,9 +462,10 @@ module _ (laws : WordLaws) where
         let u = i.left_bytes in
         let v = i.result_bytes in
         let two : scalar_size ty ≡ 2 = ap scalar_size int in
-        let y = ordered_alone telling r exchanged (is_signed aty) (is_signed bty) (home h a) (home h b) (home h to) a.bytes n in
-        let x = subst (λ f. code_words (operator_code telling f (is_signed aty) (is_signed bty) (home h a) (home h b) (home h to)
-        a.bytes n) ≤ 11 + 5 * a.bytes + 2 * n) (sym e) y in
+        let y = ordered (number_taken known false op) telling r exchanged (is_signed aty) (is_signed bty) (home h a) (home h b) (home h to)
+        a.bytes n in
+        let x = subst (λ f. code_words (taking_code (number_taken known false op) telling f (is_signed aty) (is_signed bty) (home h a)
+        (home h b) (home h to) a.bytes n) ≤ 11 + 5 * a.bytes + 2 * n) (sym e) y in
         omega (arith, x, u, v, two, l)
 
     exact_own : (op : BinOp) → IsFixedBinary slots op to a b ty aty bty → n ≤ to.bytes → are_exact op mode ty (aty ∷ bty ∷ []) ≡ true
@@ -456,7 +492,7 @@ module _ (laws : WordLaws) where
         ≤ most_in (shape_code (binary_shape op ty mode aty bty))
     fixed_binary_row op i l =
         let wide = widest (ty ∷ aty ∷ bty ∷ []) in
-        let whole = operator_code telling (family_of op) (is_signed aty) (is_signed bty) (home h a) (home h b) (home h to) a.bytes n in
+        let whole = integer_binary known telling op (is_signed aty) (is_signed bty) (home h a) (home h b) (home h to) a.bytes n in
         let others = if is_placed op mode ty aty bty && not (same_location (home h b) (home h to))
         then placed_binary known op (is_signed aty) (home h a) (home h b) (home h to) a.bytes n
         else answer_code (fixed_binary_code op ty aty bty mode (home h a) (home h b) answer_location work_location) (home h to) n in
@@ -472,7 +508,8 @@ module _ (laws : WordLaws) where
 
   -- ---- operators with a pointer
 
-  pointer_few : (known : Option RightNumber) (core : Core) (p : PlainProgram) (op : BinOp) (slots : ℕ) (h : Homes) (to a b : Temp) (ty aty bty : PlainType)
+  pointer_few : (known : Option RightNumber) (core : Core) (p : PlainProgram) (op : BinOp) (slots : ℕ) (h : Homes) (to a b : Temp)
+      (ty aty bty : PlainType)
       (n : ℕ) → IsPointerBinary p slots op to a b ty aty bty → n ≤ to.bytes
       → code_words (pointer_binary known core (is_pointer aty) (is_pointer bty) p op aty bty (home h a) (home h b) (home h to)
       a.bytes b.bytes n) ≤ 64 + 5 * widest (ty ∷ aty ∷ bty ∷ [])
@@ -486,7 +523,7 @@ module _ (laws : WordLaws) where
         (omega (arith, t, u)) (omega (arith, few, l)) in
         omega (arith, m, u)
     by_kinds true false d e =
-        let m = offset_by_most laws known core (is_difference op) (is_signed bty) (home h a) (home h b) (home h to) a.bytes b.bytes
+        let m = offset_by_most laws (number_known known) core (is_difference op) (is_signed bty) (home h a) (home h b) (home h to) a.bytes b.bytes
         (element_size p aty) n in
         let u = i.left_bytes in omega (arith, m, u)
     by_kinds false true d e =
@@ -494,13 +531,15 @@ module _ (laws : WordLaws) where
         let u = i.right_bytes in omega (arith, m, u)
     by_kinds false false d e = omega arith
 
-  pointer_row : (known : Option RightNumber) (core : Core) (p : PlainProgram) (op : BinOp) (mode : Mode) (slots : ℕ) (h : Homes) (to a b : Temp) (ty aty bty : PlainType)
+  pointer_row : (known : Option RightNumber) (core : Core) (p : PlainProgram) (op : BinOp) (mode : Mode) (slots : ℕ) (h : Homes)
+      (to a b : Temp) (ty aty bty : PlainType)
       (n : ℕ) → IsPointerBinary p slots op to a b ty aty bty → n ≤ to.bytes
       → code_words (pointer_binary known core (is_pointer aty) (is_pointer bty) p op aty bty (home h a) (home h b) (home h to)
       a.bytes b.bytes n) ≤ most_in (shape_code (binary_shape op ty mode aty bty))
   pointer_row known core p op mode slots h to a b ty aty bty n i l =
       let wide = widest (ty ∷ aty ∷ bty ∷ []) in
-      let code = pointer_binary known core (is_pointer aty) (is_pointer bty) p op aty bty (home h a) (home h b) (home h to) a.bytes b.bytes n in
+      let code = pointer_binary known core (is_pointer aty) (is_pointer bty) p op aty bty (home h a) (home h b)
+      (home h to) a.bytes b.bytes n in
       let x = pointer_binary_most laws known core p op slots h to a b ty aty bty n i l in
       let y = wide_binary op ty aty bty in
       other_row op (are_exact op mode ty (aty ∷ bty ∷ [])) (counts_fixed ty || any_fixed (aty ∷ bty ∷ []))
@@ -511,7 +550,8 @@ module _ (laws : WordLaws) where
 
   -- ---- binary operators, unary ones and conversions
 
-  pub binary_own : (core : Core) (p : PlainProgram) (known : Option RightNumber) (telling : Option Told) (op : BinOp) (ty aty bty : PlainType)
+  pub binary_own : (core : Core) (p : PlainProgram) (known : Option RightNumber) (telling : Option Told) (op : BinOp)
+      (ty aty bty : PlainType)
       (mode : Mode) (slots : ℕ) (h : Homes) (to a b : Temp) (n : ℕ)
       → IsBinary (family_of op) slots to a b ty aty bty
       ⊎ (IsFixedBinary slots op to a b ty aty bty ⊎ IsPointerBinary p slots op to a b ty aty bty)
@@ -588,19 +628,20 @@ module _ (laws : WordLaws) where
 
   pointer_conversion_few : (slots : ℕ) (h : Homes) (to a : Temp) (ty aty : PlainType) (n : ℕ)
       → IsPointerConversion slots to a ty aty → n ≤ to.bytes
-      → code_words (pointer_conversion aty (home h a) (home h to) a.bytes to.bytes n) ≤ 10 * widest (ty ∷ aty ∷ [])
-  pointer_conversion_few slots h to a ty aty n i l = by_bytes (a.bytes == 2 && to.bytes == 3) refl where
-    by_bytes : (more : Bool) → (a.bytes == 2 && to.bytes == 3) ≡ more
-        → code_words (if more then (if n == 0 then [] else embed_code (is_into_data aty) (home h a) (home h to))
-        else move_code (home h a) (home h to) n) ≤ 10 * widest (ty ∷ aty ∷ [])
-    by_bytes true e =
-        let three : to.bytes ≡ 3 = eqb-true to.bytes 3 (and_second (a.bytes == 2) (to.bytes == 3) e) in
-        let x = (laws.conversions (is_into_data aty) (home h a) (home h to)).0.words_are in
-        let w = i.result_bytes in
-        unless_none n (10 * widest (ty ∷ aty ∷ [])) (embed_code (is_into_data aty) (home h a) (home h to))
-        (omega (arith, three, x, w))
-    by_bytes false e =
-        let x = move_words (home h a) (home h to) n in let w = i.result_bytes in omega (arith, x, w, l)
+      → code_words (pointer_conversion aty (home h a) (home h to) a.bytes n) ≤ 10 * widest (ty ∷ aty ∷ [])
+  pointer_conversion_few slots h to a ty aty n i l =
+      let x = move_words (home h a) (home h to) (min n a.bytes) in let w = i.result_bytes in
+      let z = by_bytes (nat_le n a.bytes) refl in
+      omega (arith, joined_words (move_code (home h a) (home h to) (min n a.bytes)) (behind (nat_le n a.bytes)), x, z, w, l)
+    where
+      behind : (few : Bool) → List AsmItem
+      behind few = if few then [] else embed_code (is_into_data aty) (home h to)
+
+      by_bytes : (few : Bool) → nat_le n a.bytes ≡ few → code_words (behind few) + 4 * min n a.bytes ≤ 10 * n
+      by_bytes true e = omega arith
+      by_bytes false e =
+          let more = leb-false n a.bytes e in
+          let x = (laws.conversions (is_into_data aty) (home h to) (home h to)).0.words_are in omega (arith, x, more)
 
   module _ (ty aty : PlainType) (mode : Mode) (slots : ℕ) (h : Homes) (to a : Temp) (n : ℕ) where
     abbrev pub Converts : Type 0
@@ -610,7 +651,7 @@ module _ (laws : WordLaws) where
     by_fixed = fixed_conversion ty aty mode (home h a) (home h to) a.bytes n
 
     abbrev pub by_pointer : List AsmItem
-    by_pointer = pointer_conversion aty (home h a) (home h to) a.bytes to.bytes n
+    by_pointer = pointer_conversion aty (home h a) (home h to) a.bytes n
 
     abbrev pub by_integer : List AsmItem
     by_integer = conversion_code (is_signed aty) (home h a) (home h to) a.bytes n

@@ -27,6 +27,8 @@ use Rattle.ec_select_places.specs.Form.{StepsAreValid, ConversionsAreValid, Plac
 use Rattle.ec_select_places.specs.Form.{HasPlaces as HasStepPlaces, HasNoLabel as StepsHaveNoLabel}
 use Rattle.ec_select_places.specs.Form.{ElementsHaveNoLabel, ItemsAreValid as StepItemsAreValid}
 use Rattle.ec_select_places.specs.Far.{advance_far_code}
+use Rattle.ec_select_places.specs.Indexes.{can_add, add_index_code}
+use Rattle.ec_select_places.specs.IndexLaws.{IndexesAreValid, IndexesHaveNoLabel}
 use Rattle.ec_select_places.specs.FarForm.{FarStepsAreValid, FarPlacesHaveNoLabel}
 use Rattle.ec_select_places.specs.Steps.{scale_index_code, advance_code, compared_bytes}
 use Rattle.ec_select_pointers.specs.Accesses.{load_data_code, load_flash_code, load_any_code, load_table_code}
@@ -55,6 +57,8 @@ pub record PointerItemLaws : Type 0 where
   pub steps : StepsAreValid
   pub conversions : ConversionsAreValid
   pub step_labels : PlacesHaveNoLabel
+  pub indexes : IndexesAreValid
+  pub index_labels : IndexesHaveNoLabel
   pub elements : ElementsAreValid
   pub element_labels : ElementsHaveNoLabel
   pub far_addresses : FarAddressesAreValid
@@ -265,6 +269,13 @@ module _ (sizes : Sizes) (laws : PointerItemLaws) where
       (laws.steps sizes p q signed true n size (step_places sizes p n x) some small (step_places sizes q 2 y)).0
       (laws.step_labels p q signed true true Less n size).0
 
+  pub added_fits : (minus signed : Bool) (p q : Location) (n size : ℕ) → 1 ≤ n → HasPlaces sizes p n → HasPlaces sizes q 2
+      → can_add signed p q n size ≡ true → Fit sizes (add_index_code minus p q n size)
+  added_fits minus signed p q n size some x y can =
+      step_fits (add_index_code minus p q n size)
+      (laws.indexes sizes minus signed p q n size (step_places sizes p n x) some (step_places sizes q 2 y) can)
+      (laws.index_labels minus p q n size)
+
   advance_fits : (p q : Location) (minus : Bool) (n : ℕ) → 1 ≤ n → HasPlaces sizes p n → HasPlaces sizes q 2
       → Fit sizes (advance_code minus q)
   advance_fits p q minus n some x y =
@@ -274,7 +285,8 @@ module _ (sizes : Sizes) (laws : PointerItemLaws) where
 
   far_advance_fits : (q : Location) (minus : Bool) → HasPlaces sizes q 3 → Fit sizes (advance_far_code minus q)
   far_advance_fits q minus x =
-      step_fits (advance_far_code minus q) (laws.far_steps sizes minus q (step_places sizes q 3 x)) (laws.far_step_labels minus Less q q 0).0
+      step_fits (advance_far_code minus q) (laws.far_steps sizes minus q (step_places sizes q 3 x))
+      (laws.far_step_labels minus Less q q 0).0
 
   -- a pointer of so many bytes, which are at least two
   pub moved_fits : (core : Core) (q : Location) (minus : Bool) (bytes : ℕ) → 2 ≤ bytes → HasPlaces sizes q bytes
@@ -293,9 +305,7 @@ module _ (sizes : Sizes) (laws : PointerItemLaws) where
       (laws.elements sizes a b q size (step_places sizes a 2 x) (step_places sizes b 2 y) (step_places sizes q 2 z))
       (laws.element_labels a b q size)
 
-  pub embed_fits : (to_data : Bool) (p q : Location) → HasPlaces sizes p 2 → HasPlaces sizes q 3
-      → Fit sizes (embed_code to_data p q)
-  embed_fits to_data p q x y =
-      step_fits (embed_code to_data p q)
-      ((laws.conversions sizes to_data p q (step_places sizes p 2 x)).0 (step_places sizes q 3 y))
-      (laws.step_labels p q true true to_data Less 0 0).3
+  pub embed_fits : (to_data : Bool) (q : Location) → HasPlaces sizes q 3 → Fit sizes (embed_code to_data q)
+  embed_fits to_data q y =
+      step_fits (embed_code to_data q) ((laws.conversions sizes to_data q q).0 (step_places sizes q 3 y))
+      (laws.step_labels q q true true to_data Less 0 0).3

@@ -24,7 +24,7 @@ use Rattle.ec_select_startup.specs.declared.spans.Span.{Span}
 use Rattle.ec_select.specs.InPlace.{IsInPlace, AreInPlace}
 use Rattle.ec_select.specs.Labels.{entry_label, function_label}
 use Rattle.ec_select.specs.Laws.{SelectionsHaveWords}
-use Rattle.ec_select.specs.Program.{has_initial_bytes, span_of, spans_from, spans_of}
+use Rattle.ec_select.specs.Program.{has_initial_bytes, filling_of, span_of, spans_from, spans_of}
 use Rattle.ec_select.specs.Program.{functions_code}
 use Rattle.ec_select.specs.Program.{program_code}
 use Rattle.ec_select.specs.Selected.{ValidWithCells, HasCode}
@@ -51,7 +51,8 @@ span_few : (structs : List PlainStruct) (o : ℕ) (d : PlainObject)
     → 20 * length (span_of structs o d) ≤ object_weight d.storage d.home
 span_few structs o d = by_kind (has_initial_bytes d.storage d.home) (weighed d.storage d.home) where
   by_kind : (kept : Bool) → (if kept then 20 else 0) ≤ object_weight d.storage d.home
-      → 20 * length {A = Span} (if kept then record { from = 2048 + o; to = o; bytes = size_of_type structs d.ty } ∷ [] else [])
+      → 20 * length {A = Span} (if kept
+      then record { from = 2048 + o; to = o; bytes = size_of_type structs d.ty; filling = filling_of d.storage } ∷ [] else [])
       ≤ object_weight d.storage d.home
   by_kind true h = h
   by_kind false h = omega arith

@@ -38,13 +38,15 @@ use Rattle.ec_select_functions.specs.Laws.{Made, IsSelected, AreSelected}
 use Rattle.ec_select_operations.specs.Places.{ObjectLeaf, CanBeLiveTogether}
 use Rattle.ec_select_functions.specs.Relation.{HoldsLeaf}
 use Rattle.ec_select_functions.specs.Standing.{StandsInMemory, ObjectStands, ObjectsStand}
+use Rattle.ec_select_startup.specs.declared.spans.Filling.{Filling}
+use Rattle.ec_select_startup.specs.declared.spans.Filling.TheVariants.{Copied, Cleared}
 use Rattle.ec_select_startup.specs.declared.spans.Span.{Span}
-use Rattle.ec_select_startup.specs.Laws.{CanBeSet, IsBeside, IsSet}
+use Rattle.ec_select_startup.specs.Laws.{CanBeSet, IsBeside, IsSet, byte_of}
 use Rattle.ec_select_startup.specs.Startup.{startup_code}
 use Rattle.ec_select.specs.LaidOut.{initial_at, IsLaidOut, object_steps}
 use Rattle.ec_select.specs.Labels.{function_label}
 use Rattle.ec_select.specs.Laws.{RunsAsOperations, SelectionsRun}
-use Rattle.ec_select.specs.Program.{has_initial_bytes, span_of, spans_from, spans_of, made_with, code_of}
+use Rattle.ec_select.specs.Program.{has_initial_bytes, filling_of, span_of, spans_from, spans_of, made_with, code_of}
 use Rattle.ec_select.specs.Program.{functions_code}
 use Rattle.ec_select.specs.Program.{program_code}
 use Rattle.ec_select.specs.Selected.{HasCode, IsSelection}
@@ -54,6 +56,7 @@ use Rattle.ec_select.proofs.RoutinesStand.{routine_called, routine_stands}
 use Rattle.ec_select.proofs.Setting.{all_at}
 use Rattle.ec_select.proofs.SpanLists.{the_span, IsInitial, each_from, span_holds, pairs_from}
 use Rattle.ec_select.proofs.Whole.{CodeLaws}
+use Rattle.ec_select.proofs.Zeros.{cleared_holds}
 
 -- what this rests on
 pub record RunLaws : Type 0 where
@@ -184,7 +187,8 @@ module _ (laws : RunLaws) (cells : ℕ) (p : PlainIrProgram) (asm : AsmProgram) 
       let two = parts_stand in
       let piece = piece_at laws.parts e (λ k. code_of e.core p (routine_of e.core p h.tables) (h.tables k) k (slice_get p.functions k))
       (length p.functions) both.0 two.0 f two.1 (slice_get_within p.functions f g q) in
-      let here = subst (λ (o : Option PlainIrFunction). HasAt e (code_of e.core p (routine_of e.core p h.tables) (h.tables f) f o) piece.0 piece.1) q
+      let here = subst (λ (o : Option PlainIrFunction). HasAt e
+      (code_of e.core p (routine_of e.core p h.tables) (h.tables f) f o) piece.0 piece.1) q
       piece.2 in
       subst (λ (o : Option PlainIrFunction). IsSelected p e place function_label has.results f g (made_at f o) (scratch f)) (sym q)
       (record {
@@ -195,7 +199,8 @@ module _ (laws : RunLaws) (cells : ℕ) (p : PlainIrProgram) (asm : AsmProgram) 
         scratch_stands = laid.memory.stands f g q;
         objects_stand = laid.memory.objects f g q;
         stands = here;
-        routines = λ i l there label. routine_stands laws.parts e.core p (cells, valid) has e h.tables f g q i l two.0 laid.code.end two.2 there label;
+        routines = λ i l there label. routine_stands laws.parts e.core p
+            (cells, valid) has e h.tables f g q i l two.0 laid.code.end two.2 there label;
         callers = λ i l there label. routine_called laws.parts e.core p (cells, valid) has e h.tables f g q i l there label;
       })
 
@@ -254,6 +259,7 @@ module _ (laws : RunLaws) (cells : ℕ) (p : PlainIrProgram) (asm : AsmProgram) 
         source_room = laid.initials.room o d q i;
         target_room = omega arith;
         above = omega arith;
+        address = λ k l. let here = out.at k (omega (arith, l)) in omega (arith, here, t);
         table = laid.initials.table o d q i;
         kind = λ k l. rw t (rw (out.kind k l) refl);
       }
@@ -285,17 +291,21 @@ module _ (laws : RunLaws) (cells : ℕ) (p : PlainIrProgram) (asm : AsmProgram) 
 
   -- ---- initial values
 
-  is_initial : (l : ObjectLeaf (data_of p) DataBank) (x : ObjectState) (u : Value)
+  first_value : (l : ObjectLeaf (data_of p) DataBank) (x : ObjectState) (u : Value)
       → slice_get (start_state (data_of p)).objects l.object ≡ Some x → leaf_of x l.number ≡ Some u
-      → IsInitial l.declared
-  is_initial l x u q r =
+      → leaf_of (standing (initial_object (leaf_count (data_of p) l.declared.ty) l.declared.storage)) l.number ≡ Some u
+  first_value l x u q r =
       let all = slice_get-map (λ o. standing (initial_object (leaf_count (data_of p) o.ty) o.storage)) p.objects l.object in
       let one : Some (standing (initial_object (leaf_count (data_of p) l.declared.ty) l.declared.storage)) ≡ Some x =
       sym (all ∙ ap (option_map (λ o. standing (initial_object (leaf_count (data_of p) o.ty) o.storage))) l.is_object) ∙ q in
       let is : standing (initial_object (leaf_count (data_of p) l.declared.ty) l.declared.storage) ≡ x = cc in
-      let set : leaf_of (standing (initial_object (leaf_count (data_of p) l.declared.ty) l.declared.storage)) l.number ≡ Some u =
-      subst (λ (y : ObjectState). leaf_of y l.number ≡ Some u) (sym is) r in
-      by_storage l.declared.storage l.declared.home (home_in_data l.declared.home l.home) set where
+      subst (λ (y : ObjectState). leaf_of y l.number ≡ Some u) (sym is) r
+
+  is_initial : (l : ObjectLeaf (data_of p) DataBank) (x : ObjectState) (u : Value)
+      → slice_get (start_state (data_of p)).objects l.object ≡ Some x → leaf_of x l.number ≡ Some u
+      → IsInitial l.declared
+  is_initial l x u q r =
+      by_storage l.declared.storage l.declared.home (home_in_data l.declared.home l.home) (first_value l x u q r) where
         by_storage : (s : PlainStorage) (home : Home) → home ≡ DataHome
             → leaf_of (standing (initial_object (leaf_count (data_of p) l.declared.ty) s)) l.number ≡ Some u
             → has_initial_bytes s home ≡ true
@@ -322,13 +332,23 @@ module _ (laws : RunLaws) (cells : ℕ) (p : PlainIrProgram) (asm : AsmProgram) 
       (span_holds p.structs (IsSet e v) 0 p.objects l.object l.declared sets l.is_object i) in
       let t = target_is l.object l.declared l.is_object i in
       let within = inside l in
-      leaf_same (data_of p) place v.at (slice_index e.flash) (place l.object + l.at) (initial_at e l.object + l.at) l.bytes u
+      by_filling (filling_of l.declared.storage) refl
       (λ k b.
-      let here = set (l.at + k) (omega arith) in
-      let a : place l.object + l.at + k ≡ e.address_of l.object 0 + (l.at + k) = omega arith in
-      let c : initial_at e l.object + (l.at + k) ≡ initial_at e l.object + l.at + k = omega arith in
-      ap v.at a ∙ here ∙ ap (slice_index e.flash) c)
-      (laid.initials.values l x u q r)
+      let here = set (l.at + k) (omega (arith, within, b)) in
+      let a : place l.object + l.at + k ≡ e.address_of l.object 0 + (l.at + k) = omega (arith, t) in
+      ap v.at a ∙ here) where
+        by_filling : (filling : Filling) → filling_of l.declared.storage ≡ filling
+            → ((k : ℕ) → k < l.bytes → v.at (place l.object + l.at + k) ≡ byte_of e (initial_at e l.object) filling (l.at + k))
+            → HoldsLeaf (data_of p) place v.at (place l.object + l.at) l.bytes u
+        by_filling Copied f same =
+            leaf_same (data_of p) place v.at (slice_index e.flash) (place l.object + l.at) (initial_at e l.object + l.at) l.bytes u
+            (λ k b.
+            let c : initial_at e l.object + (l.at + k) ≡ initial_at e l.object + l.at + k = omega arith in
+            same k b ∙ ap (slice_index e.flash) c)
+            (laid.initials.values l x u q r)
+        by_filling Cleared f same =
+            cleared_holds (data_of p) place v.at (place l.object + l.at) l.bytes (leaf_count (data_of p) l.declared.ty)
+            l.declared.storage l.number u f (first_value l x u q r) same
 
   can_start : CanStart p e place function_label (spans_of p) low laid.code.begin
   can_start =

@@ -17,10 +17,11 @@ use Rattle.ec_ir.specs.Valid.{ValidIrFunction}
 use Rattle.ec_select_functions.specs.Covered.{HasScalarAt}
 use Rattle.ec_select_operations.specs.Places.{location_in, object_location}
 use Rattle.ec_select_operations.specs.Ports.{first_cell}
+use Rattle.ec_select_startup.specs.declared.spans.Span.{Span}
 use Rattle.ec_select_startup.specs.Laws.{IsValidSpan}
 use Rattle.ec_select.specs.Labels.{widest_temps, homes_of}
 use Rattle.ec_select.specs.Laws.{object_sizes}
-use Rattle.ec_select.specs.Program.{has_initial_bytes, span_of, spans_from, spans_of}
+use Rattle.ec_select.specs.Program.{has_initial_bytes, filling_of, span_of, spans_from, spans_of}
 use Rattle.ec_select.specs.Selected.{ValidWithCells}
 use Rattle.ec_select.proofs.Fitting.{BytesFit}
 use Rattle.ec_select.proofs.OneOperation.{HasRoom, ObjectsFit}
@@ -165,21 +166,23 @@ module _ (p : PlainIrProgram) (valid : ValidWithCells p) where
   one_span : (o : ℕ) (d : PlainObject) → slice_get p.objects o ≡ Some d
       → All (IsValidSpan own_sizes) (span_of p.structs o d)
   one_span o d e = by_kind (has_initial_bytes d.storage d.home) where
-    is_valid : IsValidSpan own_sizes (record { from = 2048 + o; to = o; bytes = size_of_type p.structs d.ty })
+    span : Span
+    span = record { from = 2048 + o; to = o; bytes = size_of_type p.structs d.ty; filling = filling_of d.storage }
+
+    is_valid : IsValidSpan own_sizes span
     is_valid =
         let k = all_at (IsObject (data_of p)) p.objects o d valid.1.objects e in
         let small = k.small in
+        let size = size_of_type p.structs d.ty in
+        let few : size < 65536 = omega arith in
         record {
-          from = initial_offset own_sizes o (size_of_type p.structs d.ty) (object_size o d e);
-          to = object_offset own_sizes o 0 (size_of_type p.structs d.ty) (object_few o d e) (object_size o d e) (omega arith);
-          bytes = omega arith;
+          from = initial_offset own_sizes o size (object_size o d e);
+          to = λ k l. object_offset own_sizes o k size (object_few o d e) (object_size o d e) l;
+          bytes = few;
         }
 
-    by_kind : (kept : Bool) → All (IsValidSpan own_sizes) (if kept
-        then record { from = 2048 + o; to = o; bytes = size_of_type p.structs d.ty } ∷ [] else [])
-    by_kind true =
-        All-cons (IsValidSpan own_sizes) (record { from = 2048 + o; to = o; bytes = size_of_type p.structs d.ty }) [] is_valid
-        (All-nil (IsValidSpan own_sizes))
+    by_kind : (kept : Bool) → All (IsValidSpan own_sizes) (if kept then span ∷ [] else [])
+    by_kind true = All-cons (IsValidSpan own_sizes) span [] is_valid (All-nil (IsValidSpan own_sizes))
     by_kind false = All-nil (IsValidSpan own_sizes)
 
   spans_valid_from : (o : ℕ) (ds : List PlainObject)

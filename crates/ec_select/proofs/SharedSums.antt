@@ -124,12 +124,14 @@ unlinked false c own most h = h
 
 module _ (laws : WordLaws) (routine_laws : RoutineLaws) (p : PlainProgram) (results : ℕ → ℕ) (f : ℕ) (called : List ℕ)
     (k : Linkage) (width_is : (k.homes.width ≡ 2) ⊎ (k.homes.width ≡ 4)) where
-  use_few : (known : Option RightNumber) (need : Need) (i : PlainIr) (s : Shape) → IsCovered p results f called k.slots i → IsInPlace i → HasTypeBytes i
+  use_few : (known : Option RightNumber) (need : Need) (i : PlainIr) (s : Shape) → IsCovered p results f called k.slots i
+      → IsInPlace i → HasTypeBytes i
       → HasOperandTypes i → op_shapes i ≡ s ∷ [] → IsFew (use_of k.core p k.homes known (result_wanted need i) i)
   use_few known need i s h q b t e =
       let same : s ≡ shape_of i = sym (is_shape i s e) in
       let n = result_wanted need i in
-      let x = alike p results f called k.slots (home k.homes) (linkage (alone k.core k.homes)) k None None known n nothing (kept_need need i) i s
+      let x = alike p results f called k.slots (home k.homes) (linkage (alone k.core k.homes)) k None None known n nothing
+      (kept_need need i) i s
       refl h t e in
       let y = own_within laws p results f called k width_is None None known need i s h q b e in
       let z = routine_within routine_laws p results f called k.slots 0 i s h b e in
@@ -153,7 +155,8 @@ module _ (laws : WordLaws) (routine_laws : RoutineLaws) (p : PlainProgram) (resu
   alone_short before telling known need i h q b e =
       own_most laws p results f called k width_is before telling known need (kept_need need i) i h q b e
 
-  uses_few_one : (known : Option RightNumber) (at : ℕ → Need) (need : Need) (i : PlainIr) → IsCovered p results f called k.slots i → IsInPlace i → HasTypeBytes i
+  uses_few_one : (known : Option RightNumber) (at : ℕ → Need) (need : Need) (i : PlainIr) → IsCovered p results f called k.slots i
+      → IsInPlace i → HasTypeBytes i
       → HasOperandTypes i → AllByRecursion IsFew (uses_of k.core p k.homes known (wanted_behind at need i) i)
   uses_few_one known at need i h q b t = by_shape (op_shapes i) refl where
     by_shape : (ss : List Shape) → op_shapes i ≡ ss → AllByRecursion IsFew (uses_of k.core p k.homes known (wanted_behind at need i) i)
@@ -185,7 +188,8 @@ module _ (laws : WordLaws) (routine_laws : RoutineLaws) (p : PlainProgram) (resu
       by_test true e x = absurd (false≢true (sym e))
       by_test false e x = x
 
-  own_sum_one : (known : Option RightNumber) (at : ℕ → Need) (need : Need) (i : PlainIr) → IsCovered p results f called k.slots i → IsInPlace i → HasTypeBytes i
+  own_sum_one : (known : Option RightNumber) (at : ℕ → Need) (need : Need) (i : PlainIr) → IsCovered p results f called k.slots i
+      → IsInPlace i → HasTypeBytes i
       → HasOperandTypes i
       → unshaped_words i + total sizes.own (uses_of k.core p k.homes known (wanted_behind at need i) i) ≤ op_words i
   own_sum_one known at need i h q b t = by_shape (op_shapes i) refl where
@@ -207,17 +211,20 @@ module _ (laws : WordLaws) (routine_laws : RoutineLaws) (p : PlainProgram) (resu
         (not_shaped (is_shaped i) (ap has_some e))
     by_shape (s ∷ []) e =
         let n = result_wanted need i in
-        let x = alike p results f called k.slots (home k.homes) (linkage (alone k.core k.homes)) k None None known n nothing (kept_need need i) i s
+        let x = alike p results f called k.slots (home k.homes) (linkage (alone k.core k.homes)) k None None known n nothing
+        (kept_need need i) i s
         refl h t e in
         let y = op_most laws p results f called k width_is None None known need (kept_need need i) i h q b in
         subst (λ us. unshaped_words i + total sizes.own us ≤ op_words i) (sym (one_use p k known at need i s e))
         (shaped (is_shaped i) (code_words (own_items k.core p k.homes known n i)) (ap has_some e)
-        (chain_of (code_words (own_items k.core p k.homes known n i)) (code_words (own_code p (home k.homes) k None None known need i)) (op_words i) x y))
+        (chain_of (code_words (own_items k.core p k.homes known n i))
+        (code_words (own_code p (home k.homes) k None None known need i)) (op_words i) x y))
     by_shape (s ∷ (r ∷ ss)) e = absurd (one_at_most i s r ss e)
 
   pub own_sum : (labels : ℕ → Need) (all code : List PlainIr) → AreCovered p results f called k.slots code → AllByRecursion IsInPlace code
       → AllByRecursion HasTypeBytes code → AllByRecursion HasOperandTypes code
-      → total unshaped_words code + total sizes.own (uses_in k.core p k.homes (wanted_bytes (facts_of labels all) code) (numbers_left all code) code)
+      → total unshaped_words code + total sizes.own
+      (uses_in k.core p k.homes (wanted_bytes (facts_of labels all) code) (numbers_left all code) code)
       ≤ operations_words code
   own_sum labels all [] h q b t = omega arith
   own_sum labels all (i ∷ code) h q b t =
@@ -279,7 +286,8 @@ module _ (laws : WordLaws) (routine_laws : RoutineLaws) (p : PlainProgram) (resu
           let calls = λ (l : ℕ). called_code (home k.homes) l (result_wanted need i) i in
           let most = alone_words i + total (cost us) (uses_of k.core p k.homes known (wanted_behind at need i) i) in
           subst (λ o. code_words (linked_code (routine_used known i o) calls own) ≤ most) (sym (unrouted (ap has_some e)))
-          (unlinked (takes_count known i) calls own most (more (code_words own) (alone_words i) (total (cost us) (uses_of k.core p k.homes known (wanted_behind at need i) i))
+          (unlinked (takes_count known i) calls own most
+          (more (code_words own) (alone_words i) (total (cost us) (uses_of k.core p k.homes known (wanted_behind at need i) i))
           (short before telling known need i h q b e)))
       by_shape (s ∷ []) e =
           let own = own_code p (home k.homes) k before telling known need i in
@@ -297,20 +305,23 @@ module _ (laws : WordLaws) (routine_laws : RoutineLaws) (p : PlainProgram) (resu
           (last (code_words (op_code p (home k.homes) k before telling known need i)) (cost us u) (alone_words i) few)
       by_shape (s ∷ (r ∷ ss)) e = absurd (one_at_most i s r ss e)
 
-    pub ops_few : (labels : ℕ → Need) (all : List PlainIr) (before : Option Told) (code : List PlainIr) → AreCovered p results f called k.slots code
+    pub ops_few : (labels : ℕ → Need) (all : List PlainIr) (before : Option Told) (code : List PlainIr)
+        → AreCovered p results f called k.slots code
         → AllByRecursion IsInPlace code → AllByRecursion HasTypeBytes code → AllByRecursion HasOperandTypes code
         → code_words (ops_code p (home k.homes) k (facts_of labels all) before code)
-        ≤ total alone_words code + total (cost us) (uses_in k.core p k.homes (wanted_bytes (facts_of labels all) code) (numbers_left all code) code)
+        ≤ total alone_words code + total (cost us)
+        (uses_in k.core p k.homes (wanted_bytes (facts_of labels all) code) (numbers_left all code) code)
     ops_few labels all before [] h q b t = omega arith
     ops_few labels all before (i ∷ code) h q b t =
         let at = facts_of labels all in
         let known = at.known (i ∷ code) in
         let behind = uses_in k.core p k.homes (wanted_bytes at code) (numbers_left all code) code in
-        let next = tells_next at before i code in
+        let next = tells_next p at before i code in
         let m = wanted_behind at.needed (needs at code) i in
         let here = op_code p (home k.homes) k before next known (needs at code) i in
         let others = ops_code p (home k.homes) k at next code in
-        sums (code_words here) (code_words others) (alone_words i) (total alone_words code) (total (cost us) (uses_of k.core p k.homes known m i))
+        sums (code_words here) (code_words others) (alone_words i) (total alone_words code)
+        (total (cost us) (uses_of k.core p k.homes known m i))
         (total (cost us) behind) (code_words (here ++ others)) (total (cost us) (uses_of k.core p k.homes known m i ++ behind))
         (one_few at.needed before next known (needs at code) i h.0 q.0 b.0 t.0)
         (ops_few labels all next code h.1 q.1 b.1 t.1) (joined_words here others)
@@ -337,7 +348,8 @@ shapes_one p k known m i = by_shape (op_shapes i) refl where
   by_shape (s ∷ (r ∷ ss)) e = absurd (one_at_most i s r ss e)
 
 pub shapes_in : (p : PlainProgram) (k : Linkage) (labels : ℕ → Need) (all code : List PlainIr)
-    → map sizes.shape (uses_in k.core p k.homes (wanted_bytes (facts_of labels all) code) (numbers_left all code) code) ≡ all_made op_shapes code
+    → map sizes.shape (uses_in k.core p k.homes (wanted_bytes (facts_of labels all) code) (numbers_left all code) code)
+    ≡ all_made op_shapes code
 shapes_in p k labels all [] = refl
 shapes_in p k labels all (i ∷ code) =
     let at = facts_of labels all in

@@ -11,7 +11,7 @@ use Rattle.ec_core.specs.Layout.{size_of_type}
 use Rattle.ec_core.specs.declared.programs.Obj.{Obj}
 use Rattle.ec_core.specs.Plain.{PlainObject, PlainStruct, plain_object}
 use Rattle.ec_select_startup.specs.declared.spans.Span.{Span}
-use Rattle.ec_select.specs.Program.{has_initial_bytes, span_of, spans_from}
+use Rattle.ec_select.specs.Program.{has_initial_bytes, filling_of, span_of, spans_from}
 use Rattle.ec_select.proofs.Lists.{drop_front}
 
 pub one_more : (structs : List PlainStruct) (o : ℕ) (d : PlainObject) (ds rest : List PlainObject) (old new all : List Span)
@@ -33,7 +33,7 @@ one_span_more structs objs o d old new all l is more whole =
 -- ---- the spans of objects
 
 abbrev pub the_span : List PlainStruct → ℕ → PlainObject → Span
-the_span structs o d = record { from = 2048 + o; to = o; bytes = size_of_type structs d.ty }
+the_span structs o d = record { from = 2048 + o; to = o; bytes = size_of_type structs d.ty; filling = filling_of d.storage }
 
 abbrev pub IsInitial : PlainObject → Type 0
 IsInitial d = has_initial_bytes d.storage d.home ≡ true

@@ -19,7 +19,7 @@ use Rattle.ec_ir_known.specs.declared.known.RightNumber.{RightNumber}
 use Rattle.ec_ir_shapes.specs.Costs.{Code, in_line, callable, shape_code, own_in, shapes_with, own_words, op_shapes}
 use Rattle.ec_select_operations.specs.declared.families.Told.{Told}
 use Rattle.ec_select_operations.specs.declared.homes.Homes.{Homes}
-use Rattle.ec_select_operations.specs.Code.{Linkage, operation_code, result_wanted}
+use Rattle.ec_select_operations.specs.Code.{Linkage, operation_code, displacement, result_wanted}
 use Rattle.ec_select_operations.specs.Homes.{home}
 use Rattle.ec_select_operations.specs.Needs.{Need, wanted, compared_bytes as bytes_compared}
 use Rattle.ec_select_operations.specs.Places.{object_location}
@@ -28,7 +28,7 @@ use Rattle.ec_select_operations.specs.Ports.{cell_place}
 use Rattle.ec_select_functions.specs.Covered.{IsCovered}
 use Rattle.ec_select_functions.proofs.Taken.{compared_within}
 use Rattle.ec_select.specs.InPlace.{IsInPlace}
-use Rattle.ec_select.proofs.OperationWords.{WordLaws, move_words, addressed_most, member_most, load_most, bank_most, tested_most}
+use Rattle.ec_select.proofs.OperationWords.{WordLaws, move_words, addressed_most, further_most, loaded_by_most, object_most, tested_most}
 use Rattle.ec_select.proofs.OperationWords.{jump_most}
 use Rattle.ec_select.proofs.OperationWords.{call_most, return_most, one_binary, one_unary, one_conversion}
 use Rattle.ec_select.proofs.OwnWords.{most_in, binary_own, unary_own, conversion_own}
@@ -152,7 +152,7 @@ module _ (laws : WordLaws) (p : PlainProgram) (results : ℕ → ℕ) (f : ℕ) 
   use_most told telling known need kept (copy to from) h q b =
       let x = move_words (home k.homes from) (home k.homes to) (wanted need to) in omega (arith, x)
   use_most told telling known need kept (load_object t o offset) h q b =
-      let x = bank_most laws k.core (kept_in p o) p.objects o offset (home k.homes t) t.bytes h.0.some in omega (arith, x)
+      let x = object_most laws telling k.core (kept_in p o) p.objects o offset (home k.homes t) t.bytes h.0.some in omega (arith, x)
   use_most told telling known need kept (store_object o offset t) h q b =
       let x = copy_words_most (home k.homes t) (object_location p.objects o offset) t.bytes in omega (arith, x)
   use_most told telling known need kept (binary_op op ty mode to a aty c bty) h q b =
@@ -187,9 +187,11 @@ module _ (laws : WordLaws) (p : PlainProgram) (results : ℕ → ℕ) (f : ℕ) 
   use_most told telling known need kept (address t o offset) h q b =
       let x = addressed_most laws k.core p o offset (home k.homes t) t.bytes (wanted need t) h.size in omega (arith, x)
   use_most told telling known need kept (field ptr space offset) h q b =
-      let x = member_most laws k.core (home k.homes ptr) ptr.bytes offset in omega (arith, x)
+      let x = further_most laws told telling k.core ptr.bytes (home k.homes ptr) offset in omega (arith, x)
   use_most told telling known need kept (load_at to ptr space) h q b =
-      let x = load_most laws k.core (has_tables p.objects) space (home k.homes ptr) (home k.homes to) to.bytes in omega (arith, x)
+      let x =
+      loaded_by_most laws (displacement told to.bytes) k.core (has_tables p.objects) space (home k.homes ptr) (home k.homes to) to.bytes in
+      omega (arith, x)
   use_most told telling known need kept (store_at ptr space from) h q b =
       let x = (laws.pointers 0 0 None (home k.homes from) (home k.homes ptr) from.bytes).5 in omega (arith, x)
   use_most told telling known need kept (port_in to port index width) h q b =

@@ -1,12 +1,16 @@
 -- The code of a whole program for a core: the code before main, behind it that of each function, and the routines that they call.
 use Rattle.std.specs.Prelude.{ℕ, ◌+◌, Bool, true, false, List, [], ◌∷◌, ◌++◌, Option, Some, None, length, slice_get}
-use Rattle.std.specs.Prelude.{if◌then◌else◌}
+use Rattle.std.specs.Prelude.{if◌then◌else◌, pos}
+use Rattle.std.specs.List.{list_all}
+use Rattle.std.specs.Ordering.{int_eq}
 use Rattle.ec_space.specs.declared.Core.{Core}
 use Rattle.ec_space.specs.declared.space.Home.{Home}
 use Rattle.ec_space.specs.declared.space.Home.TheVariants.{Data as DataHome}
 use Rattle.ec_asm.specs.declared.items.AsmItem.{AsmItem}
 use Rattle.ec_asm.specs.declared.items.AsmItem.TheVariants.{Label}
 use Rattle.ec_asm.specs.Items.{chain}
+use Rattle.ec_core.specs.declared.programs.LeafInit.{LeafInit}
+use Rattle.ec_core.specs.declared.programs.LeafInit.TheVariants.{Number, Null, Address}
 use Rattle.ec_core.specs.Layout.{size_of_type}
 use Rattle.ec_core.specs.Plain.{PlainStorage, static, PlainObject, PlainStruct}
 use Rattle.ec_ir.specs.Operations.{PlainIr, PlainIrFunction, PlainIrProgram, data_of}
@@ -14,6 +18,8 @@ use Rattle.ec_select_operations.specs.Code.{function_code}
 use Rattle.ec_select_functions.specs.Laws.{Made, linkage_of}
 use Rattle.ec_select_operations.specs.Needs.{Need}
 use Rattle.ec_select_startup.specs.Startup.{startup_code}
+use Rattle.ec_select_startup.specs.declared.spans.Filling.{Filling}
+use Rattle.ec_select_startup.specs.declared.spans.Filling.TheVariants.{Copied, Cleared}
 use Rattle.ec_select_startup.specs.declared.spans.Span.{Span}
 use Rattle.ec_select.specs.Labels.{homes_of, entry_label, function_label, first_label}
 use Rattle.ec_select.specs.Sharing.{routine_of, routines_code}
@@ -25,11 +31,22 @@ abbrev pub has_initial_bytes : PlainStorage → Home → Bool
 has_initial_bytes (static inits) DataHome = true
 has_initial_bytes storage home = false
 
--- object o is set from the initial bytes that have the number 2,048 + o
+-- the bytes of an initial value are 0
+abbrev pub is_zero : LeafInit → Bool
+is_zero (Number n) = int_eq n (pos 0)
+is_zero Null = true
+is_zero (Address o offset) = false
+
+-- an object is cleared where all its initial values are 0
+abbrev pub filling_of : PlainStorage → Filling
+filling_of (static inits) = if list_all is_zero inits then Cleared else Copied
+filling_of storage = Copied
+
+-- object o is cleared, or set from the initial bytes that have the number 2,048 + o
 abbrev pub span_of : List PlainStruct → (o : ℕ) → PlainObject → List Span
 span_of structs o d =
     if has_initial_bytes d.storage d.home
-    then record { from = 2048 + o; to = o; bytes = size_of_type structs d.ty } ∷ [] else []
+    then record { from = 2048 + o; to = o; bytes = size_of_type structs d.ty; filling = filling_of d.storage } ∷ [] else []
 
 -- the spans of objects that are numbered from o on
 abbrev pub spans_from : List PlainStruct → (o : ℕ) → List PlainObject → List Span

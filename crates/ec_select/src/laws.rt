@@ -12,7 +12,8 @@ use ec_select_fixed::laws::{
 use ec_select_numbers::laws::numbers_are_operands;
 use ec_select_order::laws::relations_have_words;
 use ec_select_places::laws::{
-    elements_are_formed, far_places_are_formed, places_are_short, places_are_valid,
+    elements_are_formed, far_places_are_formed, indexes_are_formed, places_are_short,
+    places_are_valid,
 };
 use ec_select_pointers::laws::{
     far_pointers_are_straight, far_pointers_are_valid, pointers_are_straight, pointers_are_valid,
@@ -47,6 +48,7 @@ pub fn selections_are_valid()
     tables_are_formed();
     far_pointers_are_valid();
     places_are_valid();
+    indexes_are_formed();
     elements_are_formed();
     far_places_are_formed();
 }
@@ -69,6 +71,7 @@ pub fn selections_have_words()
     tables_are_formed();
     far_pointers_are_straight();
     places_are_short();
+    indexes_are_formed();
     elements_are_formed();
     far_places_are_formed();
     numbers_are_operands();
@@ -92,6 +95,7 @@ pub fn selections_run()
     tables_are_formed();
     far_pointers_are_valid();
     places_are_valid();
+    indexes_are_formed();
     elements_are_formed();
     far_places_are_formed();
     parts_stand();

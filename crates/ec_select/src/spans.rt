@@ -1,13 +1,14 @@
-//! The initial bytes that are copied before `main`.
+//! The objects that are copied or cleared before `main`.
 ghost use Rattle.std.specs.Prelude.{◌≡◌, ◌++◌, ◌<◌, map, IfOk, OnOk, Some, slice_get};
+ghost use Rattle.std.specs.List.{list_all};
 ghost use Rattle.ec_core.specs.Plain.{plain_object, plain_storage, plain_struct};
 ghost use Rattle.ec_ir.specs.Operations.{plain_ir_program};
-ghost use Rattle.ec_select.specs.Program.{has_initial_bytes, span_of, spans_of};
+ghost use Rattle.ec_select.specs.Program.{has_initial_bytes, is_zero, filling_of, span_of, spans_of};
 ghost use Rattle.ec_select.specs.Selected.{ValidWithCells};
 
-use ec_core::{Obj, Storage, size_of};
+use ec_core::{LeafInit, Obj, Storage, size_of};
 use ec_ir::IrProgram;
-use ec_select_startup::Span;
+use ec_select_startup::{Filling, Span};
 use ec_space::{Home, NoMemory, Seq};
 use std::alloc::Global;
 
@@ -18,6 +19,40 @@ fn has_initial_bytes(obj: &Obj) -> bool
     match (&obj.storage, obj.home) {
         (Storage::Static(_), Home::Data) => true,
         _ => false,
+    }
+}
+
+/// Whether the bytes of an initial value are 0.
+fn is_zero(init: &LeafInit) -> bool
+    ensures { result ≡ is_zero init.now }
+{
+    match init {
+        LeafInit::Number(number) => *number == 0,
+        LeafInit::Null => true,
+        LeafInit::Address { .. } => false,
+    }
+}
+
+/// Whether the bytes of all initial values are.
+fn are_zero(inits: &[LeafInit]) -> bool
+    ensures { result ≡ list_all is_zero inits.now }
+{
+    inits.iter().all(|init| is_zero(init))
+}
+
+/// What the bytes of an object are set to.
+fn filling_of(storage: &Storage) -> Filling
+    ensures { result ≡ filling_of (plain_storage storage.now) }
+{
+    match storage {
+        Storage::Static(inits) => {
+            if are_zero(inits.as_slice()) {
+                Filling::Cleared
+            } else {
+                Filling::Copied
+            }
+        }
+        _ => Filling::Copied,
     }
 }
 
@@ -33,6 +68,7 @@ fn add_span(spans: &mut Seq<Span>, ir: &IrProgram, o: usize, obj: &Obj) -> Resul
             from: 2048 + o as u16,
             to: o as u16,
             bytes: size_of(&ir.structs, &obj.ty) as u16,
+            filling: filling_of(&obj.storage),
         })?;
     }
     Ok(())

@@ -195,7 +195,7 @@ told_is p place f a n (Pointer (Some q)) held h =
     low_of_small n (address_number p place n q.object q.offset) (subst (λ x. x < 256 ^ n) h.0 below) ∙ sym h.0
 
 -- each byte is one of that number
-told_digit : (p : PlainProgram) (place : ℕ → ℕ) (f : ℕ → ℕ) (a n : ℕ) (u : Value) → AreHeld f a n
+pub told_digit : (p : PlainProgram) (place : ℕ → ℕ) (f : ℕ → ℕ) (a n : ℕ) (u : Value) → AreHeld f a n
     → HoldsLeaf p place f a n u → (j : ℕ) → j < n → f (a + j) ≡ seen_number p place n (told u) / 256 ^ j % 256
 told_digit p place f a n u held h j l =
     sym (value_digit f a n j held l) ∙ ap (λ b. b / 256 ^ j % 256) (sym (told_is p place f a n u held h))
@@ -255,7 +255,7 @@ quiet_log : (a b : ℕ) (f : ℕ → ℕ) (n : ℕ) → copy_log Own Own a b f n
 quiet_log a b f zero = refl
 quiet_log a b f (suc n) = rw (quiet_log a b f n) refl
 
-read_log : (storage : PlainStorage) (a b n x : ℕ) (f : ℕ → ℕ) → ((i : ℕ) → i < n → f (a + i) ≡ x / 256 ^ i % 256)
+pub read_log : (storage : PlainStorage) (a b n x : ℕ) (f : ℕ → ℕ) → ((i : ℕ) → i < n → f (a + i) ≡ x / 256 ^ i % 256)
     → copy_log (kind_in storage) Own a b f n ≡ log_of (kind_in storage) (ByteRead DataBank) a x n
 read_log (static inits) a b n x f h = read_object a b n x f h
 read_log (local g) a b n x f h = read_object a b n x f h
@@ -394,6 +394,25 @@ module _ (p : PlainProgram) (e : Env) (slots : ℕ) (home : Temp → Location) (
   abbrev pub after_read : (bank : Bank) → ObjectLeaf p bank → SpaceId → Value → State → State
   after_read bank l space u s = recorded l.declared.storage (Read l.object l.number space (told u)) s
 
+  -- a leaf has been read, and what is needed of the temporary that gets its value is there
+  pub was_read : (bank : Bank) (l : ObjectLeaf p bank) (space : SpaceId) (t : Temp) (need need0 : Need) (m : Mach) (v w : View)
+      (c : ℕ) (u : Value) → HasHome slots t → A need0 m v → ((u : ℕ) → u ≢ t.at → need u ≤ need0 u)
+      → HoldsContent p place w.at (base t) (wanted need t) t.bytes (content_of t.bytes u)
+      → Wide v w (base t) t.bytes → HoldsNumbers w → w.inputs ≡ v.inputs → w.safe ≡ v.safe
+      → w.seen ≡ v.seen
+      ++ log_of (kind_in l.declared.storage) (ByteRead bank) (place l.object + l.at) (seen_number p place l.bytes (told u)) l.bytes
+      → A need (machine (with_temp t u m.temps) (after_read bank l space u (worked c m.state))) w
+  was_read bank l space t need need0 m v w c u it z more here frame numbers inputs safe seen =
+      let storage = l.declared.storage in
+      let s = worked c m.state in
+      let s1 = after_read bank l space u s in
+      let log = log_of (kind_in storage) (ByteRead bank) (place l.object + l.at) (seen_number p place l.bytes (told u)) l.bytes in
+      let is_seen : w.seen ≡ accesses p place s1.events =
+      seen ∙ ap (λ b. b ++ log) z.seen ∙ sym (read_seen p bank place l space (told u) s storage) in
+      written_wide p e slots home base place y t (content_of t.bytes u) need need0 m s1 v w it z more frame here numbers
+      (recorded_memory storage _ s) is_seen
+      (λ port. kept_left y.inputs m.state v w inputs z.left port ∙ sym (recorded_left y.inputs port storage _ s refl)) (safe ∙ z.safe)
+
   -- the bytes of a leaf have been brought to a temporary
   pub loaded : (bank : Bank) (l : ObjectLeaf p bank) (space : SpaceId) (t : Temp) (need need0 : Need) (m : Mach) (v w : View)
       (c : ℕ) (u : Value) → HasHome slots t → l.bytes ≡ t.bytes → A need0 m v → ((u : ℕ) → u ≢ t.at → need u ≤ need0 u)
@@ -404,11 +423,6 @@ module _ (p : PlainProgram) (e : Env) (slots : ℕ) (home : Temp → Location) (
       ++ log_of (kind_in l.declared.storage) (ByteRead bank) (place l.object + l.at) (seen_number p place l.bytes (told u)) l.bytes
       → A need (machine (with_temp t u m.temps) (after_read bank l space u (worked c m.state))) w
   loaded bank l space t need need0 m v w c u it size z more holds there frame numbers inputs safe seen =
-      let storage = l.declared.storage in
-      let s = worked c m.state in
-      let s1 = after_read bank l space u s in
-      let number = seen_number p place l.bytes (told u) in
-      let log = log_of (kind_in storage) (ByteRead bank) (place l.object + l.at) number l.bytes in
       let held : AreHeld w.at (base t) l.bytes = λ j r. numbers (base t + j) (let k = (y.layout.temps_at t it).clear in omega arith) in
       let full : HoldsLeaf p place w.at (base t) l.bytes u =
       moved_leaf p place (bytes_of bank v) w.at (place l.object + l.at) (base t) l.bytes u there holds in
@@ -417,11 +431,7 @@ module _ (p : PlainProgram) (e : Env) (slots : ℕ) (home : Temp → Location) (
       leaf_content p place w.at (base t) l.bytes (wanted need t) u (omega (arith, size)) held full in
       let here : HoldsContent p place w.at (base t) (wanted need t) t.bytes (content_of t.bytes u) =
       subst (λ (b : ℕ). HoldsContent p place w.at (base t) (wanted need t) b (content_of b u)) size part in
-      let is_seen : w.seen ≡ accesses p place s1.events =
-      seen ∙ ap (λ b. b ++ log) z.seen ∙ sym (read_seen p bank place l space (told u) s storage) in
-      written_wide p e slots home base place y t (content_of t.bytes u) need need0 m s1 v w it z more frame here numbers
-      (recorded_memory storage _ s) is_seen
-      (λ port. kept_left y.inputs m.state v w inputs z.left port ∙ sym (recorded_left y.inputs port storage _ s refl)) (safe ∙ z.safe)
+      was_read bank l space t need need0 m v w c u it z more here frame numbers inputs safe seen
 
   -- by a copy
   pub load_matches : (l : ObjectLeaf p DataBank) (space : SpaceId) (t : Temp) (need need0 : Need) (m : Mach) (v : View)

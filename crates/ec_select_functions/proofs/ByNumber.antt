@@ -19,14 +19,15 @@ use Rattle.ec_asm.specs.PieceLaws.{HoldsNumbers}
 use Rattle.ec_asm.proofs.Hoare.{block-append}
 use Rattle.ec_asm.proofs.Numbers.{value_digit, mod_less, mod_beside, pow_pos}
 use Rattle.ec_core.specs.declared.values.ObjectPointer.{ObjectPointer}
-use Rattle.ec_core.specs.Plain.{PlainProgram}
+use Rattle.ec_core.specs.Plain.{PlainProgram, PlainType, fixed}
+use Rattle.ec_fx.specs.declared.formats.FxKind.{FxKind}
 use Rattle.ec_core.specs.State.{worked}
 use Rattle.ec_ir.specs.declared.operations.Temp.{Temp}
 use Rattle.ec_ir.specs.Meaning.{Mach, machine}
 use Rattle.ec_ir.specs.Temporaries.{bits, points, Held, Temps, with_content, low_bytes}
 use Rattle.ec_ir_known.specs.declared.known.KnownNumber.{KnownNumber}
 use Rattle.ec_ir_known.specs.declared.known.RightNumber.{RightNumber}
-use Rattle.ec_ir_known.specs.Known.{Known, of_bytes, number_in, is_any, is_byte_of, is_byte, fits_byte, right_of}
+use Rattle.ec_ir_known.specs.Known.{Known, of_bytes, number_in, is_any, is_byte_of, is_byte, fits_byte, fits_second, is_wide_type, right_of}
 use Rattle.ec_ir_known.specs.Laws.{is_held, are_held, are_bits}
 use Rattle.ec_select_bytes.specs.Values.{byte_of, constant_code}
 use Rattle.ec_select_bytes.proofs.Constants.{constants_are_right}
@@ -36,7 +37,7 @@ use Rattle.ec_select_numbers.specs.ByNumber.{as_operator, changed_code}
 use Rattle.ec_select_numbers.specs.Laws.{KeepsOthers, ComparesWith}
 use Rattle.ec_select_operations.specs.Code.{move_code, changed_by_code}
 use Rattle.ec_select_operations.specs.Homes.{HasHome}
-use Rattle.ec_select_operations.specs.Needs.{Need, at_least, without, wanted, compared_bytes}
+use Rattle.ec_select_operations.specs.Needs.{Need, at_least, without, wanted, compared_bytes, number_known}
 use Rattle.ec_select_order.specs.declared.relations.Relation.{Relation}
 use Rattle.ec_select_order.specs.declared.relations.Relation.TheVariants.{Less, NotLess, Equal, NotEqual}
 use Rattle.ec_select_order.specs.Relations.{stand_so, is_less, flag_of, is_set}
@@ -46,7 +47,7 @@ use Rattle.ec_select_functions.proofs.Match.{read_first, written, held_row}
 use Rattle.ec_select_functions.proofs.Moves.{Frame, Quiet, wider_frame, work_outside, narrower, numbers_kept, row_value}
 use Rattle.ec_select_functions.proofs.Moves.{move_holds}
 use Rattle.ec_select_functions.proofs.Setting.{Setting, NumberLaws}
-use Rattle.ec_select_functions.proofs.Taken.{is_changed}
+use Rattle.ec_select_functions.proofs.Taken.{is_changed, TakenNumber, as_known, no_number}
 use Rattle.ec_select_functions.proofs.Wrapped.{low_part, low_below, kept_below, powers, byte_of_bitwise, value_of_bytes}
 use Rattle.ec_select_functions.specs.Relation.{Matches}
 
@@ -123,13 +124,13 @@ pub record AreTested (t : Temp) (size : ℕ) (temps : Temps) : Type 0 where
   pub pointer : (q : ObjectPointer) → temps t.at ≡ Some (record { bytes = t.bytes; content = points q }) → size ≡ t.bytes
 
 pub tested_held : (known : Known) (t : Temp) (temps : Temps) → 1 ≤ t.bytes → are_held known temps (t.at ∷ []) ≡ true
-    → AreTested t (compared_bytes (right_of (fits_byte known t) (Some (pos 0))) t.bytes) temps
+    → AreTested t (compared_bytes (right_of (fits_byte known t) false (Some (pos 0))) t.bytes) temps
 tested_held known t temps some held = by_byte (fits_byte known t) refl
   where
     first : is_held (known t.at) (temps t.at) ≡ true
     first = (and_parts (is_held (known t.at) (temps t.at)) true held).0
 
-    by_byte : (x : Bool) → fits_byte known t ≡ x → AreTested t (compared_bytes (right_of x (Some (pos 0))) t.bytes) temps
+    by_byte : (x : Bool) → fits_byte known t ≡ x → AreTested t (compared_bytes (right_of x false (Some (pos 0))) t.bytes) temps
     by_byte false e = record { some = some; within = omega arith; number = λ low s l. l; pointer = λ q s. refl }
     by_byte true e =
         let sides = and_parts (nat_lt 1 t.bytes) (is_byte_of t.bytes (known t.at)) e in
@@ -145,15 +146,29 @@ tested_held known t temps some held = by_byte (fits_byte known t) refl
         })
 
 -- what is held of operands of which the second one is known to hold a number
-pub record HoldsRight (a b : Temp) (k : RightNumber) (temps : Temps) : Type 0 where
+pub record HoldsRight (a b : Temp) (k : TakenNumber) (temps : Temps) : Type 0 where
   pub number : (low : ℕ) → temps b.at ≡ Some (record { bytes = b.bytes; content = bits low }) → low ≡ low_bytes b.bytes k.number
   pub byte : k.in_byte ≡ true → (1 < a.bytes) × (is_byte k.number ≡ true)
       × ((low : ℕ) → temps a.at ≡ Some (record { bytes = a.bytes; content = bits low }) → low < 256)
 
-pub right_held : (known : Known) (a b : Temp) (k : RightNumber) (temps : Temps)
-    → right_of (nat_lt 1 a.bytes && is_byte_of a.bytes (known a.at)) (number_in known b) ≡ Some k
+-- or of which it is only known that both are below 256
+pub record AreBytes (a b : Temp) (k : RightNumber) (temps : Temps) : Type 0 where
+  pub byte : k.in_byte ≡ true
+  pub more : 1 < a.bytes
+  pub left : (low : ℕ) → temps a.at ≡ Some (record { bytes = a.bytes; content = bits low }) → low < 256
+  pub right : (low : ℕ) → temps b.at ≡ Some (record { bytes = b.bytes; content = bits low }) → low < 256
+
+none_of_both : (x : Bool) (k : TakenNumber)
+    → (if x then Some (record { number = None; in_byte = true }) else None) ≡ Some (as_known k) → ⊥
+none_of_both false k q = let no : None ≡ Some (as_known k) = q in absurd cc
+none_of_both true k q =
+    let is : record { number = None; in_byte = true } ≡ as_known k = cc in
+    let no : None ≡ Some k.number = ap (λ (x : RightNumber). x.number) is in absurd cc
+
+pub right_held : (known : Known) (a b : Temp) (bty : PlainType) (k : TakenNumber) (temps : Temps)
+    → right_of (fits_byte known a) (fits_second known b bty) (number_in known b) ≡ Some (as_known k)
     → are_held known temps (b.at ∷ a.at ∷ []) ≡ true → HoldsRight a b k temps
-right_held known a b k temps q held = by_number (number_in known b) refl q
+right_held known a b bty k temps q held = by_number (number_in known b) refl q
   where
     both : (is_held (known b.at) (temps b.at) ≡ true) × ((is_held (known a.at) (temps a.at) && true) ≡ true)
     both = and_parts (is_held (known b.at) (temps b.at)) (is_held (known a.at) (temps a.at) && true) held
@@ -162,13 +177,15 @@ right_held known a b k temps q held = by_number (number_in known b) refl q
     first = (and_parts (is_held (known a.at) (temps a.at)) true both.1).0
 
     byte : Bool
-    byte = nat_lt 1 a.bytes && is_byte_of a.bytes (known a.at)
+    byte = fits_byte known a
 
-    by_number : (o : Option ℤ) → number_in known b ≡ o → right_of byte o ≡ Some k → HoldsRight a b k temps
-    by_number None e q = let no : None ≡ Some k = q in absurd cc
+    by_number : (o : Option ℤ) → number_in known b ≡ o → right_of byte (fits_second known b bty) o ≡ Some (as_known k)
+        → HoldsRight a b k temps
+    by_number None e q = absurd (none_of_both (byte && fits_second known b bty) k q)
     by_number (Some n) e q =
-        let is : record { number = n; in_byte = byte && is_byte n } ≡ k = cc in
-        let number : n ≡ k.number = ap (λ (x : RightNumber). x.number) is in
+        let is : record { number = Some n; in_byte = byte && is_byte n } ≡ as_known k = cc in
+        let some : Some n ≡ Some k.number = ap (λ (x : RightNumber). x.number) is in
+        let number : n ≡ k.number = cc in
         record {
           number = λ low s. number_held (known b.at) (temps b.at) b.bytes low k.number both.0 (e ∙ ap Some number) s;
           byte = λ z.
@@ -181,6 +198,85 @@ right_held known a b k temps q held = by_number (number_in known b) refl q
                 λ low s. byte_held (known a.at) (temps a.at) a.bytes low first sides.1 s,
               );
         }
+
+pub number_there : (known : Known) (a b : Temp) (bty : PlainType) (k : ℤ) (temps : Temps)
+    → number_known (right_of (fits_byte known a) (fits_second known b bty) (number_in known b)) ≡ Some k
+    → are_held known temps (b.at ∷ a.at ∷ []) ≡ true
+    → (low : ℕ) → temps b.at ≡ Some (record { bytes = b.bytes; content = bits low }) → low ≡ low_bytes b.bytes k
+number_there known a b bty k temps q held low s = by_number (number_in known b) refl q
+  where
+    first : is_held (known b.at) (temps b.at) ≡ true
+    first = (and_parts (is_held (known b.at) (temps b.at)) (is_held (known a.at) (temps a.at) && true) held).0
+
+    none : (x : Bool) → number_known (if x then Some (record { number = None; in_byte = true }) else None) ≡ None
+    none true = refl
+    none false = refl
+
+    by_number : (o : Option ℤ) → number_in known b ≡ o → number_known (right_of (fits_byte known a) (fits_second known b bty) o) ≡ Some k
+        → low ≡ low_bytes b.bytes k
+    by_number None e q =
+        let no : None ≡ Some k = sym (none (fits_byte known a && fits_second known b bty)) ∙ q in absurd cc
+    by_number (Some n) e q =
+        let is : Some n ≡ Some k = q in number_held (known b.at) (temps b.at) b.bytes low k first (e ∙ is) s
+
+pub bytes_held : (known : Known) (a b : Temp) (bty : PlainType) (byte : Bool) (temps : Temps)
+    → right_of (fits_byte known a) (fits_second known b bty) (number_in known b) ≡ Some (no_number byte)
+    → are_held known temps (b.at ∷ a.at ∷ []) ≡ true → AreBytes a b (no_number byte) temps
+bytes_held known a b bty byte temps q held = by_number (number_in known b) q
+  where
+    k : RightNumber
+    k = no_number byte
+
+    both : (is_held (known b.at) (temps b.at) ≡ true) × ((is_held (known a.at) (temps a.at) && true) ≡ true)
+    both = and_parts (is_held (known b.at) (temps b.at)) (is_held (known a.at) (temps a.at) && true) held
+
+    first : is_held (known a.at) (temps a.at) ≡ true
+    first = (and_parts (is_held (known a.at) (temps a.at)) true both.1).0
+
+    by_both : (x : Bool) → (fits_byte known a && fits_second known b bty) ≡ x
+        → (if x then Some (no_number true) else None) ≡ Some k → AreBytes a b k temps
+    by_both false e q = let no : None ≡ Some k = q in absurd cc
+    by_both true e q =
+        let is : no_number true ≡ k = cc in
+        let parts = and_parts (fits_byte known a) (fits_second known b bty) e in
+        let second = and_parts (is_wide_type bty) (fits_byte known b) parts.1 in
+        let left = and_parts (nat_lt 1 a.bytes) (is_byte_of a.bytes (known a.at)) parts.0 in
+        let right = and_parts (nat_lt 1 b.bytes) (is_byte_of b.bytes (known b.at)) second.1 in
+        let more = left.0 in
+        record {
+          byte = sym (ap (λ (x : RightNumber). x.in_byte) is);
+          more = grind (arith, nat_tests, more);
+          left = λ low s. byte_held (known a.at) (temps a.at) a.bytes low first left.1 s;
+          right = λ low s. byte_held (known b.at) (temps b.at) b.bytes low both.0 right.1 s;
+        }
+
+    by_number : (o : Option ℤ) → right_of (fits_byte known a) (fits_second known b bty) o ≡ Some k → AreBytes a b k temps
+    by_number None q = by_both (fits_byte known a && fits_second known b bty) refl q
+    by_number (Some n) q =
+        let is : record { number = Some n; in_byte = fits_byte known a && is_byte n } ≡ k = cc in
+        let no : Some n ≡ None = ap (λ (x : RightNumber). x.number) is in absurd cc
+
+-- a fixed-point operand is none of those that are known to be below 256
+pub on_no_bytes : (known : Known) (a b : Temp) (bty : PlainType) (kind : FxKind) (saturates byte : Bool) → bty ≡ fixed kind saturates
+    → right_of (fits_byte known a) (fits_second known b bty) (number_in known b) ≡ Some (no_number byte) → ⊥
+on_no_bytes known a b bty kind saturates byte is q = by_number (number_in known b) fixed_so
+  where
+    no_second : (x : Bool) → (x && false) ≡ false
+    no_second true = refl
+    no_second false = refl
+
+    fixed_so : right_of (fits_byte known a) false (number_in known b) ≡ Some (no_number byte)
+    fixed_so = subst (λ (x : PlainType). right_of (fits_byte known a) (fits_second known b x) (number_in known b) ≡ Some
+        (no_number byte)) is q
+
+    by_number : (o : Option ℤ) → right_of (fits_byte known a) false o ≡ Some (no_number byte) → ⊥
+    by_number None r =
+        let no : None ≡ Some (no_number byte) =
+        ap (λ (x : Bool). if x then Some (no_number true) else None) (sym (no_second (fits_byte known a))) ∙ r in
+        absurd cc
+    by_number (Some n) r =
+        let same : record { number = Some n; in_byte = fits_byte known a && is_byte n } ≡ no_number byte = cc in
+        let no : Some n ≡ None = ap (λ (x : RightNumber). x.number) same in absurd cc
 
 -- ---- numbers below 256
 
@@ -390,60 +486,3 @@ module _ (p : PlainProgram) (e : Env) (slots : ℕ) (home : Temp → Location) (
           let d = without_other t.at i need r in
           let f = least_other a.at (wanted need t) i (without t.at need) in
           omega arith
-
-  -- what holds the number already
-  same_temps : (b : Temp) (low : ℕ) (temps : Temps) → temps b.at ≡ Some (record { bytes = b.bytes; content = bits low }) → (u : ℕ)
-      → with_content b (bits low) temps u ≡ temps u
-  same_temps b low temps q u =
-      ⊎_elim
-      (λ (s : u ≡ b.at). by_place u s)
-      (λ (s : u ≢ b.at). other u s)
-      (cases_eq u b.at)
-    where
-      by_place : (u : ℕ) → u ≡ b.at → with_content b (bits low) temps u ≡ temps u
-      by_place u s =
-          let t = eq-eqb u b.at s in
-          ap (λ (x : Bool). if x then Some (record { bytes = b.bytes; content = bits low }) else temps u) t ∙ sym q ∙ ap temps (sym s)
-
-      other : (u : ℕ) → u ≢ b.at → with_content b (bits low) temps u ≡ temps u
-      other u s =
-          let t : (u == b.at) ≡ false = ne_eqb u b.at s in
-          ap (λ (x : Bool). if x then Some (record { bytes = b.bytes; content = bits low }) else temps u) t
-
-  -- the number is put to the temporary that is known to hold it: more bytes of it are there
-  pub number_put : (b : Temp) (k : ℤ) (low : ℕ) (need need0 : Need) (m : Mach) (v : View) → HasHome slots b
-      → m.temps b.at ≡ Some (record { bytes = b.bytes; content = bits low }) → low ≡ low_bytes b.bytes k
-      → ((u : ℕ) → u ≢ b.at → need u ≤ need0 u) → N need0 m v
-      → N need m (block e (constant_code (home b) (low_bytes 16 k) b.bytes) v)
-  number_put b k low need need0 m v ib q is more h =
-      let n = b.bytes in
-      let number = low_bytes 16 k in
-      let v1 = block e (constant_code (home b) number n) v in
-      let there =
-      constants_are_right e (home b) n (base b) number v (y.layout.temps_at b ib)
-      (work_outside (base b) n (y.layout.temps_work b ib)) in
-      let frame : Frame v v1 (base b) n = λ i x z d o. there.same i d o in
-      let numbers =
-      numbers_kept v v1 (base b) n h.bytes frame (λ j l. rw (there.there j l) (byte_below number j))
-      (there.work (h.bytes 30 (omega arith))) in
-      let w = wanted need b in
-      let most : w ≤ n = wanted_most need b in
-      let eight = ib.most in
-      let here : value v1.at (base b) w ≡ low % 256 ^ w =
-      value_of_bytes v1.at (base b) w number (λ j l. there.there j (omega (arith, l, most)))
-      ∙ number_low k w n most (omega arith) ∙ ap (λ t. t % 256 ^ w) (sym is) in
-      let below : low < 256 ^ n = rw is (low_below n k) in
-      let z =
-      written p e slots home base place y b (bits low) need need0 m m.state v v1 ib h more frame (here, below) numbers refl
-      (there.seen ∙ h.seen) (kept_left y.inputs m.state v v1 there.inputs h.left) (there.safe ∙ h.safe) in
-      record {
-        temps_hold = λ t x it r s. z.temps_hold t x it (same_temps b low m.temps q t.at ∙ r) s;
-        leaves_hold = z.leaves_hold;
-        tables_hold = z.tables_hold;
-        frames = z.frames;
-        kept = z.kept;
-        bytes = z.bytes;
-        left = z.left;
-        seen = z.seen;
-        safe = z.safe;
-      }

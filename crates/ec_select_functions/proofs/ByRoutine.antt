@@ -1,7 +1,7 @@
 -- Operations by calls of their routines: which operations have none, and what a call finds.
 use Rattle.std.proofs.Common.{◌≡◌, ℕ, ◌-◌, ◌<◌, ◌≤◌, Bool, true, false, ◌||◌, List, Option, Some, None, refl, sym, ap, ◌∙◌, subst}
-use Rattle.std.proofs.Common.{arith}
-use Rattle.std.specs.Prelude.{IsSomeAnd, if◌then◌else◌}
+use Rattle.std.proofs.Common.{arith, ℤ, ◌&&◌}
+use Rattle.std.specs.Prelude.{IsSomeAnd, if◌then◌else◌, not}
 use Rattle.ec_space.specs.declared.space.SpaceId.{SpaceId}
 use Rattle.ec_asm.specs.declared.items.AsmItem.{AsmItem}
 use Rattle.ec_asm.specs.declared.pieces.Location.{Location}
@@ -25,7 +25,7 @@ use Rattle.ec_select_operations.specs.declared.families.Family.{Family}
 use Rattle.ec_select_operations.specs.declared.families.Family.TheVariants.{Divided}
 use Rattle.ec_select_operations.specs.Code.{family_of, told_by}
 use Rattle.ec_select_operations.specs.Homes.{HasHome}
-use Rattle.ec_select_operations.specs.Needs.{Need, is_fixed, number_taken}
+use Rattle.ec_select_operations.specs.Needs.{Need, is_fixed, number_taken, takes_known}
 use Rattle.ec_select_operations.specs.Routines.{HasRoutineOf, body_by, division_body}
 use Rattle.ec_select_functions.specs.Covered.{IsUnary, AreConverted, IsPointerBinary, IsPointerConversion}
 use Rattle.ec_select_functions.specs.Relation.{Matches}
@@ -115,9 +115,17 @@ unaries_have_none e slots l op ty mode t a k routine =
 -- a division takes no number
 pub divided_number : (op : BinOp) (r : Bool) → family_of op ≡ Divided r → (known : Option RightNumber) → number_taken known false op ≡ None
 divided_number Div r q None = refl
-divided_number Div r q (Some k) = refl
+divided_number Div r q (Some k) = by_number k.number
+  where
+    by_number : (x : Option ℤ) → (if not false && takes_known x Div then Some k else None) ≡ None
+    by_number None = refl
+    by_number (Some n) = refl
 divided_number Rem r q None = refl
-divided_number Rem r q (Some k) = refl
+divided_number Rem r q (Some k) = by_number k.number
+  where
+    by_number : (x : Option ℤ) → (if not false && takes_known x Rem then Some k else None) ≡ None
+    by_number None = refl
+    by_number (Some n) = refl
 divided_number op r q known = absurd cc
 
 -- and tells nothing

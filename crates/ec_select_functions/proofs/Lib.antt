@@ -1,5 +1,6 @@
 -- For the crates of the family.
 pub mod Cells
+pub mod ByRoutine
 pub mod Counts
 pub mod OnIntegers
 pub mod OnWholes
@@ -36,15 +37,17 @@ mod Pointed
 mod Reached
 mod PointerNumbers
 mod MemorySteps
+mod InZ
 mod PointerSteps
 mod PortSteps
-mod ByRoutine
 mod Steps
 mod Extended
 mod Standing
 mod Orders
 mod Truth
 mod Tested
+mod Masked
+mod Told
 mod Related
 mod Turned
 mod Multiplied

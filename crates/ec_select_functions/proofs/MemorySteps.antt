@@ -62,7 +62,8 @@ use Rattle.ec_select_functions.proofs.Accesses.{leaf_with, home_is, recorded_wor
 use Rattle.ec_select_functions.proofs.Accesses.{after_read, after_write, load_matches, load_brings, store_matches}
 use Rattle.ec_select_functions.proofs.Accesses.{store_brings}
 use Rattle.ec_select_functions.proofs.Follow.{Follows, after}
-use Rattle.ec_select_functions.proofs.Going.{passes as passes_of, items as items_of, own_items as own_items_of, code_of as code_from, R as run_of}
+use Rattle.ec_select_functions.proofs.Going.{passes as passes_of, items as items_of, own_items as own_items_of}
+use Rattle.ec_select_functions.proofs.Going.{code_of as code_from, R as run_of}
 use Rattle.ec_select_functions.proofs.Going.{P as operation_of}
 use Rattle.ec_select_functions.proofs.Going.{Rest as ShownOf, begun as begun_of, IsRunning}
 use Rattle.ec_select_functions.proofs.Match.{wanted_most, whole, at_width, least_here, least_other, without_other}
@@ -155,10 +156,10 @@ width_is Data = inl refl
 width_is FarFlash = inr refl
 width_is Generic = inr refl
 
-pointer_size : (space : SpaceId) (n : ℕ) → n ≡ width space → IsPointerSize n
+pub pointer_size : (space : SpaceId) (n : ℕ) → n ≡ width space → IsPointerSize n
 pointer_size space n q = subst IsPointerSize (sym q) (width_is space)
 
-some_bytes : (n : ℕ) → IsPointerSize n → (2 ≤ n) × (n ≤ 3)
+pub some_bytes : (n : ℕ) → IsPointerSize n → (2 ≤ n) × (n ≤ 3)
 some_bytes n size = ⊎_elim (λ (q : n ≡ 2). (omega arith, omega arith)) (λ (q : n ≡ 3). (omega arith, omega arith)) size
 
 module _ (p : PlainProgram) (functions : List PlainIrFunction) (e : Env) (slots : ℕ) (home : Temp → Location)
@@ -363,7 +364,7 @@ module _ (p : PlainProgram) (functions : List PlainIrFunction) (e : Env) (slots 
           record { is = (let z : Ok (Some to) ≡ Ok r = is in cc); within = leb-true (q.offset + offset) size parts.1 }
       by_test false t is = absurd (cc)
 
-  moved_further : (q : ObjectPointer) (k : IsPointed p q) (s : State) (offset : ℕ) (r : PointerValue)
+  pub moved_further : (q : ObjectPointer) (k : IsPointed p q) (s : State) (offset : ℕ) (r : PointerValue)
       → moved (Some q) (referent_of p (Some q) s) (pos offset) ≡ Ok r
       → IsFurther q (size_of_type p.structs k.declared.ty) offset r
   moved_further q k s offset r h = at_object (slice_get s.objects q.object) (sym known ∙ h)
@@ -386,7 +387,7 @@ module _ (p : PlainProgram) (functions : List PlainIrFunction) (e : Env) (slots 
       at_object (Some x) h = by_live (is_live_in q x) h
 
   pub field_follows : (ptr : Temp) (space : SpaceId) (offset : ℕ) (rest : List PlainIr) (n pc : ℕ) (m : Mach) (v : View)
-      → IsInto slots space ptr → HasAt e (own_items (field ptr space offset) rest) pc end
+      → IsInto slots space ptr → HasAt e (code_of (field ptr space offset) rest ++ items rest) pc end
       → M (needs at (field ptr space offset ∷ rest)) m v → link.core ≡ e.core → Rest (suc n) rest
       → G (suc n) m.state.work pc v (P n (field ptr space offset) rest m)
   field_follows ptr space offset rest n pc m v into stands h one_core f =
@@ -696,7 +697,7 @@ module _ (p : PlainProgram) (functions : List PlainIrFunction) (e : Env) (slots 
 
   -- ---- loads and stores of objects
 
-  location_is : (bank : Bank) (l : ObjectLeaf p bank) → object_location p.objects l.object l.at
+  pub location_is : (bank : Bank) (l : ObjectLeaf p bank) → object_location p.objects l.object l.at
       ≡ location_in l.declared.storage l.object l.at
   location_is bank l = rw (l.is_object) refl
 
@@ -707,7 +708,7 @@ module _ (p : PlainProgram) (functions : List PlainIrFunction) (e : Env) (slots 
   kind_addressable (register first) q = absurd (cc)
 
   pub load_follows : (t : Temp) (o offset : ℕ) (rest : List PlainIr) (n pc : ℕ) (m : Mach) (v : View) → HasHome slots t
-      → HasScalarAt p o offset t.bytes → HasAt e (own_items (load_object t o offset) rest) pc end
+      → HasScalarAt p o offset t.bytes → HasAt e (code_of (load_object t o offset) rest ++ items rest) pc end
       → M (needs at (load_object t o offset ∷ rest)) m v → link.core ≡ e.core → Rest n rest
       → G (suc n) m.state.work pc v (P n (load_object t o offset) rest m)
   load_follows t o offset rest n pc m v it has stands h one_core f = at_object (slice_get m.state.objects o) refl

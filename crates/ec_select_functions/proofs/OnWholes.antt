@@ -27,7 +27,7 @@ use Rattle.ec_select_fixed.proofs.Suits.{operands_suit}
 use Rattle.ec_select_operations.specs.declared.families.Family.{Family}
 use Rattle.ec_select_operations.specs.declared.families.Family.TheVariants.{Combined, Compared, Multiplied, Shifted, Divided}
 use Rattle.ec_select_operations.specs.Code.{family_of, is_on_integers}
-use Rattle.ec_select_operations.specs.Needs.{Need, at_least, all_or_none, operand_wanted, right_wanted}
+use Rattle.ec_select_operations.specs.Needs.{Need, at_least, all_or_none}
 use Rattle.ec_select_operations.proofs.OneFormat.{one_format, on_integers}
 use Rattle.ec_select_functions.specs.Covered.{IsFixedBinary, IsBinary, AreIntegers, AreCompared}
 use Rattle.ec_select_functions.proofs.OnIntegers.{whole_of, whole_type, GivesAs, sum_as, difference_as, order_as}
@@ -48,7 +48,7 @@ at_most_all bytes (suc n) l = l
 
 -- ---- operators
 
--- the operator on the integers of the operands' bytes: its types, words and needs, and what it gives
+-- the operator on the integers of the operands' bytes: its types and words, and what it gives
 pub record IsOnWholes (slots : ℕ) (op : BinOp) (mode : Mode) (to a b : Temp) (ty aty bty : PlainType) : Type 0 where
   pub kind : FxKind
   pub first_saturates : Bool
@@ -60,8 +60,6 @@ pub record IsOnWholes (slots : ℕ) (op : BinOp) (mode : Mode) (to a b : Temp) (
   pub bitwise : is_bitwise op ≡ false
   pub words : binary_words op ty (fixed kind first_saturates) (fixed kind second_saturates)
       ≡ binary_words op result (whole_type kind) (whole_type kind)
-  pub first_wanted : (w : ℕ) → w ≤ to.bytes → operand_wanted op a.bytes w ≤ all_or_none a.bytes w
-  pub second_wanted : (w : ℕ) → w ≤ to.bytes → right_wanted op b.bytes w ≤ all_or_none b.bytes w
   pub gives : (p : PlainProgram) (low1 low2 : ℕ) (st : State) (r : Value)
       → binary_result op ty mode (operand_of p (fixed kind first_saturates) (Number (whole_of kind low1)) st)
       (operand_of p (fixed kind second_saturates) (Number (whole_of kind low2)) st) ≡ Ok r
@@ -97,13 +95,12 @@ module _ (slots : ℕ) (mode : Mode) (to a b : Temp) where
       (one.first_saturates, one.first ∙ ap (λ (j : FxKind). fixed j one.first_saturates) same, known.1)
 
   combined : (op : BinOp) (o : Operator) → family_of op ≡ Combined o → is_bitwise op ≡ false
-      → ((bytes j : ℕ) → operand_wanted op bytes j ≡ j) → ((bytes j : ℕ) → right_wanted op bytes j ≡ j)
       → ((k : FxKind) (s0 s1 s2 : Bool) (p : PlainProgram) (x z : ℕ) (st : State) (r : Value) → not mode.saturate ≡ true
       → binary_result op (fixed k s0) mode (operand_of p (fixed k s1) (Number (whole_of k x)) st)
       (operand_of p (fixed k s2) (Number (whole_of k z)) st) ≡ Ok r
       → GivesAs op (integer (format_of k).signed to.bytes) mode p k x z to.bytes st r)
       → (ty : PlainType) (k : FxKind) (s1 s2 : Bool) → OfKind op ty k s1 s2
-  combined op o is bitwise low high gives ty k s1 s2 h q =
+  combined op o is bitwise gives ty k s1 s2 h q =
       let c = combined_kind op o is ty k s1 s2 q in
       let whole = integer (format_of k).signed to.bytes in
       let size : to.bytes ≡ (format_of k).bits / 8 = h.result_bytes ∙ ap scalar_size c.1 in
@@ -132,20 +129,14 @@ module _ (slots : ℕ) (mode : Mode) (to a b : Temp) where
         binary = subst (λ (x : Family). IsBinary x slots to a b whole (whole_type k) (whole_type k)) (sym is) integers;
         bitwise = bitwise;
         words = same_words op ty whole k s1 s2 bitwise (sym h.result_bytes);
-        first_wanted = λ w l. subst (λ (j : ℕ). j ≤ all_or_none a.bytes w) (sym (low a.bytes w))
-            (at_most_all a.bytes w (omega (arith, l, la, size)));
-        second_wanted = λ w l. subst (λ (j : ℕ). j ≤ all_or_none b.bytes w) (sym (high b.bytes w))
-            (at_most_all b.bytes w (omega (arith, l, lb, size)));
         gives = λ p x z st r i. gives k c.0 s1 s2 p x z st r c.2
             (subst (λ (j : PlainType). binary_result op j mode (operand_of p (fixed k s1) (Number (whole_of k x)) st)
             (operand_of p (fixed k s2) (Number (whole_of k z)) st) ≡ Ok r) c.1 i);
       }
 
   compared : (op : BinOp) (r : Relation) (exchanged : Bool) → family_of op ≡ Compared r exchanged → is_bitwise op ≡ false
-      → is_comparison op ≡ true → ((bytes j : ℕ) → operand_wanted op bytes j ≡ all_or_none bytes j)
-      → ((bytes j : ℕ) → right_wanted op bytes j ≡ all_or_none bytes j) → (ty : PlainType) (k : FxKind) (s1 s2 : Bool)
-      → OfKind op ty k s1 s2
-  compared op r exchanged is bitwise c low high ty k s1 s2 h q =
+      → is_comparison op ≡ true → (ty : PlainType) (k : FxKind) (s1 s2 : Bool) → OfKind op ty k s1 s2
+  compared op r exchanged is bitwise c ty k s1 s2 h q =
       let la = h.left_bytes in
       let lb = h.right_bytes in
       let ordered : AreCompared slots to a b (whole_type k) (whole_type k) = record {
@@ -167,24 +158,22 @@ module _ (slots : ℕ) (mode : Mode) (to a b : Temp) where
         binary = subst (λ (x : Family). IsBinary x slots to a b ty (whole_type k) (whole_type k)) (sym is) ordered;
         bitwise = bitwise;
         words = same_words op ty ty k s1 s2 bitwise refl;
-        first_wanted = λ w l. subst (λ (j : ℕ). j ≤ all_or_none a.bytes w) (sym (low a.bytes w)) (omega arith);
-        second_wanted = λ w l. subst (λ (j : ℕ). j ≤ all_or_none b.bytes w) (sym (high b.bytes w)) (omega arith);
         gives = λ p x z st u i. order_as op c ty k s1 s2 mode p x z to.bytes st u i;
       }
 
   of_kind : (op : BinOp) (ty : PlainType) (k : FxKind) (s1 s2 : Bool) → OfKind op ty k s1 s2
   of_kind Add ty k s1 s2 h q =
-      combined Add Sum refl refl (λ i j. refl) (λ i j. refl)
+      combined Add Sum refl refl
       (λ k s0 s1 s2 p x z st r c i. sum_as k s0 s1 s2 mode p x z to.bytes st r c i) ty k s1 s2 h q
   of_kind Sub ty k s1 s2 h q =
-      combined Sub Difference refl refl (λ i j. refl) (λ i j. refl)
+      combined Sub Difference refl refl
       (λ k s0 s1 s2 p x z st r c i. difference_as k s0 s1 s2 mode p x z to.bytes st r c i) ty k s1 s2 h q
-  of_kind Lt ty k s1 s2 h q = compared Lt Less false refl refl refl (λ i j. refl) (λ i j. refl) ty k s1 s2 h q
-  of_kind Gt ty k s1 s2 h q = compared Gt Less true refl refl refl (λ i j. refl) (λ i j. refl) ty k s1 s2 h q
-  of_kind Le ty k s1 s2 h q = compared Le NotLess true refl refl refl (λ i j. refl) (λ i j. refl) ty k s1 s2 h q
-  of_kind Ge ty k s1 s2 h q = compared Ge NotLess false refl refl refl (λ i j. refl) (λ i j. refl) ty k s1 s2 h q
-  of_kind Eq ty k s1 s2 h q = compared Eq Equal false refl refl refl (λ i j. refl) (λ i j. refl) ty k s1 s2 h q
-  of_kind Ne ty k s1 s2 h q = compared Ne NotEqual false refl refl refl (λ i j. refl) (λ i j. refl) ty k s1 s2 h q
+  of_kind Lt ty k s1 s2 h q = compared Lt Less false refl refl refl ty k s1 s2 h q
+  of_kind Gt ty k s1 s2 h q = compared Gt Less true refl refl refl ty k s1 s2 h q
+  of_kind Le ty k s1 s2 h q = compared Le NotLess true refl refl refl ty k s1 s2 h q
+  of_kind Ge ty k s1 s2 h q = compared Ge NotLess false refl refl refl ty k s1 s2 h q
+  of_kind Eq ty k s1 s2 h q = compared Eq Equal false refl refl refl ty k s1 s2 h q
+  of_kind Ne ty k s1 s2 h q = compared Ne NotEqual false refl refl refl ty k s1 s2 h q
   of_kind Mul ty k s1 s2 h q = absurd (on_integers Multiplied mode ty (fixed k s1) (fixed k s2) q).1
   of_kind Div ty k s1 s2 h q = absurd (on_integers (Divided false) mode ty (fixed k s1) (fixed k s2) q).1
   of_kind Rem ty k s1 s2 h q = absurd (on_integers (Divided true) mode ty (fixed k s1) (fixed k s2) q).1

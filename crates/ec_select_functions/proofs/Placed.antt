@@ -56,7 +56,7 @@ use Rattle.ec_select_fixed.proofs.Suits.{AreSuited, operands_suit}
 use Rattle.ec_select_operations.specs.Code.{is_difference, is_signed, same_location, move_code, has_one_format, takes_place}
 use Rattle.ec_select_operations.specs.Code.{is_placed, stopped_code, placed_shift, placed_whole}
 use Rattle.ec_select_operations.specs.Homes.{HasHome}
-use Rattle.ec_select_operations.specs.Needs.{Need, wanted, is_shift}
+use Rattle.ec_select_operations.specs.Needs.{Need, wanted, is_shift, number_known}
 use Rattle.ec_select_operations.proofs.OneFormat.{one_format}
 use Rattle.ec_select_functions.specs.Covered.{IsFixedBinary}
 use Rattle.ec_select_functions.specs.Relation.{Matches}
@@ -69,6 +69,7 @@ use Rattle.ec_select_functions.proofs.Limited.{IsLimited, limited}
 use Rattle.ec_select_functions.proofs.Related.{work_stands}
 use Rattle.ec_select_functions.proofs.Setting.{Setting}
 use Rattle.ec_select_functions.proofs.Stopped.{stands_apart, stopped_passes, stopped_result}
+use Rattle.ec_select_functions.proofs.Taken.{TakenNumber, as_known}
 use Rattle.ec_select_functions.proofs.Wrapped.{kept_below}
 
 -- ---- counts
@@ -267,9 +268,9 @@ module _ (p : PlainProgram) (e : Env) (slots : ℕ) (home : Temp → Location) (
       beside a n j h l m = grind arith
 
   -- what is known of the count
-  abbrev pub KnownCount : Option RightNumber → Temp → View → Type 0
+  abbrev pub KnownCount : Option ℤ → Temp → View → Type 0
   KnownCount None b v = ⊤
-  KnownCount (Some k) b v = low_bytes 16 k.number % 256 ≡ v.at (base b)
+  KnownCount (Some k) b v = low_bytes 16 k % 256 ≡ v.at (base b)
 
   -- the number is brought to its place, and shifted there by a known count
   counted_passes : (left : Bool) (f : Format) (mode : Mode) (top c n pc end count : ℕ) (t a : Temp) (need need0 : Need) (m : Mach)
@@ -384,7 +385,8 @@ module _ (p : PlainProgram) (e : Env) (slots : ℕ) (home : Temp → Location) (
   abbrev Passes : (known : Option RightNumber) (op : BinOp) (ty aty bty : PlainType) (mode : Mode) (c n pc end : ℕ) (t a b : Temp)
       (need need0 : Need) (m : Mach) (v : View) (o : Outcome Value) (r : Value) → Type 0
   Passes known op ty aty bty mode c n pc end t a b need need0 m v o r =
-      KnownCount known b v → IsFixedBinary slots op t a b ty aty bty → is_placed op mode ty aty bty ≡ true → not (same_location (home b) (home t)) ≡ true
+      KnownCount (number_known known) b v → IsFixedBinary slots op t a b ty aty bty → is_placed op mode ty aty bty ≡ true
+      → not (same_location (home b) (home t)) ≡ true
       → IsNumber
       (arithmetic_value op (number_type ty) mode (operand_in (format_in aty) (scalar_size aty) (value v.at (base a) (scalar_size aty)))
       (operand_in (format_in bty) (scalar_size bty) (value v.at (base b) (scalar_size bty)))) r
@@ -431,7 +433,7 @@ module _ (p : PlainProgram) (e : Env) (slots : ℕ) (home : Temp → Location) (
       (c.is ∙ ap pos (sym number), omega (arith, number, inside))
 
   -- a shift by a known number, of which the second operand holds as many bytes as its type has
-  abbrev PassesBy : RightNumber → (second : ℕ) (op : BinOp) (ty aty bty : PlainType) (mode : Mode) (c n pc end : ℕ) (t a b : Temp)
+  abbrev PassesBy : TakenNumber → (second : ℕ) (op : BinOp) (ty aty bty : PlainType) (mode : Mode) (c n pc end : ℕ) (t a b : Temp)
       (need need0 : Need) (m : Mach) (v : View) (o : Outcome Value) (r : Value) → Type 0
   PassesBy number second op ty aty bty mode c n pc end t a b need need0 m v o r =
       second < 256 ^ scalar_size bty → low_bytes 16 number.number % 256 ≡ second % 256
@@ -440,7 +442,7 @@ module _ (p : PlainProgram) (e : Env) (slots : ℕ) (home : Temp → Location) (
       (arithmetic_value op (number_type ty) mode (operand_in (format_in aty) (scalar_size aty) (value v.at (base a) (scalar_size aty)))
       (operand_in (format_in bty) (scalar_size bty) second)) r
       → M need0 m v → ((u : ℕ) → u ≢ t.at → need u ≤ need0 u)
-      → HasAt e (placed_whole (Some number) op (is_signed aty) (home a) (home b) (home t) (a.bytes - 1)) pc end
+      → HasAt e (placed_whole (Some (as_known number)) op (is_signed aty) (home a) (home b) (home t) (a.bytes - 1)) pc end
       → 64 * binary_words op ty aty bty ≤ c
       →
       ((z : ℕ) (v2 : View) → IsBinaryResult op ty mode aty bty (value v.at (base a) (scalar_size aty)) second z
@@ -448,9 +450,9 @@ module _ (p : PlainProgram) (e : Env) (slots : ℕ) (home : Temp → Location) (
       → Follows p place e n (m.state.work + c) end v2 o)
       → Follows p place e n m.state.work pc v o
 
-  kind_by_number : (number : RightNumber) (second : ℕ) (left : Bool) (k : FxKind) (s u : Bool) (bty : PlainType) (mode : Mode)
+  kind_by_number : (number : TakenNumber) (second : ℕ) (left : Bool) (k : FxKind) (s u : Bool) (bty : PlainType) (mode : Mode)
       (c n pc end : ℕ) (t a b : Temp) (need need0 : Need) (m : Mach) (v : View) (o : Outcome Value) (r : Value)
-      → HasAt e (placed_shift (Some number) left (format_of k).signed (home a) (home b) (home t) (a.bytes - 1)) pc end
+      → HasAt e (placed_shift (Some number.number) left (format_of k).signed (home a) (home b) (home t) (a.bytes - 1)) pc end
       → PassesBy number second (shift_operator left) (fixed k s) (fixed k u) bty mode c n pc end t a b need need0 m v o r
   kind_by_number number second left k s u bty mode c n pc end t a b need need0 m v o r there below low i is result h more code room
       onward =
@@ -512,9 +514,10 @@ module _ (p : PlainProgram) (e : Env) (slots : ℕ) (home : Temp → Location) (
       low_count v.at (base b) size c.number (omega (arith, some, width)) number (omega (arith, inside, few)) in
       (c.is ∙ ap pos (sym low), omega (arith, low, inside))
 
-  shift_of_kind : (known : Option RightNumber) (left : Bool) (k : FxKind) (s u : Bool) (bty : PlainType) (mode : Mode) (c n pc end : ℕ) (t a b : Temp)
+  shift_of_kind : (known : Option RightNumber) (left : Bool) (k : FxKind) (s u : Bool) (bty : PlainType) (mode : Mode)
+      (c n pc end : ℕ) (t a b : Temp)
       (need need0 : Need) (m : Mach) (v : View) (o : Outcome Value) (r : Value)
-      → HasAt e (placed_shift known left (format_of k).signed (home a) (home b) (home t) (a.bytes - 1)) pc end
+      → HasAt e (placed_shift (number_known known) left (format_of k).signed (home a) (home b) (home t) (a.bytes - 1)) pc end
       → Passes known (shift_operator left) (fixed k s) (fixed k u) bty mode c n pc end t a b need need0 m v o r
   shift_of_kind known left k s u bty mode c n pc end t a b need need0 m v o r there counted i is other number h more code room onward =
       let f = format_of k in
@@ -546,8 +549,9 @@ module _ (p : PlainProgram) (e : Env) (slots : ℕ) (home : Temp → Location) (
       let same : pos q ≡ pos (v.at (base b)) = sym q_is ∙ count.0 in
       let one : v.at (base b) ≡ q = cc in
       subst (λ (j : ℕ). HoldsResult size (shift_of (fixed_in f size x) j left mode) z) one at_size)) matches) in
-      by_known known there counted
-      (λ place. shifted_passes left f mode top c n pc end t a b need need0 m v o i.result i.left i.right width_t width_a (IsFormat-format_of k)
+      by_known (number_known known) there counted
+      (λ place. shifted_passes left f mode top c n pc end t a b need need0 m v o i.result i.left i.right width_t width_a
+      (IsFormat-format_of k)
       bits_are sat count.1 h more place fits result)
       (λ number same place. counted_passes left f mode top c n pc end number t a need need0 m v o i.result i.left width_t width_a
       (IsFormat-format_of k) bits_are sat (rw same (count.1)) h more place fits
@@ -555,7 +559,7 @@ module _ (p : PlainProgram) (e : Env) (slots : ℕ) (home : Temp → Location) (
       (subst (λ (j : ℕ). HoldsResult (suc top) (shift_of (fixed_in f (suc top) (value v.at (base a) (suc top))) j left mode) z) same holds)
       matches))
     where
-      by_known : (known : Option RightNumber)
+      by_known : (known : Option ℤ)
           → HasAt e (placed_shift known left (format_of k).signed (home a) (home b) (home t) (a.bytes - 1)) pc end → KnownCount known b v
           → (HasAt e (placed_shift None left (format_of k).signed (home a) (home b) (home t) (a.bytes - 1)) pc end
           → Follows p place e n m.state.work pc v o)
@@ -565,18 +569,19 @@ module _ (p : PlainProgram) (e : Env) (slots : ℕ) (home : Temp → Location) (
           → Follows p place e n m.state.work pc v o)
           → Follows p place e n m.state.work pc v o
       by_known None there counted unknown by_number = unknown there
-      by_known (Some number) there counted unknown by_number = by_number (low_bytes 16 number.number % 256) counted there
+      by_known (Some number) there counted unknown by_number = by_number (low_bytes 16 number % 256) counted there
 
   -- ---- by the operator
 
   abbrev OfOperator : BinOp → Type 0
   OfOperator op =
-      (known : Option RightNumber) (ty aty bty : PlainType) (mode : Mode) (c n pc end : ℕ) (t a b : Temp) (need need0 : Need) (m : Mach) (v : View) (o : Outcome Value)
+      (known : Option RightNumber) (ty aty bty : PlainType) (mode : Mode) (c n pc end : ℕ) (t a b : Temp) (need need0 : Need)
+      (m : Mach) (v : View) (o : Outcome Value)
       (r : Value) → Passes known op ty aty bty mode c n pc end t a b need need0 m v o r
 
   by_shift : (left : Bool)
       → ((known : Option RightNumber) (signed : Bool) (a b to : Location) (top : ℕ)
-      → placed_whole known (shift_operator left) signed a b to top ≡ placed_shift known left signed a b to top)
+      → placed_whole known (shift_operator left) signed a b to top ≡ placed_shift (number_known known) left signed a b to top)
       → OfOperator (shift_operator left)
   by_shift left code_is known ty aty bty mode c n pc end t a b need need0 m v o r counted i is other number h more there room onward =
       let first = (and_parts (has_one_format ty aty) (takes_place (shift_operator left) mode (has_one_format aty bty)) is).0 in
@@ -590,9 +595,10 @@ module _ (p : PlainProgram) (e : Env) (slots : ℕ) (home : Temp → Location) (
 
   -- the same by a known number
   by_count : (left : Bool)
-      → ((number : RightNumber) (signed : Bool) (a b to : Location) (top : ℕ)
-      → placed_whole (Some number) (shift_operator left) signed a b to top ≡ placed_shift (Some number) left signed a b to top)
-      → (number : RightNumber) (second : ℕ) (ty aty bty : PlainType) (mode : Mode) (c n pc end : ℕ) (t a b : Temp) (need need0 : Need)
+      → ((number : TakenNumber) (signed : Bool) (a b to : Location) (top : ℕ)
+      → placed_whole (Some (as_known number)) (shift_operator left) signed a b to top
+      ≡ placed_shift (Some number.number) left signed a b to top)
+      → (number : TakenNumber) (second : ℕ) (ty aty bty : PlainType) (mode : Mode) (c n pc end : ℕ) (t a b : Temp) (need need0 : Need)
       (m : Mach) (v : View) (o : Outcome Value) (r : Value)
       → PassesBy number second (shift_operator left) ty aty bty mode c n pc end t a b need need0 m v o r
   by_count left code_is number second ty aty bty mode c n pc end t a b need need0 m v o r below low i is result h more there room onward =
@@ -605,7 +611,7 @@ module _ (p : PlainProgram) (e : Env) (slots : ℕ) (home : Temp → Location) (
       (subst (λ q. HasAt e q pc end) (code_is number (format_of one.kind).signed (home a) (home b) (home t) (a.bytes - 1)) there)
       below low i is result h more there room onward))) below low i is result h more there room onward
 
-  pub count_passes : (op : BinOp) → is_shift op ≡ true → (number : RightNumber) (second : ℕ) (ty aty bty : PlainType) (mode : Mode)
+  pub count_passes : (op : BinOp) → is_shift op ≡ true → (number : TakenNumber) (second : ℕ) (ty aty bty : PlainType) (mode : Mode)
       (c n pc end : ℕ) (t a b : Temp) (need need0 : Need) (m : Mach) (v : View) (o : Outcome Value) (r : Value)
       → PassesBy number second op ty aty bty mode c n pc end t a b need need0 m v o r
   count_passes Shl h = by_count true (λ k q w x z u. refl)

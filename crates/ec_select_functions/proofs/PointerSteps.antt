@@ -1,11 +1,10 @@
 -- Operators and conversions of pointers: what their code does for them.
 use Rattle.std.proofs.Common.{◌≡◌, ◌≢◌, ℕ, zero, suc, ◌+◌, ◌*◌, ◌%◌, ◌^◌, ◌<◌, ◌≤◌, inl, inr, ⊎_elim}
 use Rattle.std.proofs.Common.{Bool, true, false, ◌&&◌, ◌||◌, ℤ, pos, ◌*ℤ◌, List, [], ◌∷◌, ◌++◌, Option, Some, None}
-use Rattle.std.proofs.Common.{Result, Ok, Err}
-use Rattle.std.proofs.Common.{refl, sym, ap, ◌∙◌, subst, arith}
-use Rattle.std.specs.Prelude.{◌==◌, if◌then◌else◌, slice_get, slice_index}
+use Rattle.std.proofs.Common.{Result, Ok, Err, refl, sym, ap, ◌∙◌, subst, arith, append-nil, ◌⊎◌}
+use Rattle.std.specs.Prelude.{◌==◌, nat_le, if◌then◌else◌, slice_get, slice_index, not}
 use Rattle.std.specs.Int.{from_bool}
-use Rattle.std.proofs.lemmas.Bool.{cases_lt, eqb-true, eq-eqb, and_parts}
+use Rattle.std.proofs.lemmas.Bool.{cases_lt, eqb-true, leb-true, leb-false, cases_eq, false≢true, and_parts, eq-eqb}
 use Rattle.std.proofs.lemmas.Nat.{mod_below}
 use Rattle.ec_fx.specs.declared.numbers.Mode.{Mode}
 use Rattle.ec_space.specs.declared.Core.{Core}
@@ -17,7 +16,7 @@ use Rattle.ec_space.specs.declared.space.SpaceId.TheVariants.{Flash, FarFlash, D
 use Rattle.ec_space.specs.Spaces.{bank_of, width}
 use Rattle.ec_asm.specs.declared.items.AsmItem.{AsmItem}
 use Rattle.ec_asm.specs.declared.pieces.Location.{Location}
-use Rattle.ec_asm.specs.declared.pieces.Location.TheVariants.{InRegisters}
+use Rattle.ec_asm.specs.declared.pieces.Location.TheVariants.{InRegisters, InMemory}
 use Rattle.ec_asm.specs.View.{View}
 use Rattle.ec_asm.specs.Change.{Env, Own}
 use Rattle.ec_asm.specs.Items.{HasAt, block, all_straight, code_steps}
@@ -61,6 +60,8 @@ use Rattle.ec_select_places.specs.Numbers.{Place, number_of, IsPlace, places_sta
 use Rattle.ec_select_order.specs.Relations.{relation_code}
 use Rattle.ec_select_order.specs.Laws.{Tells}
 use Rattle.ec_select_places.specs.Steps.{scale_index_code, advance_code}
+use Rattle.ec_select_places.specs.Indexes.{is_addend, can_add, add_index_code}
+use Rattle.ec_select_places.specs.IndexLaws.{Adds}
 use Rattle.ec_select_places.specs.Far.{advance_far_code}
 use Rattle.ec_select_places.specs.FarLaws.{IsFarPlace, MayRelate, LeavesWork, far_moved_by}
 use Rattle.ec_select_places.specs.StepLaws.{LeavesZ, Scales, Advances, index_of, moved_by}
@@ -79,12 +80,15 @@ use Rattle.ec_select_operations.specs.Code.{Linkage, own_code, tells_next, ops_c
 use Rattle.ec_select_operations.specs.Code.{is_only_tested}
 use Rattle.ec_select_operations.specs.Code.{wanted_bytes}
 use Rattle.ec_select_operations.specs.Code.{move_code, conversion_code, is_far, moved_code, offset_code, is_difference}
+use Rattle.ec_select_operations.specs.Code.{takes_index, indexed_code}
 use Rattle.ec_select_operations.specs.Code.{related_bytes, member_code, known_index, known_bytes, known_offset, known_offset_code}
 use Rattle.ec_select_operations.specs.Code.{pointers_code}
 use Rattle.ec_select_functions.specs.Covered.{IsPointerBinary, IsPointerConversion}
 use Rattle.ec_select_operations.specs.Homes.{HasHome}
-use Rattle.ec_select_operations.specs.Needs.{Need, Facts, is_fixed, is_whole, facts_of, before, needs, wanted, at_least, without, all_or_none}
-use Rattle.ec_select_operations.specs.Needs.{first_wanted, second_wanted, first_bytes, number_taken, moves_pointer, right_taken, right_needed}
+use Rattle.ec_select_operations.specs.Needs.{Need, Facts, is_fixed, is_whole, facts_of, before, needs, wanted, at_least}
+use Rattle.ec_select_operations.specs.Needs.{without, all_or_none}
+use Rattle.ec_select_operations.specs.Needs.{first_wanted, second_wanted, compared_bytes, number_taken, moves_pointer, right_taken}
+use Rattle.ec_select_operations.specs.Needs.{right_needed, number_known}
 use Rattle.ec_select_operations.specs.Places.{Apart, IsClear}
 use Rattle.ec_select_operations.specs.Pointers.{is_into_data, IsPointerIn, IsPointerSize, home_of}
 use Rattle.ec_select_functions.specs.Relation.{FramesStand, Matches, HoldsContent}
@@ -102,7 +106,8 @@ use Rattle.ec_select_functions.proofs.Transfers.{Brought}
 use Rattle.ec_select_functions.proofs.Numeric.{from_numeric}
 use Rattle.ec_select_functions.proofs.PointerNumbers.{HavePlaces, AreApartIn, objects_have_places, place_of, tag_byte}
 use Rattle.ec_select_functions.proofs.PointerNumbers.{IsAddressed, IsIntoSpace}
-use Rattle.ec_select_functions.proofs.PointerNumbers.{places_core, low_address, offset_small, is_place, is_far_place, address_is, number_below}
+use Rattle.ec_select_functions.proofs.PointerNumbers.{places_core, low_address, offset_small, is_place, is_far_place}
+use Rattle.ec_select_functions.proofs.PointerNumbers.{address_is, number_below}
 use Rattle.ec_select_functions.proofs.PointerNumbers.{MayCompare, compared_alike, converted_home, far_advanced_is}
 use Rattle.ec_select_functions.proofs.PointerNumbers.{places_compare, comparison_is}
 use Rattle.ec_select_functions.proofs.PointerNumbers.{Distance, difference_is, IsMoved, moved_is, IsIndex, index_is}
@@ -110,6 +115,7 @@ use Rattle.ec_select_functions.proofs.PointerNumbers.{moved_elements, offset_mov
 use Rattle.ec_select_functions.proofs.PointerNumbers.{advanced_is, in_space_is, low_numbers, low_is_offset, embedded_is}
 use Rattle.ec_select_functions.proofs.Related.{told_matches}
 use Rattle.ec_select_functions.proofs.Setting.{Setting, together}
+use Rattle.ec_select_functions.proofs.Taken.{TakenNumber, as_known, no_number, HasNumber, number_or_none}
 use Rattle.ec_select_functions.proofs.Wrapped.{low_below, kept_below}
 
 -- ---- bytes
@@ -219,6 +225,94 @@ module _ (p : PlainProgram) (e : Env) (slots : ℕ) (home : Temp → Location) (
 
   -- ---- pointers that are moved
 
+  -- a pointer that has been moved in its object stands at the place of a result
+  moved_written : (t a : Temp) (c : ℕ) (q : ObjectPointer) (bytes : ℤ) (z : PointerValue) (need need0 : Need) (m : Mach) (v w : View)
+      → HasHome slots t → t.bytes ≡ a.bytes → IsPointerIn p a.bytes q → (moves : IsMoved p q bytes z)
+      → ((u : ℕ) → u ≢ t.at → need u ≤ need0 u) → Shown need0 m v
+      → value w.at (base t) a.bytes ≡ number_of (place_of p place a.bytes (Some moves.to)) → HoldsNumbers w
+      → Wide v w (base t) t.bytes → w.inputs ≡ v.inputs → w.safe ≡ v.safe → w.seen ≡ v.seen
+      → Shown need (machine (with_content t (content_of t.bytes (Pointer z)) m.temps) (worked c m.state)) w
+  moved_written t a c q bytes z need need0 m v w it same i moves more h number numbers frame inputs safe seen =
+      subst (λ (x : PointerValue). Shown need (machine (with_content t (content_of t.bytes (Pointer x)) m.temps)
+      (worked c m.state)) w) (sym moves.is)
+      (written_wide p e slots home base place y t (points moves.to) need need0 m (worked c m.state) v w it h more
+      frame held numbers refl (seen ∙ h.seen) (kept_left y.inputs m.state v w inputs h.left) (safe ∙ h.safe))
+    where
+      new_number : value w.at (base t) t.bytes ≡ number_of (place_of p place t.bytes (Some moves.to))
+      new_number = subst (λ (n : ℕ). value w.at (base t) n ≡ number_of (place_of p place n (Some moves.to))) (sym same) number
+
+      target : IsPointerIn p t.bytes moves.to
+      target = subst (λ (n : ℕ). IsPointerIn p n moves.to) (sym same) (moved_pointer p a.bytes q bytes z i moves)
+
+      held : HoldsContent p place w.at (base t) (wanted need t) t.bytes (points moves.to)
+      held = holds_pointer w.at (base t) (wanted need t) t.bytes (Some moves.to) target
+          (less_value w.at (base t) t.bytes (wanted need t) (number_of (place_of p place t.bytes (Some moves.to)))
+          (wanted_most need t) (held_row w (base t) t.bytes (y.layout.temps_at t it).clear numbers)
+          (new_number ∙ sym (kept_below (number_of (place_of p place t.bytes (Some moves.to))) (256 ^ t.bytes)
+          (number_below p place have t.bytes (Some moves.to) target.size target))))
+
+  -- a pointer without a whole address is moved by its low two bytes, and a third one stays
+  near_number : (core : Core) → core ≡ e.core → (minus : Bool) (b bytes size taken : ℕ) (k : ℤ) (q : ObjectPointer) (z : PointerValue)
+      (v w : View) → is_far core bytes ≡ false → 2 ≤ b → IsPointerIn p bytes q → IsIndex k taken
+      → (moves : IsMoved p q (moved_elements minus k *ℤ pos size) z) → HoldsNumbers v
+      → value v.at b bytes ≡ number_of (place_of p place bytes (Some q))
+      → value w.at b 2 ≡ moved_by minus (value v.at b 2) (taken * (size % 65536) % 65536)
+      → (bytes ≡ 3 → w.at (b + 2) ≡ v.at (b + 2)) → value w.at b bytes ≡ number_of (place_of p place bytes (Some moves.to))
+  near_number core one_core minus b bytes size taken k q z v w is_near some i ix moves numbers before behind third_kept =
+      ⊎_elim without_tag with_tag i.size
+    where
+      to_number : ℕ
+      to_number = number_of (place_of p place bytes (Some moves.to))
+
+      two : 2 ≤ bytes
+      two = ⊎_elim (λ (r : bytes ≡ 2). omega arith) (λ (r : bytes ≡ 3). omega arith) i.size
+
+      object : place moves.to.object ≡ place q.object
+      object = ap place moves.object
+
+      place_from : ℕ
+      place_from = place q.object + q.offset
+
+      small_from : place_from < 65536
+      small_from = low_address p place have core bytes q (one_core ∙ sym have_core) i is_near
+
+      small_to : place q.object + moves.to.offset < 65536
+      small_to = subst (λ (n : ℕ). n + moves.to.offset < 65536) object
+          (low_address p place have core bytes moves.to (one_core ∙ sym have_core)
+          (moved_pointer p bytes q (moved_elements minus k *ℤ pos size) z i moves) is_near)
+
+      -- the address before, and the address behind
+      address_before : value v.at b 2 ≡ place_from
+      address_before =
+          less_value v.at b bytes 2 (number_of (place_of p place bytes (Some q))) two (held_row v b bytes some numbers)
+          (before ∙ sym (kept_below (number_of (place_of p place bytes (Some q))) (256 ^ bytes)
+          (number_below p place have bytes (Some q) i.size i)))
+          ∙ low_is_offset p place have bytes q small_from
+
+      address_behind : value w.at b 2 ≡ place q.object + moves.to.offset
+      address_behind =
+          behind ∙ ap (λ (n : ℕ). moved_by minus n (taken * (size % 65536) % 65536)) address_before
+          ∙ advanced_is minus k taken (place q.object) q.offset moves.to.offset size ix moves.offset small_from small_to
+
+      without_tag : bytes ≡ 2 → value w.at b bytes ≡ to_number
+      without_tag r =
+          subst (λ (n : ℕ). value w.at b n ≡ number_of (place_of p place n (Some moves.to))) (sym r)
+          (address_behind ∙ ap (λ (o : ℕ). o + moves.to.offset) (sym object) ∙ omega arith)
+
+      third : (x y z w a b t : ℕ) → x ≡ b → y ≡ w → z ≡ a → z + w * 65536 ≡ a + t * 65536 → x + y * 65536 ≡ b + t * 65536
+      third x y z w a b t p q r s = omega (arith, p, q, r, s)
+
+      with_tag : bytes ≡ 3 → value w.at b bytes ≡ to_number
+      with_tag r =
+          let full : value v.at b 3 ≡ number_of (place_of p place 3 (Some q)) =
+          subst (λ (n : ℕ). value v.at b n ≡ number_of (place_of p place n (Some q))) r before in
+          let tag3 : tag_byte 3 (home_of p moves.to.object) ≡ tag_byte 3 (home_of p q.object) =
+          ap (λ (o : ℕ). tag_byte 3 (home_of p o)) moves.object in
+          subst (λ (n : ℕ). value w.at b n ≡ number_of (place_of p place n (Some moves.to))) (sym r)
+          (third (value w.at b 2) (w.at (b + 2)) (value v.at b 2) (v.at (b + 2))
+          place_from (place q.object + moves.to.offset) (tag_byte 3 (home_of p q.object))
+          address_behind (third_kept r) address_before full ∙ (rw (object, tag3) refl))
+
   -- a pointer of so many bytes that has been moved. All else is kept but R0, R1, R8 to R11 and the flags
   record IsAdvanced (v : View) (b n number : ℕ) (w : View) : Type 0 where
     number_is : value w.at b n ≡ number
@@ -238,13 +332,10 @@ module _ (p : PlainProgram) (e : Env) (slots : ℕ) (home : Temp → Location) (
       (block e (scale_index_code (home b) signed b.bytes (size % 65536)
       ++ (move_code (home a) (home t) a.bytes ++ moved_code core a.bytes minus (home t))) v)
   offset_matches core one_core minus signed t a b size c low k q z need need0 m v it ia ib same i number index ix moves more h =
-      subst (λ (x : PointerValue). Shown need (machine (with_content t (content_of t.bytes (Pointer x)) m.temps)
-      (worked c m.state)) (block e (scale ++ (move ++ advance)) v)) (sym moves.is)
-      (subst (λ (x : View). Shown need (machine (with_content t (points moves.to) m.temps) (worked c m.state)) x) (sym whole_block)
-      (written_wide p e slots home base place y t (points moves.to) need need0 m (worked c m.state) v v3 it h more
-      frame held ad.numbers refl
-      (ad.seen ∙ mv.seen ∙ sc.seen ∙ h.seen) (kept_left y.inputs m.state v v3 (ad.inputs ∙ mv.inputs ∙ sc.inputs)
-      h.left) (ad.safe ∙ mv.safe ∙ sc.safe ∙ h.safe)))
+      subst (λ (x : View). Shown need (machine (with_content t (content_of t.bytes (Pointer z)) m.temps) (worked c m.state)) x)
+      (sym whole_block)
+      (moved_written t a c q (moved_elements minus k *ℤ pos size) z need need0 m v v3 it same i moves more h ad.number_is ad.numbers frame
+      (ad.inputs ∙ mv.inputs ∙ sc.inputs) (ad.safe ∙ mv.safe ∙ sc.safe) (ad.seen ∙ mv.seen ∙ sc.seen))
     where
       scale : List AsmItem
       scale = scale_index_code (home b) signed b.bytes (size % 65536)
@@ -347,7 +438,9 @@ module _ (p : PlainProgram) (e : Env) (slots : ℕ) (home : Temp → Location) (
       near : is_far core a.bytes ≡ false → IsAdvanced v2 (base t) a.bytes to_number (block e (advance_code minus (home t)) v2)
       near is_near =
           record {
-            number_is = ⊎_elim without_tag with_tag i.size;
+            number_is = near_number core one_core minus (base t) a.bytes size (index_of signed b.bytes low) k q z v2 w is_near some_t i ix
+                moves numbers2 number_before (advances.number_is ∙ ap (moved_by minus (value v2.at (base t) 2)) index_there)
+                (λ r. keeps.same (base t + 2) (omega (arith, some_t)) (omega (arith, some_t)) (λ o. omega arith));
             numbers = advances.numbers;
             same = λ k r0 r1 low_off o. keeps.same k r0 r1 (narrower (base t) a.bytes 2 k two o);
             inputs = keeps.inputs;
@@ -364,53 +457,6 @@ module _ (p : PlainProgram) (e : Env) (slots : ℕ) (home : Temp → Location) (
 
           keeps : Keeps v2 w (base t) 2
           keeps = advances.keeps
-
-          place_from : ℕ
-          place_from = place q.object + q.offset
-
-          small_from : place_from < 65536
-          small_from = low_address p place have core a.bytes q (one_core ∙ sym have_core) i is_near
-
-          small_to : place q.object + moves.to.offset < 65536
-          small_to = subst (λ (n : ℕ). n + moves.to.offset < 65536) object (low_address p place have core a.bytes moves.to (one_core ∙ sym have_core)
-              moved_in is_near)
-
-          -- the address before, and the address behind
-          address_before : value v2.at (base t) 2 ≡ place_from
-          address_before =
-              less_value v2.at (base t) a.bytes 2 (number_of (place_of p place a.bytes (Some q))) two
-              (held_row v2 (base t) a.bytes some_t numbers2)
-              (number_before ∙ sym (kept_below (number_of (place_of p place a.bytes (Some q))) (256 ^ a.bytes)
-              (number_below p place have a.bytes (Some q) i.size i)))
-              ∙ low_is_offset p place have a.bytes q small_from
-
-          address_behind : value w.at (base t) 2 ≡ place q.object + moves.to.offset
-          address_behind =
-              advances.number_is ∙ ap (λ (n : ℕ). moved_by minus n (value v2.at 30 2)) address_before
-              ∙ ap (moved_by minus place_from) index_there
-              ∙ advanced_is minus k (index_of signed b.bytes low) (place q.object) q.offset moves.to.offset size ix moves.offset
-              small_from small_to
-
-          without_tag : a.bytes ≡ 2 → value w.at (base t) a.bytes ≡ to_number
-          without_tag r =
-              subst (λ (n : ℕ). value w.at (base t) n ≡ number_of (place_of p place n (Some moves.to))) (sym r)
-              (address_behind ∙ ap (λ (o : ℕ). o + moves.to.offset) (sym object) ∙ omega arith)
-
-          third : (x y z w a b t : ℕ) → x ≡ b → y ≡ w → z ≡ a → z + w * 65536 ≡ a + t * 65536 → x + y * 65536 ≡ b + t * 65536
-          third x y z w a b t p q r s = omega (arith, p, q, r, s)
-
-          with_tag : a.bytes ≡ 3 → value w.at (base t) a.bytes ≡ to_number
-          with_tag r =
-              let last : w.at (base t + 2) ≡ v2.at (base t + 2) =
-              keeps.same (base t + 2) (omega (arith, some_t)) (omega (arith, some_t)) (λ o. omega arith) in
-              let full : value v2.at (base t) 3 ≡ number_of (place_of p place 3 (Some q)) =
-              subst (λ (n : ℕ). value v2.at (base t) n ≡ number_of (place_of p place n (Some q))) r number_before in
-              let tag3 : tag_byte 3 (home_of p moves.to.object) ≡ tag_byte 3 (home_of p q.object) =
-              ap (λ (o : ℕ). tag_byte 3 (home_of p o)) moves.object in
-              subst (λ (n : ℕ). value w.at (base t) n ≡ number_of (place_of p place n (Some moves.to))) (sym r)
-              (third (value w.at (base t) 2) (w.at (base t + 2)) (value v2.at (base t) 2) (v2.at (base t + 2))
-              place_from (place q.object + moves.to.offset) (tag_byte 3 (home_of p q.object))
-              address_behind last address_before full ∙ (rw (object, tag3) refl))
 
       -- by all three
       far : is_far core a.bytes ≡ true → IsAdvanced v2 (base t) a.bytes to_number (block e (advance_far_code minus (home t)) v2)
@@ -444,10 +490,12 @@ module _ (p : PlainProgram) (e : Env) (slots : ℕ) (home : Temp → Location) (
               (leaves_z (base t) t.bytes 3 (omega (arith, same, three)) clear_t) (work three) numbers2 in
               let full : value v2.at (base t) 3 ≡ from + q.offset =
               subst (λ (n : ℕ). value v2.at (base t) n ≡ number_of (place_of p place a.bytes (Some q))) three number_before ∙ omega arith in
-              let limit = subst (λ (n : ℕ). to_number < 256 ^ n) three (number_below p place have a.bytes (Some moves.to) i.size moved_in) in
+              let limit = subst (λ (n : ℕ). to_number < 256 ^ n) three
+              (number_below p place have a.bytes (Some moves.to) i.size moved_in) in
               let is_to : from + moves.to.offset ≡ to_number = (rw (object, tag) (omega arith)) in
               let small : from + moves.to.offset < 16777216 = omega (arith, limit, is_to) in
-              let behind : far_moved_by minus (from + q.offset) (index_of signed b.bytes low * (size % 65536) % 65536) ≡ from + moves.to.offset =
+              let behind : far_moved_by minus (from + q.offset) (index_of signed b.bytes low * (size % 65536) % 65536)
+              ≡ from + moves.to.offset =
               far_advanced_is minus k (index_of signed b.bytes low) from q.offset moves.to.offset size ix moves.offset
               (offset_small p place have q i.pointed) (offset_small p place have moves.to moves.pointed) small in
               record {
@@ -464,28 +512,155 @@ module _ (p : PlainProgram) (e : Env) (slots : ℕ) (home : Temp → Location) (
       ad = by_core (is_far core a.bytes) refl
         where
           by_core : (b : Bool) → is_far core a.bytes ≡ b
-              → IsAdvanced v2 (base t) a.bytes to_number (block e (if b then advance_far_code minus (home t) else advance_code minus (home t)) v2)
+              → IsAdvanced v2 (base t) a.bytes to_number
+              (block e (if b then advance_far_code minus (home t) else advance_code minus (home t)) v2)
           by_core true q = far q
           by_core false q = near q
-
-      new_number : value v3.at (base t) t.bytes ≡ number_of (place_of p place t.bytes (Some moves.to))
-      new_number = subst (λ (n : ℕ). value v3.at (base t) n ≡ number_of (place_of p place n (Some moves.to))) (sym same) ad.number_is
-
-      target : IsPointerIn p t.bytes moves.to
-      target = subst (λ (n : ℕ). IsPointerIn p n moves.to) (sym same) moved_in
-
-      held : HoldsContent p place v3.at (base t) (wanted need t) t.bytes (points moves.to)
-      held = holds_pointer v3.at (base t) (wanted need t) t.bytes (Some moves.to) target
-          (less_value v3.at (base t) t.bytes (wanted need t) (number_of (place_of p place t.bytes (Some moves.to)))
-          (wanted_most need t) (held_row v3 (base t) t.bytes some_t ad.numbers)
-          (new_number ∙ sym (kept_below (number_of (place_of p place t.bytes (Some moves.to))) (256 ^ t.bytes)
-          (number_below p place have t.bytes (Some moves.to) target.size target))))
 
       frame : Wide v v3 (base t) t.bytes
       frame k r0 r1 low_off high_off o =
           ad.same k r0 r1 (λ u. let z = low_off u in omega arith) (subst (λ (n : ℕ). Outside (base t) n k) same o)
           ∙ mv.same k r0 (subst (λ (n : ℕ). Outside (base t) n k) same o)
           ∙ sc.same k r0 r1 (λ u. let z = low_off u in omega arith) (λ u. let z = high_off (omega arith) in omega arith)
+
+  -- the code moves a pointer by an index as it stands
+  pub indexed_matches : (core : Core) → core ≡ e.core → (minus signed : Bool) (t a b : Temp) (size c low : ℕ) (k : ℤ) (q : ObjectPointer)
+      (z : PointerValue) (need need0 : Need) (m : Mach) (v : View) → HasHome slots t → HasHome slots a → HasHome slots b → t.bytes ≡ a.bytes
+      → takes_index core signed (home b) (home t) a.bytes b.bytes (size % 65536) ≡ true
+      → IsPointerIn p a.bytes q → value v.at (base a) a.bytes ≡ number_of (place_of p place a.bytes (Some q))
+      → value v.at (base b) b.bytes ≡ low → IsIndex k (index_of signed b.bytes low)
+      → IsMoved p q (moved_elements minus k *ℤ pos size) z → ((u : ℕ) → u ≢ t.at → need u ≤ need0 u) → Shown need0 m v
+      → Shown need (machine (with_content t (content_of t.bytes (Pointer z)) m.temps) (worked c m.state))
+      (block e (indexed_code minus (home a) (home b) (home t) a.bytes b.bytes (size % 65536)) v)
+  indexed_matches core one_core minus signed t a b size c low k q z need need0 m v it ia ib same takes i number index ix moves more h =
+      subst (λ (x : View). Shown need (machine (with_content t (content_of t.bytes (Pointer z)) m.temps) (worked c m.state)) x)
+      (sym (block-append e move add v))
+      (moved_written t a c q (moved_elements minus k *ℤ pos size) z need need0 m v v2 it same i moves more h behind ad.numbers frame
+      (ad.inputs ∙ mv.inputs) (ad.safe ∙ mv.safe) (ad.seen ∙ mv.seen))
+    where
+      move : List AsmItem
+      move = move_code (home a) (home t) a.bytes
+
+      add : List AsmItem
+      add = add_index_code minus (home b) (home t) b.bytes (size % 65536)
+
+      v1 : View
+      v1 = block e move v
+
+      v2 : View
+      v2 = block e add v1
+
+      parts : (not (is_far core a.bytes) ≡ true) × (can_add signed (home b) (home t) b.bytes (size % 65536) ≡ true)
+      parts = and_parts (not (is_far core a.bytes)) (can_add signed (home b) (home t) b.bytes (size % 65536)) takes
+
+      is_near : is_far core a.bytes ≡ false
+      is_near = not_true (is_far core a.bytes) parts.0
+        where
+          not_true : (x : Bool) → not x ≡ true → x ≡ false
+          not_true true h = absurd cc
+          not_true false h = refl
+
+      two : 2 ≤ a.bytes
+      two = ⊎_elim (λ (r : a.bytes ≡ 2). omega arith) (λ (r : a.bytes ≡ 3). omega arith) i.size
+
+      clear_t : IsClear (base t) t.bytes
+      clear_t = y.layout.temps_work t it
+
+      clear_b : IsClear (base b) b.bytes
+      clear_b = y.layout.temps_work b ib
+
+      some_a : 2 ≤ base a
+      some_a = (y.layout.temps_at a ia).clear
+
+      some_b : 2 ≤ base b
+      some_b = (y.layout.temps_at b ib).clear
+
+      some_t : 2 ≤ base t
+      some_t = (y.layout.temps_at t it).clear
+
+      to_stands : StandsFrom e (home t) a.bytes (base t) Own
+      to_stands = subst (λ (n : ℕ). StandsFrom e (home t) n (base t) Own) same (y.layout.temps_at t it)
+
+      mv : Brought v (base a) (base t) a.bytes v1
+      mv = move_brings e (home a) (home t) a.bytes (base a) (base t) v (y.layout.temps_at a ia) to_stands
+          (read_first p e slots home base place y t a a.bytes it ia (omega arith)) h.bytes
+
+      -- R26 is of neither
+      off_pair : (t : Temp) → IsClear (base t) t.bytes → Outside (base t) t.bytes 26
+      off_pair t clear o = ⊎_elim (λ (x : base t < 26). let z = clear.high.left x in omega arith)
+          (λ (x : 26 ≤ base t). let z = clear.high.right x in absurd (omega arith)) (cases_lt (base t) 26)
+
+      -- and the index is none of the result's bytes
+      apart : Apart (base t) t.bytes (base b) b.bytes
+      apart = ⊎_elim
+          (λ (r : t.at ≡ b.at). ⊎_elim
+          (λ (x : base t ≡ base b). absurd (other_register (home b) (home t) (y.layout.temps_at b ib) (y.layout.temps_at t it) x parts.1))
+          (λ (x : Apart (base t) t.bytes (base b) b.bytes). x) (y.layout.temps_again t b it ib r))
+          (λ (r : t.at ≢ b.at). y.layout.temps_apart t b it ib r)
+          (cases_eq t.at b.at)
+        where
+          other_register : (p q : Location) → StandsFrom e p b.bytes (base b) Own → StandsFrom e q t.bytes (base t) Own → base t ≡ base b
+              → can_add signed p q b.bytes (size % 65536) ≡ true → ⊥
+          other_register (InRegisters r) (InRegisters d) sp sq x can =
+              let z = sp.at 0 ib.some in
+              let w = sq.at 0 it.some in
+              let equal : r ≡ d = omega (arith, x, z, w) in
+              false≢true (ap not (sym (eq-eqb r d equal))
+              ∙ (and_parts (not (r == d)) (is_addend signed b.bytes (size % 65536)) can).0)
+          other_register (InRegisters r) (InMemory o k) sp sq x can = absurd cc
+          other_register (InMemory o k) (InRegisters d) sp sq x can = absurd cc
+          other_register (InMemory o k) (InMemory u j) sp sq x can = absurd cc
+
+      outside : (j : ℕ) → j < b.bytes → Outside (base t) t.bytes (base b + j)
+      outside j l o = ⊎_elim (λ (x : base t < base b). let z = apart.left x in omega arith)
+          (λ (x : base b ≤ base t). let z = apart.right x in absurd (omega arith)) (cases_lt (base t) (base b))
+
+      index_kept : (j : ℕ) → j < b.bytes → v1.at (base b + j) ≡ v.at (base b + j)
+      index_kept j l =
+          mv.same (base b + j) (omega (arith, some_b)) (subst (λ (n : ℕ). Outside (base t) n (base b + j)) same (outside j l))
+
+      numbers1 : HoldsNumbers v1
+      numbers1 = numbers_kept v v1 (base t) a.bytes h.bytes (λ k x z w o. mv.same k x o)
+          (λ j l. subst (λ (n : ℕ). n < 256) (sym (mv.there j l)) (held_row v (base a) a.bytes some_a h.bytes j l))
+          (subst (λ (n : ℕ). n < 256) (sym (z_kept 30 (omega arith) (omega arith))) (h.bytes 30 (omega arith)))
+        where
+          z_kept : (k : ℕ) → 30 ≤ k → k < 32 → v1.at k ≡ v.at k
+          z_kept k l u =
+              let z = leaves_z (base t) t.bytes t.bytes (omega arith) clear_t in
+              mv.same k (omega arith) (subst (λ (n : ℕ). Outside (base t) n k) same (off k l u))
+            where
+              off : (k : ℕ) → 30 ≤ k → k < 32 → Outside (base t) t.bytes k
+              off k l u o = ⊎_elim (λ (x : base t < 26). let z = clear_t.high.left x in omega arith)
+                  (λ (x : 26 ≤ base t). let z = clear_t.high.right x in absurd (omega arith)) (cases_lt (base t) 26)
+
+      ad : Adds v1 (base t) (moved_by minus (value v1.at (base t) 2)
+          (index_of signed b.bytes (value v1.at (base b) b.bytes) * (size % 65536) % 65536)) v2
+      ad = y.pointers.added minus signed e (home b) (home t) b.bytes (size % 65536) (base b) (base t) v1 (y.layout.temps_at b ib)
+          (stands_less e (home t) a.bytes 2 (base t) Own two to_stands) ib.some (off_pair b clear_b)
+          (narrower (base t) t.bytes 2 26 (omega (arith, two, same)) (off_pair t clear_t))
+          (λ j l. narrower (base t) t.bytes 2 (base b + j) (omega (arith, two, same)) (outside j l)) parts.1 numbers1
+
+      number_before : value v1.at (base t) a.bytes ≡ number_of (place_of p place a.bytes (Some q))
+      number_before = row_value v1.at v.at (base a) (base t) a.bytes mv.there ∙ number
+
+      index_there : value v1.at (base b) b.bytes ≡ low
+      index_there = row_value v1.at v.at (base b) (base b) b.bytes index_kept ∙ index
+
+      behind : value v2.at (base t) a.bytes ≡ number_of (place_of p place a.bytes (Some moves.to))
+      behind = near_number core one_core minus (base t) a.bytes size (index_of signed b.bytes low) k q z v1 v2 is_near some_t i ix moves
+          numbers1 number_before
+          (ad.number_is
+          ∙ ap (λ (n : ℕ). moved_by minus (value v1.at (base t) 2) (index_of signed b.bytes n * (size % 65536) % 65536)) index_there)
+          (λ r. ad.same (base t + 2) (omega (arith, some_t)) (omega (arith, some_t)) (third_off r) (λ o. omega arith))
+        where
+          third_off : a.bytes ≡ 3 → base t + 2 ≢ 26
+          third_off r x = let o = off_pair t clear_t in let z = o (omega (arith, x)) in omega (arith, z, r, same, x)
+
+      frame : Wide v v2 (base t) t.bytes
+      frame k r0 r1 low_off high_off o =
+          ad.same k r0 r1 (λ (x : k ≡ 26). let z = high_off (omega (arith, x)) in omega (arith, z, x))
+          (narrower (base t) t.bytes 2 k (omega (arith, two, same)) o)
+          ∙ mv.same k r0 (subst (λ (n : ℕ). Outside (base t) n k) same o)
 
   -- ---- pointers that are moved by known numbers
 
@@ -665,7 +840,8 @@ module _ (p : PlainProgram) (e : Env) (slots : ℕ) (home : Temp → Location) (
               let whole = y.pointers.far.fields e (home t) offset (base t) v1 stands (off_target 3 (omega (arith, three))) numbers1 in
               let full : value v1.at (base t) 3 ≡ from + q.offset =
               subst (λ (n : ℕ). value v1.at (base t) n ≡ number_of (place_of p place a.bytes (Some q))) three number_before ∙ omega arith in
-              let limit = subst (λ (n : ℕ). to_number < 256 ^ n) three (number_below p place have a.bytes (Some moves.to) i.size moved_in) in
+              let limit = subst (λ (n : ℕ). to_number < 256 ^ n) three
+              (number_below p place have a.bytes (Some moves.to) i.size moved_in) in
               let is_to : from + moves.to.offset ≡ to_number = (rw (object, tag) (omega arith)) in
               let small : from + moves.to.offset < 16777216 = omega (arith, limit, is_to) in
               let behind : far_moved_by minus (from + q.offset) distance ≡ from + moves.to.offset =
@@ -769,7 +945,7 @@ module _ (p : PlainProgram) (e : Env) (slots : ℕ) (home : Temp → Location) (
 
   -- the code brings a pointer of as many bytes or more to its place
   pub moved_matches : (t a : Temp) (c : ℕ) (x : PointerValue) (need need0 : Need) (m : Mach) (v : View) → HasHome slots t → HasHome slots a
-      → t.bytes ≤ a.bytes → IsPointerSize a.bytes → IsPointerSize t.bytes → IsAddressed p t.bytes x
+      → wanted need t ≤ a.bytes → IsPointerSize a.bytes → IsPointerSize t.bytes → IsAddressed p t.bytes x
       → value v.at (base a) (wanted need t) ≡ number_of (place_of p place a.bytes x) % 256 ^ wanted need t
       → ((u : ℕ) → u ≢ t.at → need u ≤ need0 u) → Shown need0 m v
       → Shown need (machine (with_content t (content_of t.bytes (Pointer x)) m.temps) (worked c m.state))
@@ -790,19 +966,25 @@ module _ (p : PlainProgram) (e : Env) (slots : ℕ) (home : Temp → Location) (
 
       mv : Brought v (base a) (base t) w v1
       mv = move_brings e (home a) (home t) w (base a) (base t) v (stands_less e (home a) a.bytes w (base a) Own
-          (omega (arith, most, less)) (y.layout.temps_at a ia))
+          less (y.layout.temps_at a ia))
           (stands_less e (home t) t.bytes w (base t) Own most (y.layout.temps_at t it))
-          (read_first p e slots home base place y t a w it ia (omega (arith, most, less))) h.bytes
+          (read_first p e slots home base place y t a w it ia less) h.bytes
+
+      -- where a third byte is brought, both have one
+      same_size : 3 ≤ w → a.bytes ≡ t.bytes
+      same_size l =
+          ⊎_elim
+          (λ (r : a.bytes ≡ 2). absurd (omega (arith, l, r, less)))
+          (λ (r : a.bytes ≡ 3).
+          ⊎_elim (λ (s : t.bytes ≡ 2). absurd (omega (arith, l, s, most))) (λ (s : t.bytes ≡ 3). r ∙ sym s) size_t)
+          size_a
 
       same_number : number_of (place_of p place a.bytes x) % 256 ^ w ≡ number_of (place_of p place t.bytes x) % 256 ^ w
       same_number =
           ⊎_elim
-          (λ (r : t.bytes ≡ 2). low_numbers p place have a.bytes t.bytes w x (omega (arith, most, r)))
-          (λ (r : t.bytes ≡ 3).
-          let s : a.bytes ≡ t.bytes = ⊎_elim (λ (u : a.bytes ≡ 2). absurd (omega (arith, u, r, less)))
-          (λ (u : a.bytes ≡ 3). u ∙ sym r) size_a in
-          ap (λ (n : ℕ). number_of (place_of p place n x) % 256 ^ w) s)
-          size_t
+          (λ (l : w < 3). low_numbers p place have a.bytes t.bytes w x (omega (arith, l)))
+          (λ (l : 3 ≤ w). ap (λ (n : ℕ). number_of (place_of p place n x) % 256 ^ w) (same_size l))
+          (cases_lt w 3)
 
       narrow : Frame v v1 (base t) w
       narrow k r0 r1 r30 o = mv.same k r0 o
@@ -810,7 +992,7 @@ module _ (p : PlainProgram) (e : Env) (slots : ℕ) (home : Temp → Location) (
       numbers : HoldsNumbers v1
       numbers = numbers_kept v v1 (base t) w h.bytes narrow
           (λ j l. subst (λ (n : ℕ). n < 256) (sym (mv.there j l))
-          (held_row v (base a) a.bytes (y.layout.temps_at a ia).clear h.bytes j (omega (arith, l, most, less))))
+          (held_row v (base a) a.bytes (y.layout.temps_at a ia).clear h.bytes j (omega (arith, l, less))))
           (subst (λ (n : ℕ). n < 256) (sym (mv.same 30 (omega arith)
           (thirty (base t) t.bytes w most (y.layout.temps_work t it)))) (h.bytes 30 (omega arith)))
         where
@@ -820,49 +1002,80 @@ module _ (p : PlainProgram) (e : Env) (slots : ℕ) (home : Temp → Location) (
       frame : Wide v v1 (base t) t.bytes
       frame k r0 r1 low_off high_off o = mv.same k r0 (narrower (base t) t.bytes w k most o)
 
-  -- the code gives a pointer of two bytes its third one
+  -- the code brings a pointer of two bytes to its place, and gives it its third one there
   pub embedded_matches : (space : SpaceId) (const : Bool) (to : PlainType) (t a : Temp) (c : ℕ) (x : PointerValue)
       (need need0 : Need) (m : Mach) (v : View)
       → HasHome slots t → HasHome slots a → a.bytes ≡ 2 → t.bytes ≡ 3 → width space ≡ 2 → IsAddressed p a.bytes x → IsAddressed p t.bytes x
       → IsIntoSpace p space x → value v.at (base a) a.bytes ≡ number_of (place_of p place a.bytes x)
       → ((u : ℕ) → u ≢ t.at → need u ≤ need0 u) → Shown need0 m v
       → Shown need (machine (with_content t (content_of t.bytes (Pointer x)) m.temps) (worked c m.state))
-      (block e (embed_code (is_into_data (pointer space const to)) (home a) (home t)) v)
+      (block e (move_code (home a) (home t) a.bytes ++ embed_code (is_into_data (pointer space const to)) (home t)) v)
   embedded_matches space const to t a c x need need0 m v it ia two three narrow i j into number more h =
-      written_wide p e slots home base place y t (content_of t.bytes (Pointer x)) need need0 m (worked c m.state) v v1 it h more frame
-      (holds_pointer v1.at (base t) (wanted need t) t.bytes x j low) put.numbers refl (put.seen ∙ h.seen)
-      (kept_left y.inputs m.state v v1 put.inputs h.left) (put.safe ∙ h.safe)
+      subst (λ (x1 : View). Shown need (machine (with_content t (content_of t.bytes (Pointer x)) m.temps) (worked c m.state)) x1)
+      (sym (block-append e move embed v))
+      (written_wide p e slots home base place y t (content_of t.bytes (Pointer x)) need need0 m (worked c m.state) v v2 it h more frame
+      (holds_pointer v2.at (base t) (wanted need t) t.bytes x j low) put.numbers refl (put.seen ∙ mv.seen ∙ h.seen)
+      (kept_left y.inputs m.state v v2 (put.inputs ∙ mv.inputs) h.left) (put.safe ∙ mv.safe ∙ h.safe))
     where
       data_too : Bool
       data_too = is_into_data (pointer space const to)
 
+      move : List AsmItem
+      move = move_code (home a) (home t) a.bytes
+
+      embed : List AsmItem
+      embed = embed_code data_too (home t)
+
       v1 : View
-      v1 = block e (embed_code data_too (home a) (home t)) v
+      v1 = block e move v
 
-      put : HasPut v (base t) 3 (embedded data_too (value v.at (base a) 2)) v1
-      put = y.pointers.embedded data_too e (home a) (home t) (base a) (base t) v
-          (subst (λ (n : ℕ). StandsFrom e (home a) n (base a) Own) two (y.layout.temps_at a ia))
-          (leaves_z (base a) a.bytes 2 (omega (arith, two)) (y.layout.temps_work a ia))
+      v2 : View
+      v2 = block e embed v1
+
+      less : a.bytes ≤ t.bytes
+      less = omega (arith, two, three)
+
+      mv : Brought v (base a) (base t) a.bytes v1
+      mv = move_brings e (home a) (home t) a.bytes (base a) (base t) v (y.layout.temps_at a ia)
+          (stands_less e (home t) t.bytes a.bytes (base t) Own less (y.layout.temps_at t it))
+          (read_first p e slots home base place y t a a.bytes it ia (omega arith)) h.bytes
+
+      work : LeavesZ (base t) a.bytes
+      work = leaves_z (base t) t.bytes a.bytes less (y.layout.temps_work t it)
+
+      frame1 : Frame v v1 (base t) a.bytes
+      frame1 k r0 r1 r30 o = mv.same k r0 o
+
+      numbers1 : HoldsNumbers v1
+      numbers1 = numbers_kept v v1 (base t) a.bytes h.bytes frame1
+          (λ k l. subst (λ (n : ℕ). n < 256) (sym (mv.there k l))
+          (held_row v (base a) a.bytes (y.layout.temps_at a ia).clear h.bytes k l))
+          (subst (λ (n : ℕ). n < 256) (sym (mv.same 30 (omega arith) work.low)) (h.bytes 30 (omega arith)))
+
+      put : HasPut v1 (base t) 3 (embedded data_too (value v1.at (base t) 2)) v2
+      put = y.pointers.embedded data_too e (home t) (base t) v1
           (subst (λ (n : ℕ). StandsFrom e (home t) n (base t) Own) three (y.layout.temps_at t it))
-          (leaves_z (base t) t.bytes 3 (omega (arith, three)) (y.layout.temps_work t it)) h.bytes
+          (leaves_z (base t) t.bytes 3 (omega (arith, three)) (y.layout.temps_work t it)) numbers1
 
-      before : value v.at (base a) 2 ≡ number_of (place_of p place 2 x)
-      before = subst (λ (n : ℕ). value v.at (base a) n ≡ number_of (place_of p place n x)) two number
+      brought : value v1.at (base t) 2 ≡ number_of (place_of p place 2 x)
+      brought = subst (λ (n : ℕ). value v1.at (base t) n ≡ number_of (place_of p place n x)) two
+          (row_value v1.at v.at (base a) (base t) a.bytes mv.there ∙ number)
 
-      behind : value v1.at (base t) t.bytes ≡ number_of (place_of p place t.bytes x)
-      behind = subst (λ (n : ℕ). value v1.at (base t) n ≡ number_of (place_of p place n x)) (sym three)
-          (put.number_is ∙ ap (embedded data_too) before ∙ embedded_is p place have space const to x narrow
+      behind : value v2.at (base t) t.bytes ≡ number_of (place_of p place t.bytes x)
+      behind = subst (λ (n : ℕ). value v2.at (base t) n ≡ number_of (place_of p place n x)) (sym three)
+          (put.number_is ∙ ap (embedded data_too) brought ∙ embedded_is p place have space const to x narrow
           (subst (λ (n : ℕ). IsAddressed p n x) two i) into)
 
-      low : value v1.at (base t) (wanted need t) ≡ number_of (place_of p place t.bytes x) % 256 ^ wanted need t
-      low = less_value v1.at (base t) t.bytes (wanted need t) (number_of (place_of p place t.bytes x))
-          (wanted_most need t) (held_row v1 (base t) t.bytes (y.layout.temps_at t it).clear put.numbers)
+      low : value v2.at (base t) (wanted need t) ≡ number_of (place_of p place t.bytes x) % 256 ^ wanted need t
+      low = less_value v2.at (base t) t.bytes (wanted need t) (number_of (place_of p place t.bytes x))
+          (wanted_most need t) (held_row v2 (base t) t.bytes (y.layout.temps_at t it).clear put.numbers)
           (behind ∙ sym (kept_below (number_of (place_of p place t.bytes x)) (256 ^ t.bytes)
           (number_below p place have t.bytes x (inr three) j)))
 
-      frame : Wide v v1 (base t) t.bytes
+      frame : Wide v v2 (base t) t.bytes
       frame k r0 r1 low_off high_off o =
           put.same k r0 r1 (λ u. let w = high_off (omega arith) in omega arith) (subst (λ (n : ℕ). Outside (base t) n k) three o)
+          ∙ mv.same k r0 (narrower (base t) t.bytes a.bytes k less o)
 
 -- ---- operations
 
@@ -972,8 +1185,8 @@ module _ (p : PlainProgram) (functions : List PlainIrFunction) (e : Env) (slots 
   -- an operation whose code stands at its use, and those behind it
   abbrev own_items : PlainIr → List PlainIr → List AsmItem
   own_items i rest =
-      own_code p home link None (tells_next at None i rest) (at.known (i ∷ rest)) (needs at rest) i
-      ++ ops_code p home link at (tells_next at None i rest) rest
+      own_code p home link None (tells_next p at None i rest) (at.known (i ∷ rest)) (needs at rest) i
+      ++ ops_code p home link at (tells_next p at None i rest) rest
 
   -- its code, where it has been told nothing and tells nothing, and its second operand may be known to hold a number
   abbrev known_code : Option RightNumber → PlainIr → List PlainIr → List AsmItem
@@ -996,9 +1209,11 @@ module _ (p : PlainProgram) (functions : List PlainIrFunction) (e : Env) (slots 
   moving_needs known op t a aty b bty rest =
       at_least a.at
       (first_wanted (is_whole aty || is_whole bty) op
-      (first_bytes (number_taken known (is_whole aty || is_whole bty) op) op a.bytes) (wanted (needs at rest) t))
+      (compared_bytes (number_taken known (is_whole aty || is_whole bty) op) a.bytes) (wanted (needs at rest) t))
       (right_needed (right_taken known (moves_pointer op aty bty) (is_whole aty || is_whole bty) op) b.at
-      (second_wanted (is_whole aty || is_whole bty) op b.bytes (wanted (needs at rest) t)) (without t.at (needs at rest)))
+      (second_wanted (is_whole aty || is_whole bty) op
+      (compared_bytes (number_taken known (is_whole aty || is_whole bty) op) b.bytes) (wanted (needs at rest) t))
+      (without t.at (needs at rest)))
 
   abbrev R : ℕ → List PlainIr → Mach → Outcome Value
   R n rest m = checked_on functions p y.inputs n all stack rest m
@@ -1135,6 +1350,12 @@ module _ (p : PlainProgram) (functions : List PlainIrFunction) (e : Env) (slots 
       code : List AsmItem
       code = scale ++ (move_code (home a) (home t) a.bytes ++ moved)
 
+      indexed : List AsmItem
+      indexed = indexed_code minus (home a) (home b) (home t) a.bytes b.bytes (size % 65536)
+
+      takes : Bool
+      takes = takes_index link.core signed (home b) (home t) a.bytes b.bytes (size % 65536)
+
       moved_form : (all_straight moved ≡ true) × (code_steps moved ≤ 20)
       moved_form = by_far (is_far link.core a.bytes)
         where
@@ -1145,7 +1366,10 @@ module _ (p : PlainProgram) (functions : List PlainIrFunction) (e : Env) (slots 
           near = advance_code minus (home t)
 
           by_far : (b : Bool) → (all_straight (if b then far else near) ≡ true) × (code_steps (if b then far else near) ≤ 20)
-          by_far true = let short = y.pointers.far.steps_short minus (home t) in let most = short.at_most in (short.straight, omega (arith, most))
+          by_far true =
+              let short = y.pointers.far.steps_short minus (home t) in
+              let most = short.at_most in
+              (short.straight, omega (arith, most))
           by_far false =
               let short = (y.pointers.steps_short (home b) (home t) signed minus b.bytes (size % 65536)).1 in
               let most = short.at_most in
@@ -1172,35 +1396,68 @@ module _ (p : PlainProgram) (functions : List PlainIrFunction) (e : Env) (slots 
               (R (suc n) rest (resulted t (content_of t.bytes (Pointer z)) (op_steps i) m))
           by_need true k =
               nothing_passes None i t (content_of t.bytes (Pointer z)) rest n pc need0 m v it
-              (code_is ∙ ap (λ j. if j then [] else code) k) k fits stands more h room f
-          by_need false k =
-              let l = there k in
-              let number = whole_number need0 m v a (Some o) h ia q sa l.0 in
-              let g = at_width p e slots home base place y need0 m v b _ b.bytes h ib qb refl l.1 in
-              let index : value v.at (base b) b.bytes ≡ low = g.0 ∙ kept_below low (256 ^ b.bytes) g.1 in
-              let short = y.pointers.steps_short (home b) (home t) signed minus b.bytes (size % 65536) in
-              let behind = straight-append (move_code (home a) (home t) a.bytes) moved (move_straight (home a) (home t) a.bytes) moved_form.0 in
-              let steps = steps-append scale (move_code (home a) (home t) a.bytes ++ moved) in
-              let steps1 = steps-append (move_code (home a) (home t) a.bytes) moved in
-              let steps2 = move_steps (home a) (home t) a.bytes in
-              let most_scale = short.0.at_most in
-              let most_advance = moved_form.1 in
-              let most = ia.most in
-              straight_passes None i code t (content_of t.bytes (Pointer z)) rest n pc m v (code_is ∙ ap (λ j. if j then [] else code) k)
-              (straight-append scale (move_code (home a) (home t) a.bytes ++ moved) short.0.straight behind)
-              (omega (arith, steps, steps1, steps2, most_scale, most_advance, most)) room stands
-              (offset_matches p e slots home base place y link.core one_core minus signed t a b size (op_steps i) low
-              (number_of_bytes signed b.bytes low) o z (needs at rest) need0 m v
-              it ia ib same into number index (index_is signed b.bytes low sb g.1) moves more h) f
+              (code_is ∙ ap (λ j. if j then [] else (if takes then indexed else code)) k) k fits stands more h room f
+          by_need false k = by_way takes refl
+            where
+              l : (a.bytes ≤ wanted need0 a) × (b.bytes ≤ wanted need0 b)
+              l = there k
+
+              number : value v.at (base a) a.bytes ≡ number_of (place_of p place a.bytes (Some o))
+              number = whole_number need0 m v a (Some o) h ia q sa l.0
+
+              held : (value v.at (base b) b.bytes ≡ low % 256 ^ b.bytes) × (low < 256 ^ b.bytes)
+              held = at_width p e slots home base place y need0 m v b _ b.bytes h ib qb refl l.1
+
+              index : value v.at (base b) b.bytes ≡ low
+              index = held.0 ∙ kept_below low (256 ^ b.bytes) held.1
+
+              is_index : IsIndex (number_of_bytes signed b.bytes low) (index_of signed b.bytes low)
+              is_index = index_is signed b.bytes low sb held.1
+
+              by_way : (way : Bool) → takes ≡ way → G (suc n) m.state.work pc v
+                  (R (suc n) rest (resulted t (content_of t.bytes (Pointer z)) (op_steps i) m))
+              by_way true way =
+                  let can = (and_parts (not (is_far link.core a.bytes)) (can_add signed (home b) (home t) b.bytes (size % 65536)) way).1 in
+                  let add = add_index_code minus (home b) (home t) b.bytes (size % 65536) in
+                  let short = y.pointers.added_short minus signed (home b) (home t) b.bytes (size % 65536) can in
+                  let steps = steps-append (move_code (home a) (home t) a.bytes) add in
+                  let steps1 = move_steps (home a) (home t) a.bytes in
+                  let most_add = short.at_most in
+                  let most = ia.most in
+                  straight_passes None i indexed t (content_of t.bytes (Pointer z)) rest n pc m v
+                  (code_is ∙ ap (λ j. if j then [] else (if takes then indexed else code)) k ∙ ap (λ j. if j then indexed else code) way)
+                  (straight-append (move_code (home a) (home t) a.bytes) add (move_straight (home a) (home t) a.bytes) short.straight)
+                  (omega (arith, steps, steps1, most_add, most)) room stands
+                  (indexed_matches p e slots home base place y link.core one_core minus signed t a b size (op_steps i) low
+                  (number_of_bytes signed b.bytes low) o z (needs at rest) need0 m v
+                  it ia ib same way into number index is_index moves more h) f
+              by_way false way =
+                  let short = y.pointers.steps_short (home b) (home t) signed minus b.bytes (size % 65536) in
+                  let behind = straight-append (move_code (home a) (home t) a.bytes) moved
+                  (move_straight (home a) (home t) a.bytes) moved_form.0 in
+                  let steps = steps-append scale (move_code (home a) (home t) a.bytes ++ moved) in
+                  let steps1 = steps-append (move_code (home a) (home t) a.bytes) moved in
+                  let steps2 = move_steps (home a) (home t) a.bytes in
+                  let most_scale = short.0.at_most in
+                  let most_advance = moved_form.1 in
+                  let most = ia.most in
+                  straight_passes None i code t (content_of t.bytes (Pointer z)) rest n pc m v
+                  (code_is ∙ ap (λ j. if j then [] else (if takes then indexed else code)) k ∙ ap (λ j. if j then indexed else code) way)
+                  (straight-append scale (move_code (home a) (home t) a.bytes ++ moved) short.0.straight behind)
+                  (omega (arith, steps, steps1, steps2, most_scale, most_advance, most)) room stands
+                  (offset_matches p e slots home base place y link.core one_core minus signed t a b size (op_steps i) low
+                  (number_of_bytes signed b.bytes low) o z (needs at rest) need0 m v
+                  it ia ib same into number index is_index moves more h) f
 
   -- the same where the number of elements is known, of which nothing is needed
-  known_passes : (i : PlainIr) (minus signed : Bool) (t a b : Temp) (number : RightNumber) (size low : ℕ) (x : PointerValue)
+  known_passes : (i : PlainIr) (minus signed : Bool) (t a b : Temp) (number : TakenNumber) (size low : ℕ) (x : PointerValue)
       (rest : List PlainIr) (n pc : ℕ) (need0 : Need) (m : Mach) (v : View) → link.core ≡ e.core → HasHome slots t → HasHome slots a
       → t.bytes ≡ a.bytes → IsPointerSize a.bytes → IsIntegerSize b.bytes → low ≡ low_bytes b.bytes number.number
-      → known_code (Some number) i rest
-      ≡ known_offset_code link.core minus signed (home a) (home t) a.bytes b.bytes (low_bytes 16 number.number) size (wanted (needs at rest) t)
+      → known_code (Some (as_known number)) i rest
+      ≡ known_offset_code link.core minus signed (home a) (home t) a.bytes b.bytes (low_bytes 16 number.number) size
+      (wanted (needs at rest) t)
       → 640 ≤ op_steps i → HoldsPointer m a x → ((wanted (needs at rest) t == 0) ≡ false → a.bytes ≤ wanted need0 a)
-      → HasAt e (known_code (Some number) i rest ++ items rest) pc end → ((u : ℕ) → u ≢ t.at → needs at rest u ≤ need0 u)
+      → HasAt e (known_code (Some (as_known number)) i rest ++ items rest) pc end → ((u : ℕ) → u ≢ t.at → needs at rest u ≤ need0 u)
       → M need0 m v → Rest (suc n) rest
       → G (suc n) m.state.work pc v (Onward n rest t m (worked (op_steps i) m.state)
       (as_pointer (sum_of_pointer x (referent_of p x (worked (op_steps i) m.state))
@@ -1267,7 +1524,7 @@ module _ (p : PlainProgram) (functions : List PlainIrFunction) (e : Env) (slots 
           by_need : (k : Bool) → (w == 0) ≡ k → G (suc n) m.state.work pc v
               (R (suc n) rest (resulted t (content_of t.bytes (Pointer z)) (op_steps i) m))
           by_need true k =
-              nothing_passes (Some number) i t (content_of t.bytes (Pointer z)) rest n pc need0 m v it
+              nothing_passes (Some (as_known number)) i t (content_of t.bytes (Pointer z)) rest n pc need0 m v it
               (code_is ∙ ap (λ j. if j then [] else code) k) k fits stands more h room f
           by_need false k =
               let number_at = whole_number need0 m v a (Some o) h ia q sa (there k) in
@@ -1275,7 +1532,8 @@ module _ (p : PlainProgram) (functions : List PlainIrFunction) (e : Env) (slots 
               let steps1 = move_steps (home a) (home t) a.bytes in
               let steps2 = member_form.1 in
               let most = ia.most in
-              straight_passes (Some number) i code t (content_of t.bytes (Pointer z)) rest n pc m v (code_is ∙ ap (λ j. if j then [] else code) k)
+              straight_passes (Some (as_known number)) i code t (content_of t.bytes (Pointer z)) rest n pc m v
+              (code_is ∙ ap (λ j. if j then [] else code) k)
               (straight-append (move_code (home a) (home t) a.bytes) member (move_straight (home a) (home t) a.bytes) member_form.0)
               (omega (arith, steps, steps1, steps2, most)) room stands
               (known_matches p e slots home base place y link.core one_core minus signed t a b.bytes bits_known size (op_steps i)
@@ -1325,12 +1583,13 @@ module _ (p : PlainProgram) (functions : List PlainIrFunction) (e : Env) (slots 
   abbrev first_needed : (t a : Temp) → ℕ → Need → Need
   first_needed t a w need = at_least a.at (all_or_none a.bytes w) (without t.at need)
 
-  known_first : (op : BinOp) (number : RightNumber) (ty : PlainType) (mode : Mode) (t a : Temp) (space : SpaceId) (const : Bool)
+  known_first : (op : BinOp) (number : TakenNumber) (ty : PlainType) (mode : Mode) (t a : Temp) (space : SpaceId) (const : Bool)
       (to : PlainType) (b : Temp) (signed : Bool) (bytes : ℕ)
       (rest : List PlainIr) (n pc : ℕ) (m : Mach) (v : View)
       → IsPointerBinary p slots op t a b ty (pointer space const to) (integer signed bytes)
       → ((low : ℕ) → m.temps b.at ≡ Some (record { bytes = b.bytes; content = bits low }) → low ≡ low_bytes b.bytes number.number)
-      → HasAt e (known_code (Some number) (binary_op op ty mode t a (pointer space const to) b (integer signed bytes)) rest ++ items rest) pc end
+      → HasAt e (known_code (Some (as_known number)) (binary_op op ty mode t a (pointer space const to) b (integer signed bytes)) rest
+      ++ items rest) pc end
       → M (first_needed t a (wanted (needs at rest) t) (needs at rest)) m v
       → link.core ≡ e.core → Rest (suc n) rest → G (suc n) m.state.work pc v
       (P n (binary_op op ty mode t a (pointer space const to) b (integer signed bytes)) rest m)
@@ -1579,7 +1838,8 @@ module _ (p : PlainProgram) (functions : List PlainIrFunction) (e : Env) (slots 
       room : 640 ≤ op_steps i
       room = binary_room op ty (pointer space const to) (pointer space2 const2 to2)
 
-      code_is : code_of i rest ≡ pointers_code link.core (Compared r exchanged) (home a) (home b) (home t) a.bytes (size_of_type p.structs to) w
+      code_is : code_of i rest ≡ pointers_code link.core (Compared r exchanged) (home a) (home b) (home t) a.bytes
+          (size_of_type p.structs to) w
       code_is = ap (λ (d : Family). pointers_code link.core d (home a) (home b) (home t) a.bytes (size_of_type p.structs to) w) is
 
       by_result : (x z : PointerValue) → HoldsPointer m a x → HoldsPointer m b z → IsIntoSpace p space x
@@ -1622,7 +1882,8 @@ module _ (p : PlainProgram) (functions : List PlainIrFunction) (e : Env) (slots 
               (code_is ∙ none exchanged) j (low_below t.bytes (pos (from_bool truth))) stands
               (other_needed t a b w (needs at rest)) h room f
             where
-              none : (d : Bool) → pointers_code link.core (Compared r d) (home a) (home b) (home t) a.bytes (size_of_type p.structs to) w ≡ []
+              none : (d : Bool) → pointers_code link.core (Compared r d) (home a) (home b) (home t) a.bytes
+                  (size_of_type p.structs to) w ≡ []
               none false = rw j refl
               none true = rw j refl
           by_need false j = by_side exchanged code_is places
@@ -1650,10 +1911,12 @@ module _ (p : PlainProgram) (functions : List PlainIrFunction) (e : Env) (slots 
 
                   by_link : (core : Core) → core ≡ e.core → ArePlaces core r (first_of exchanged X Z) (first_of exchanged Z X)
                   by_link Small small =
-                      both IsPlace (is_place p place places_of a.bytes x ix (is_small small)) (is_place p place places_of a.bytes z iz (is_small small))
+                      both IsPlace (is_place p place places_of a.bytes x ix (is_small small))
+                      (is_place p place places_of a.bytes z iz (is_small small))
                       exchanged
                   by_link Large large =
-                      let far = both IsFarPlace (is_far_place p place places_of a.bytes x ix) (is_far_place p place places_of a.bytes z iz) exchanged in (
+                      let far = both IsFarPlace (is_far_place p place places_of a.bytes x ix)
+                      (is_far_place p place places_of a.bytes z iz) exchanged in (
                         far.0,
                         far.1,
                         banks X Z (compared_alike p place op compares a.bytes x z (referent_of p x st) (referent_of p z st) number u),
@@ -1713,8 +1976,8 @@ module _ (p : PlainProgram) (functions : List PlainIrFunction) (e : Env) (slots 
   -- the second operand of a binary operator holds the number that it is known to hold
   abbrev HoldsKnown : Option RightNumber → Temp → Mach → Type 0
   HoldsKnown known b m =
-      (number : RightNumber) → known ≡ Some number → (low : ℕ) → m.temps b.at ≡ Some (record { bytes = b.bytes; content = bits low })
-      → low ≡ low_bytes b.bytes number.number
+      (number : ℤ) → number_known known ≡ Some number → (low : ℕ) → m.temps b.at ≡ Some (record { bytes = b.bytes; content = bits low })
+      → low ≡ low_bytes b.bytes number
 
   -- what is shown of a binary operator
   abbrev IsShown : (known : Option RightNumber) (op : BinOp) (ty : PlainType) (mode : Mode) (t a : Temp) (aty : PlainType) (b : Temp)
@@ -1742,7 +2005,8 @@ module _ (p : PlainProgram) (functions : List PlainIrFunction) (e : Env) (slots 
 
   -- two pointers, of which the second one is known to hold no number of elements
   both_follow : (known : Option RightNumber) (op : BinOp) (ty : PlainType) (mode : Mode) (t a : Temp) (space : SpaceId) (const : Bool)
-      (to : PlainType) (b : Temp) (space2 : SpaceId) (const2 : Bool) (to2 : PlainType) (rest : List PlainIr) (n pc : ℕ) (m : Mach) (v : View)
+      (to : PlainType) (b : Temp) (space2 : SpaceId) (const2 : Bool) (to2 : PlainType) (rest : List PlainIr) (n pc : ℕ) (m : Mach)
+      (v : View)
       → IsShown known op ty mode t a (pointer space const to) b (pointer space2 const2 to2) rest n pc m v
   both_follow None op ty mode t a space const to b space2 const2 to2 rest n pc m v held k stands h one_core f =
       two_pointers op ty mode t a space const to b space2 const2 to2 rest n pc m v k
@@ -1757,13 +2021,39 @@ module _ (p : PlainProgram) (functions : List PlainIrFunction) (e : Env) (slots 
   first_follows None op ty mode t a space const to b signed bytes rest n pc m v held k stands h one_core f =
       pointer_first op ty mode t a space const to b signed bytes rest n pc m v k
       (untold None op ty mode t a (pointer space const to) b (integer signed bytes) rest pc refl stands) h one_core f
-  first_follows (Some x) Add ty mode t a space const to b signed bytes rest n pc m v held k stands h one_core f =
-      known_first Add x ty mode t a space const to b signed bytes rest n pc m v k (held x refl)
-      (untold (Some x) Add ty mode t a (pointer space const to) b (integer signed bytes) rest pc refl stands) h one_core f
-  first_follows (Some x) Sub ty mode t a space const to b signed bytes rest n pc m v held k stands h one_core f =
-      known_first Sub x ty mode t a space const to b signed bytes rest n pc m v k (held x refl)
-      (untold (Some x) Sub ty mode t a (pointer space const to) b (integer signed bytes) rest pc refl stands) h one_core f
-  first_follows (Some x) op ty mode t a space const to b signed bytes rest n pc m v held k stands h one_core f = absurd k.types.0
+  first_follows (Some x) op ty mode t a space const to b signed bytes rest n pc m v held k stands h one_core f =
+      by_number (number_or_none x) held k stands h one_core f
+    where
+      with_number : (op : BinOp) (x : TakenNumber)
+          → IsShown (Some (as_known x)) op ty mode t a (pointer space const to) b (integer signed bytes) rest n pc m v
+      with_number Add x held k stands h one_core f =
+          known_first Add x ty mode t a space const to b signed bytes rest n pc m v k (held x.number refl)
+          (untold (Some (as_known x)) Add ty mode t a (pointer space const to) b (integer signed bytes) rest pc refl stands) h one_core f
+      with_number Sub x held k stands h one_core f =
+          known_first Sub x ty mode t a space const to b signed bytes rest n pc m v k (held x.number refl)
+          (untold (Some (as_known x)) Sub ty mode t a (pointer space const to) b (integer signed bytes) rest pc refl stands) h one_core f
+      with_number op x held k stands h one_core f = absurd k.types.0
+
+      with_none : (op : BinOp) (byte : Bool)
+          → IsShown (Some (no_number byte)) op ty mode t a (pointer space const to) b (integer signed bytes) rest n pc m v
+      with_none Add byte held k stands h one_core f =
+          pointer_first Add ty mode t a space const to b signed bytes rest n pc m v k
+          (untold (Some (no_number byte)) Add ty mode t a (pointer space const to) b (integer signed bytes) rest pc refl stands)
+          h one_core f
+      with_none Sub byte held k stands h one_core f =
+          pointer_first Sub ty mode t a space const to b signed bytes rest n pc m v k
+          (untold (Some (no_number byte)) Sub ty mode t a (pointer space const to) b (integer signed bytes) rest pc refl stands)
+          h one_core f
+      with_none op byte held k stands h one_core f = absurd k.types.0
+
+      by_number : HasNumber x ⊎ (x ≡ no_number x.in_byte)
+          → IsShown (Some x) op ty mode t a (pointer space const to) b (integer signed bytes) rest n pc m v
+      by_number (inl y) =
+          subst (λ z. IsShown (Some z) op ty mode t a (pointer space const to) b (integer signed bytes) rest n pc m v) (sym y.is)
+          (with_number op y.taken)
+      by_number (inr q) =
+          subst (λ z. IsShown (Some z) op ty mode t a (pointer space const to) b (integer signed bytes) rest n pc m v) (sym q)
+          (with_none op x.in_byte)
 
   second_follows : (known : Option RightNumber) (op : BinOp) (ty : PlainType) (mode : Mode) (t a : Temp) (signed : Bool) (bytes : ℕ)
       (b : Temp) (space : SpaceId) (const : Bool) (to : PlainType) (rest : List PlainIr) (n pc : ℕ) (m : Mach) (v : View)
@@ -1790,7 +2080,8 @@ module _ (p : PlainProgram) (functions : List PlainIrFunction) (e : Env) (slots 
           both_follow known op ty mode t a space const to b space2 const2 to2 rest n pc m v held k stands h one_core f
       first space const to (integer signed bytes) held k stands h one_core f =
           first_follows known op ty mode t a space const to b signed bytes rest n pc m v held k stands h one_core f
-      first space const to (fixed kind saturates) held k stands h one_core f = absurd (no_count op (fixed kind saturates) (λ i. i) k.types.0)
+      first space const to (fixed kind saturates) held k stands h one_core f =
+          absurd (no_count op (fixed kind saturates) (λ i. i) k.types.0)
       first space const to void held k stands h one_core f = absurd (no_count op void (λ i. i) k.types.0)
       first space const to (array of len) held k stands h one_core f = absurd (no_count op (array of len) (λ i. i) k.types.0)
       first space const to (struct index) held k stands h one_core f = absurd (no_count op (struct index) (λ i. i) k.types.0)
@@ -1812,7 +2103,7 @@ module _ (p : PlainProgram) (functions : List PlainIrFunction) (e : Env) (slots 
       (rest : List PlainIr) (n pc : ℕ) (m : Mach) (v : View)
       → IsPointerConversion slots t a (pointer space const to) (pointer from const2 to2)
       → HasAt e (own_items (conversion t (pointer space const to) mode a (pointer from const2 to2)) rest) pc end
-      → M (at_least a.at (all_or_none a.bytes (wanted (needs at rest) t)) (without t.at (needs at rest))) m v
+      → M (at_least a.at (wanted (needs at rest) t) (without t.at (needs at rest))) m v
       → Rest (suc n) rest → G (suc n) m.state.work pc v
       (P n (conversion t (pointer space const to) mode a (pointer from const2 to2)) rest m)
   pointer_converted t space const to mode a from const2 to2 rest n pc m v k stands h f =
@@ -1829,16 +2120,16 @@ module _ (p : PlainProgram) (functions : List PlainIrFunction) (e : Env) (slots 
       w = wanted (needs at rest) t
 
       need0 : Need
-      need0 = at_least a.at (all_or_none a.bytes w) (without t.at (needs at rest))
+      need0 = at_least a.at w (without t.at (needs at rest))
 
       more : (u : ℕ) → u ≢ t.at → needs at rest u ≤ need0 u
       more u d =
           let r = without_other t.at u (needs at rest) d in
-          let s = least_other a.at (all_or_none a.bytes w) u (without t.at (needs at rest)) in
+          let s = least_other a.at w u (without t.at (needs at rest)) in
           omega arith
 
-      there : all_or_none a.bytes w ≤ need0 a.at
-      there = least_here a.at (all_or_none a.bytes w) (without t.at (needs at rest))
+      there : w ≤ need0 a.at
+      there = least_here a.at w (without t.at (needs at rest))
 
       room : 640 ≤ op_steps i
       room = conversion_room (pointer space const to) (pointer from const2 to2)
@@ -1849,8 +2140,11 @@ module _ (p : PlainProgram) (functions : List PlainIrFunction) (e : Env) (slots 
       size_t : IsPointerSize t.bytes
       size_t = pointer_size t.bytes space k.result_bytes
 
+      move : ℕ → List AsmItem
+      move k = move_code (home a) (home t) k
+
       embed : List AsmItem
-      embed = embed_code (is_into_data (pointer from const2 to2)) (home a) (home t)
+      embed = embed_code (is_into_data (pointer from const2 to2)) (home t)
 
       by_result : (x : PointerValue) → HoldsPointer m a x → IsIntoSpace p from x → (r : Result PointerValue Undefined)
           → pointer_in_space space x (referent_of p x st) ≡ r → G (suc n) m.state.work pc v (Onward n rest t m st (as_pointer r))
@@ -1859,7 +2153,7 @@ module _ (p : PlainProgram) (functions : List PlainIrFunction) (e : Env) (slots 
           subst (λ (d : PointerValue). G (suc n) m.state.work pc v
           (R (suc n) rest (resulted t (content_of t.bytes (Pointer d)) (op_steps i) m)))
           (sym (in_space_is space x (referent_of p x st) z u))
-          (by_sizes (a.bytes == 2 && t.bytes == 3) refl)
+          (by_sizes (nat_le w a.bytes) refl)
         where
           content : Content
           content = content_of t.bytes (Pointer x)
@@ -1870,57 +2164,51 @@ module _ (p : PlainProgram) (functions : List PlainIrFunction) (e : Env) (slots 
           target : IsAddressed p t.bytes x
           target = resized p space a.bytes t.bytes x z st k.result_bytes u ix
 
-          by_sizes : (b : Bool) → (a.bytes == 2 && t.bytes == 3) ≡ b
+          most : w ≤ t.bytes
+          most = wanted_most (needs at rest) t
+
+          by_sizes : (b : Bool) → nat_le w a.bytes ≡ b
               → G (suc n) m.state.work pc v (R (suc n) rest (resulted t content (op_steps i) m))
-          by_sizes true b = by_need (w == 0) refl
-            where
-              sizes : (a.bytes ≡ 2) × (t.bytes ≡ 3)
-              sizes = (let parts = and_parts (a.bytes == 2) (t.bytes == 3) b in (eqb-true a.bytes 2 parts.0, eqb-true t.bytes 3 parts.1))
-
-              code_is : code_of i rest ≡ (if w == 0 then [] else embed)
-              code_is = ap (λ (d : Bool). if d then (if w == 0 then [] else embed) else move_code (home a) (home t) w) b
-
-              by_need : (j : Bool) → (w == 0) ≡ j → G (suc n) m.state.work pc v (R (suc n) rest (resulted t content (op_steps i) m))
-              by_need true j =
-                  nothing_passes None i t content rest n pc need0 m v k.result
-                  (code_is ∙ ap (λ d. if d then [] else embed) j) j (pointer_content t.bytes x target) stands
-                  more h room f
-              by_need false j =
-                  let all_bytes = all_when a.bytes w j in
-                  let number = whole_number need0 m v a x h k.from q size_a (omega (arith, all_bytes, there)) in
-                  let short = (y.pointers.embeddings_short (is_into_data (pointer from const2 to2)) (home a) (home t)).0 in
-                  let few = short.at_most in
-                  straight_passes None i embed t content rest n pc m v (code_is ∙ ap (λ d. if d then [] else embed) j)
-                  short.straight (omega (arith, few)) room stands
-                  (embedded_matches p e slots home base place y from const2 to2 t a (op_steps i) x (needs at rest)
-                  need0 m v k.result k.from sizes.0 sizes.1
-                  (sym k.from_bytes ∙ sizes.0) ix target into number more h) f
           by_sizes false b =
-              let less : t.bytes ≤ a.bytes = narrower_size b in
-              let most = wanted_most (needs at rest) t in
-              let enough = all_or_more a.bytes w (omega (arith, most, less)) in
-              let number = (pointer_low p e slots home base place y need0 m v a x w h k.from q
-              (omega (arith, enough, there, most, less))).0 in
+              let more_bytes = leb-false w a.bytes b in
+              let sizes : (a.bytes ≡ 2) × (t.bytes ≡ 3) = embeds more_bytes in
+              let all_bytes : min w a.bytes ≡ a.bytes = omega (arith, more_bytes) in
+              let code_is : code_of i rest ≡ move a.bytes ++ embed =
+              ap (λ (d : Bool). move (min w a.bytes) ++ (if d then [] else embed)) b ∙ ap (λ k. move k ++ embed) all_bytes in
+              let number = whole_number need0 m v a x h k.from q size_a (omega (arith, more_bytes, there)) in
+              let short = (y.pointers.embeddings_short (is_into_data (pointer from const2 to2)) (home t) (home t)).0 in
+              let few = short.at_most in
+              let steps = move_steps (home a) (home t) a.bytes in
+              let both = steps-append (move a.bytes) embed in
+              let two = sizes.0 in
+              straight_passes None i (move a.bytes ++ embed) t content rest n pc m v code_is
+              (straight-append (move a.bytes) embed (move_straight (home a) (home t) a.bytes) short.straight)
+              (omega (arith, few, steps, both, two)) room stands
+              (embedded_matches p e slots home base place y from const2 to2 t a (op_steps i) x (needs at rest)
+              need0 m v k.result k.from two sizes.1 (sym k.from_bytes ∙ two) ix target into number more h) f
+            where
+              embeds : a.bytes < w → (a.bytes ≡ 2) × (t.bytes ≡ 3)
+              embeds l =
+                  ⊎_elim
+                  (λ (r : a.bytes ≡ 2).
+                  ⊎_elim (λ (s : t.bytes ≡ 2). absurd (omega (arith, l, r, s, most))) (λ (s : t.bytes ≡ 3). (r, s)) size_t)
+                  (λ (r : a.bytes ≡ 3).
+                  ⊎_elim (λ (s : t.bytes ≡ 2). absurd (omega (arith, l, r, s, most)))
+                  (λ (s : t.bytes ≡ 3). absurd (omega (arith, l, r, s, most))) size_t)
+                  size_a
+          by_sizes true b =
+              let less : w ≤ a.bytes = leb-true w a.bytes b in
+              let all_bytes : min w a.bytes ≡ w = omega (arith, less) in
+              let code_is : code_of i rest ≡ move w =
+              ap (λ (d : Bool). move (min w a.bytes) ++ (if d then [] else embed)) b ∙ append-nil (move (min w a.bytes))
+              ∙ ap move all_bytes in
+              let number = (pointer_low p e slots home base place y need0 m v a x w h k.from q (omega (arith, there, less))).0 in
               let steps = move_steps (home a) (home t) w in
               let eight = k.result.most in
-              straight_passes None i (move_code (home a) (home t) w) t content rest n pc m v
-              (ap (λ (d : Bool). if d then (if w == 0 then [] else embed) else move_code (home a) (home t) w) b)
+              straight_passes None i (move w) t content rest n pc m v code_is
               (move_straight (home a) (home t) w) (omega (arith, steps, most, eight)) room stands
               (moved_matches p e slots home base place y t a (op_steps i) x (needs at rest) need0 m v k.result
               k.from less size_a size_t target number more h) f
-            where
-              narrower_size : (a.bytes == 2 && t.bytes == 3) ≡ false → t.bytes ≤ a.bytes
-              narrower_size g =
-                  ⊎_elim
-                  (λ (r : a.bytes ≡ 2).
-                  ⊎_elim
-                  (λ (s : t.bytes ≡ 2). omega (arith, r, s))
-                  (λ (s : t.bytes ≡ 3). let c = eq-eqb a.bytes 2 r in let d =
-                  eq-eqb t.bytes 3 s in let both : (a.bytes == 2 && t.bytes == 3) ≡ true =
-                  rw (c, d) refl in absurd cc)
-                  size_t)
-                  (λ (r : a.bytes ≡ 3). ⊎_elim (λ (s : t.bytes ≡ 2). omega (arith, r, s)) (λ (s : t.bytes ≡ 3). omega (arith, r, s)) size_t)
-                  size_a
 
   pub pointer_conversion_follows : (t : Temp) (ty : PlainType) (mode : Mode) (a : Temp) (aty : PlainType) (rest : List PlainIr)
       (n pc : ℕ) (m : Mach) (v : View) → IsPointerConversion slots t a ty aty

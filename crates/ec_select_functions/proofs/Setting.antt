@@ -24,6 +24,7 @@ use Rattle.ec_select_operations.specs.Homes.{HasHome}
 use Rattle.ec_select_fixed.specs.FixedLaws.{FixedBinariesAreRight, FixedUnariesAreRight, FixedConversionsAreRight}
 use Rattle.ec_select_places.specs.ConversionLaws.{PointersAreEmbedded}
 use Rattle.ec_select_places.specs.DistanceLaws.{ElementsAreRight}
+use Rattle.ec_select_places.specs.IndexLaws.{IndexesAreAdded, IndexesAreShort}
 use Rattle.ec_select_places.specs.StepLaws.{IndexesAreScaled, PointersAreAdvanced, PointersAreCompared}
 use Rattle.ec_select_places.specs.Form.{StepsAreShort, ConversionsAreShort, ElementsAreShort}
 use Rattle.ec_select_places.specs.FarLaws.{FarPointersAreAdvanced, FarElementsAreRight, FarPointersAreCompared}
@@ -83,6 +84,8 @@ pub record PointerLaws : Type 0 where
   pub take : PointersTake
   pub tables_short : TablesAreShort
   pub scaled : IndexesAreScaled
+  pub added : IndexesAreAdded
+  pub added_short : IndexesAreShort
   pub advanced : PointersAreAdvanced
   pub steps_short : StepsAreShort
   pub elements : ElementsAreRight

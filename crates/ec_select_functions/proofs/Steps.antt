@@ -2,13 +2,13 @@
 use Rattle.std.proofs.Common.{◌≡◌, ◌≢◌, ℕ, zero, suc, ◌+◌, ◌-◌, ◌*◌, ◌%◌, ◌^◌, ◌<◌, ◌≤◌, min, Bool, true, false, not, ℤ}
 use Rattle.std.proofs.Common.{pos, ◌*ℤ◌, unsigned_abs, Ok, Err, List, [], ◌∷◌, ◌++◌, ◌&&◌, ◌||◌, ⊎_elim, refl, sym}
 use Rattle.std.proofs.Common.{ap, ◌∙◌, subst, arith, ◌/◌, Some, None, Option, append_assoc, append-nil}
-use Rattle.std.specs.Prelude.{max, Result, ◌==◌, nat_le, if◌then◌else◌, slice_get, slice_index, Contains, IsSomeAnd, ◌⊎◌}
+use Rattle.std.specs.Prelude.{max, bit_and, Result, ◌==◌, nat_le, if◌then◌else◌, slice_get, slice_index, Contains, IsSomeAnd, ◌⊎◌}
 use Rattle.std.proofs.lemmas.List.Elements.{Contains-append_right}
 use Rattle.ec_ir.specs.Valid.{called_in}
 use Rattle.std.specs.Int.{from_bool}
 use Rattle.std.specs.Ordering.{int_eq}
 use Rattle.std.proofs.lemmas.Bool.{cases_Bool, cases_lt, eqb-true, eq-eqb, leb-true, le-leb, ne_eqb, and_parts, or_cases, or_right}
-use Rattle.std.proofs.lemmas.Nat.{mod_below, mul-le}
+use Rattle.std.proofs.lemmas.Nat.{mod_below, mul-le, and_le_r}
 use Rattle.ec_fx.specs.declared.formats.FxKind.{FxKind}
 use Rattle.ec_fx.specs.declared.numbers.Mode.{Mode}
 use Rattle.ec_fx.specs.Formats.{format_of}
@@ -21,7 +21,7 @@ use Rattle.ec_asm.specs.declared.pieces.Operator.TheVariants.{Sum, Difference, B
 use Rattle.ec_asm.specs.View.{View}
 use Rattle.ec_asm.specs.Change.{Env, Own, flag_at}
 use Rattle.ec_asm.specs.Items.{HasAt, BranchesAt, block, code_steps, all_straight}
-use Rattle.ec_asm.specs.Pieces.{StandsFrom, Outside, KeepsAll, value, copy_code, operate_code, compare_code}
+use Rattle.ec_asm.specs.Pieces.{StandsFrom, KindIs, Outside, KeepsAll, value, copy_code, operate_code, compare_code}
 use Rattle.ec_asm.specs.PieceLaws.{HoldsNumbers}
 use Rattle.ec_asm.specs.Takes.{Goes, if_bit}
 use Rattle.ec_asm.proofs.Hoare.{has_parts, block_goes, goes_on_to, steps-append, straight-append}
@@ -68,7 +68,8 @@ use Rattle.ec_select_bytes.specs.Complements.{negation_code}
 use Rattle.ec_select_bytes.proofs.Straight.{values_are_straight, values_take, complements_are_straight}
 use Rattle.ec_select_bytes.proofs.Straight.{complements_take}
 use Rattle.ec_select_order.specs.declared.relations.Relation.{Relation}
-use Rattle.ec_select_order.specs.Relations.{stand_so, relation_code, flag_of, is_set}
+use Rattle.ec_select_order.specs.declared.relations.Relation.TheVariants.{Equal, NotEqual}
+use Rattle.ec_select_order.specs.Relations.{stand_so, relation_code, truth_code, flag_of, is_set}
 use Rattle.ec_select_order.specs.Laws.{Tells}
 use Rattle.ec_select_order.proofs.Truths.{relations_are_told, flag_is, fails_in_flag, holds_in_flag}
 use Rattle.ec_select_places.specs.Numbers.{number_of}
@@ -83,11 +84,14 @@ use Rattle.ec_select_operations.specs.declared.families.Family.{Family}
 use Rattle.ec_select_operations.specs.declared.families.Family.TheVariants.{Combined, Compared, Multiplied, Shifted}
 use Rattle.ec_select_operations.specs.declared.families.Family.TheVariants.{Divided}
 use Rattle.ec_select_operations.specs.declared.families.Told.{Told}
+use Rattle.ec_select_operations.specs.declared.families.Told.TheVariants.{Operands, InZ}
 use Rattle.ec_select_operations.specs.Code.{Linkage, told_of, is_only_tested, tells, tells_next, flag_code, is_signed, compared_signed}
 use Rattle.ec_select_operations.specs.Code.{is_over_jump, turned as turned_round, tested_code}
-use Rattle.ec_select_operations.specs.Code.{op_code, own_code, called_code, linked_code, result_wanted, ops_code, family_of, same_location, reversed_code}
+use Rattle.ec_select_operations.specs.Code.{is_mask, is_masked, told_taking, masked_code, told_number_code}
+use Rattle.ec_select_operations.specs.Code.{op_code, own_code, called_code, linked_code, result_wanted, ops_code}
+use Rattle.ec_select_operations.specs.Code.{family_of, same_location, reversed_code}
 use Rattle.ec_select_operations.specs.Code.{combined_code, binary_code, turn_code, unary_code, move_code, transfer_code}
-use Rattle.ec_select_operations.specs.Code.{branch_code, counted_by_code}
+use Rattle.ec_select_operations.specs.Code.{branch_code, counted_by_code, bytes_code}
 use Rattle.ec_select_operations.specs.Code.{compared_code, counted_code, taking_code, changed_by_code, integer_binary as integer_code}
 use Rattle.ec_select_operations.specs.Code.{conversion_code, turned_code, shift_of, shifted_bytes, long_code}
 use Rattle.ec_select_functions.specs.Covered.{IsCovered, IsBinary, IsUnary, AreConverted}
@@ -112,7 +116,8 @@ use Rattle.ec_select_fixed.proofs.Formats.{fixed_number_type}
 use Rattle.ec_select_fixed.proofs.Operators.{IsNumber, as_told, binary_told}
 use Rattle.ec_select_fixed.specs.FixedLaws.{AreOperandSlots, HasOperandBytes}
 use Rattle.ec_select_operations.specs.Needs.{is_fixed, is_whole, first_wanted, second_wanted, only_wanted, right_needed}
-use Rattle.ec_select_operations.specs.Needs.{takes_number, number_taken, moves_pointer, compared_bytes, first_bytes}
+use Rattle.ec_select_operations.specs.Needs.{takes_number, takes_known, number_known, number_taken, numbered, moves_pointer}
+use Rattle.ec_select_operations.specs.Needs.{compared_bytes}
 use Rattle.ec_select_operations.specs.Needs.{is_counted, count_taken, takes_count, takes_whole, right_taken}
 use Rattle.ec_select_operations.specs.Pointers.{is_pointer, address_number, IsPointerIn}
 use Rattle.ec_select_operations.specs.Code.{pointer_binary, pointer_conversion}
@@ -134,20 +139,24 @@ use Rattle.ec_select_functions.proofs.Going.{IsLinked, AreReady, at_use as used,
 use Rattle.ec_select_functions.proofs.Behind.{GoesBehind}
 use Rattle.ec_select_functions.proofs.MemorySteps.{address_follows, field_follows, load_at_follows, store_at_follows}
 use Rattle.ec_select_functions.proofs.MemorySteps.{load_follows, store_follows}
+use Rattle.ec_select_functions.proofs.InZ.{object_goes, field_goes}
 use Rattle.ec_select_functions.proofs.PointerNumbers.{place_of, objects_have_places, address_is, address_low}
 use Rattle.ec_select_functions.proofs.PointerNumbers.{number_below}
 use Rattle.ec_select_functions.proofs.PointerSteps.{pointer_binary_follows, pointer_conversion_follows, no_fixed_operand}
 use Rattle.ec_select_functions.proofs.Computed.{stand, constant_matches, copy_matches, binary_matches, moved_numbers}
 use Rattle.ec_select_functions.proofs.Computed.{result_of, location_same}
 use Rattle.ec_select_functions.proofs.Taken.{is_changed, TakesSum, TakesOrder, TakesShift, takes, taken_is, compared_some}
-use Rattle.ec_select_functions.proofs.Taken.{whole_unmoved, fixed_unmoved}
-use Rattle.ec_select_functions.proofs.ByNumber.{changed_form, right_held, ByteNumber, byte_value, byte_bytes, number_low, number_matches, number_put}
-use Rattle.ec_select_functions.proofs.ByNumber.{fails_by_number, holds_by_number, AreTested, tested_held}
+use Rattle.ec_select_functions.proofs.Taken.{whole_unmoved, fixed_unmoved, TakenNumber, as_known, no_number, HasNumber}
+use Rattle.ec_select_functions.proofs.Taken.{number_or_none, ComparesSo, compares}
+use Rattle.ec_select_functions.proofs.ByNumber.{changed_form, right_held, on_no_bytes, ByteNumber, byte_value, byte_bytes}
+use Rattle.ec_select_functions.proofs.ByNumber.{number_low, number_matches, fails_by_number, holds_by_number, AreTested}
+use Rattle.ec_select_functions.proofs.ByNumber.{tested_held, number_there, bytes_held}
 use Rattle.ec_select_functions.proofs.Extended.{Converted, converted, conversion_matches}
 use Rattle.ec_select_functions.proofs.FixedRuns.{answer_passes, by_itself, slots_of, operand_slots_of}
 use Rattle.ec_select_functions.proofs.Carried.{brought_passes}
 use Rattle.ec_select_functions.proofs.Checked.{is_known, checked_on, performed, checked}
 use Rattle.ec_select_functions.proofs.Counts.{IsCounted, counted_is, never_on_integers, not_counted, right_none, right_same}
+use Rattle.ec_select_functions.proofs.Counts.{none_on_integers, on_uncounted}
 use Rattle.ec_select_functions.proofs.Counts.{unmoved_takes, uncounted_takes}
 use Rattle.ec_select_functions.proofs.Counts.{TakesCount, count_is_taken}
 use Rattle.ec_select_functions.proofs.Negated.{negated_passes}
@@ -168,7 +177,9 @@ use Rattle.ec_select_functions.proofs.OnWholes.{IsOnWholes, on_wholes, more_need
 use Rattle.ec_select_functions.proofs.Orders.{first_of_two, decided, byte_order}
 use Rattle.ec_select_functions.proofs.Related.{told_matches}
 use Rattle.ec_select_functions.proofs.Truth.{bit_is, not_not, not_zero_bit, truth_low, held_at, content_of_held, same_temp}
+use Rattle.ec_select_functions.proofs.Told.{numbers_are_told}
 use Rattle.ec_select_functions.proofs.Tested.{TellsTruth, zero_told, turned_told, test_some, comparison_some}
+use Rattle.ec_select_functions.proofs.Masked.{mask_byte, masked_is, order_unmasked, shift_unmasked, mask_low, masks, masked_form}
 use Rattle.ec_select_functions.proofs.Multiplied.{product_low}
 use Rattle.ec_select_functions.proofs.Shifted.{count_is, shift_number, shift_low, shift_part, shifted_below}
 use Rattle.ec_select_shifts.specs.declared.shifts.Direction.{Direction}
@@ -205,8 +216,8 @@ module _ (p : PlainProgram) (functions : List PlainIrFunction) (e : Env) (slots 
   -- an operation whose code stands at its use and which has been told so much, and those behind it
   abbrev own_told : Option Told → PlainIr → List PlainIr → List AsmItem
   own_told told i rest =
-      own_code p home link told (tells_next at told i rest) (at.known (i ∷ rest)) (needs at rest) i
-      ++ items_told (tells_next at told i rest) rest
+      own_code p home link told (tells_next p at told i rest) (at.known (i ∷ rest)) (needs at rest) i
+      ++ items_told (tells_next p at told i rest) rest
 
   abbrev own_items : PlainIr → List PlainIr → List AsmItem
   own_items i rest = own_told None i rest
@@ -215,8 +226,8 @@ module _ (p : PlainProgram) (functions : List PlainIrFunction) (e : Env) (slots 
   abbrev linked_items : Option ℕ → PlainIr → List PlainIr → List AsmItem
   linked_items routine i rest =
       linked_code routine (λ l. called_code home l (result_wanted (needs at rest) i) i)
-      (own_code p home link None (tells_next at None i rest) (at.known (i ∷ rest)) (needs at rest) i)
-      ++ items_told (tells_next at None i rest) rest
+      (own_code p home link None (tells_next p at None i rest) (at.known (i ∷ rest)) (needs at rest) i)
+      ++ items_told (tells_next p at None i rest) rest
 
   -- an operation that takes no number, and those behind it
   abbrev plain_told : PlainIr → List PlainIr → Option Told
@@ -512,11 +523,7 @@ module _ (p : PlainProgram) (functions : List PlainIrFunction) (e : Env) (slots 
   all_right_wanted Ne r exchanged h bytes k q = all_when bytes k q
   all_right_wanted op r exchanged h bytes k q = absurd cc
 
-  -- what takes part of the first operand of a comparison, or of a shift by a number
-  first_compared : (op : BinOp) (r : Relation) → family_of op ≡ Compared r false → (k : RightNumber) (bytes : ℕ)
-      → first_bytes (Some k) op bytes ≡ compared_bytes (Some k) bytes
-  first_compared op r h k bytes = refl
-
+  -- what takes part of the first operand of a shift by a number
   first_shifted : (op : BinOp) (up : Bool) → family_of op ≡ Shifted up → (bytes k : ℕ) → (k == 0) ≡ false
       → operand_wanted op bytes k ≡ shifted_bytes up bytes k
   first_shifted Shl true h bytes k q = refl
@@ -590,6 +597,27 @@ module _ (p : PlainProgram) (functions : List PlainIrFunction) (e : Env) (slots 
   abbrev told_machine : Temp → Bool → ℕ → Mach → Mach
   told_machine t truth c m = after_operator t (low_bytes t.bytes (pos (from_bool truth))) c m
 
+  -- a truth value in R30 is put to its temporary, and what comes after it
+  truth_passes : (truth : Bool) (t : Temp) (most c : ℕ) (rest : List PlainIr) (n pc mid to w : ℕ) (need0 : Need) (m : Mach) (v : View)
+      → HasHome slots t → most ≤ 51 → Tells e most pc v mid truth → w + 102 ≤ m.state.work + c
+      → HasAt e (conversion_code false (InRegisters 30) (home t) 1 (wanted (needs at rest) t)) mid to → HasAt e (items rest) to end
+      → ((k : ℕ) → k ≢ t.at → needs at rest k ≤ need0 k) → M need0 m v → Rest (suc n) rest
+      → G (suc n) w pc v (R (suc n) rest (told_machine t truth c m))
+  truth_passes truth t most c rest n pc mid to w need0 m v it few told big put behind more h f =
+      let k = wanted (needs at rest) t in
+      let conversion = conversion_code false (InRegisters 30) (home t) 1 k in
+      let m1 = told_machine t truth c m in
+      let second = block_goes e conversion mid to told.last (conversion_straight false (InRegisters 30) (home t) 1 k) put in
+      let steps = told.steps + code_steps conversion in
+      let take = conversion_steps false (InRegisters 30) (home t) 1 k in
+      let take1 = told.at_most in
+      let kmost = wanted_most (needs at rest) t in
+      let room = it.most in
+      let goes = goes_on_to e told.steps (code_steps conversion) pc mid to v told.last (block e conversion told.last) told.goes second in
+      let matches = told_matches p e slots home base place y truth most pc mid t (needs at rest) need0 m v c it told more h in
+      after p place e steps (suc n) (suc n) w m1.state.work pc to v (block e conversion told.last) (R (suc n) rest m1) goes
+      (omega arith) (omega (arith, take, take1, kmost, room, few, big)) (f to m1 (block e conversion told.last) behind matches)
+
   -- the code of a relation of two temporaries, and what comes after it
   related_passes : (r : Relation) (s : Bool) (t l u : Temp) (bytes x z c : ℕ) (rest : List PlainIr) (n pc w : ℕ) (need0 : Need)
       (m : Mach) (v : View)
@@ -615,19 +643,8 @@ module _ (p : PlainProgram) (functions : List PlainIrFunction) (e : Env) (slots 
       ≡ stand_so r s (suc bytes) x z = rw (xl, zu) refl in
       let told : Tells e (3 + 3 * suc bytes) pc v s2.0 (stand_so r s (suc bytes) x z) =
       subst (λ w. Tells e (3 + 3 * suc bytes) pc v s2.0 w) truth told0 in
-      let m1 = told_machine t (stand_so r s (suc bytes) x z) c m in
-      let second = block_goes e conversion s2.0 s1.0 told.last (conversion_straight false (InRegisters 30) (home t) 1 k) s2.2 in
-      let steps = told.steps + code_steps conversion in
-      let take = conversion_steps false (InRegisters 30) (home t) 1 k in
-      let take1 = told.at_most in
-      let kmost = wanted_most (needs at rest) t in
-      let room = it.most in
-      let goes = goes_on_to e told.steps (code_steps conversion) pc s2.0 s1.0 v told.last (block e conversion told.last) told.goes second in
-      let matches =
-      told_matches p e slots home base place y (stand_so r s (suc bytes) x z) (3 + 3 * suc bytes) pc s2.0 t
-      (needs at rest) need0 m v c it told more h in
-      after p place e steps (suc n) (suc n) w m1.state.work pc s1.0 v (block e conversion told.last) (R (suc n) rest m1) goes
-      (omega arith) (omega (arith, take, take1, kmost, room, most, big)) (f s1.0 m1 (block e conversion told.last) s1.2 matches)
+      truth_passes (stand_so r s (suc bytes) x z) t (3 + 3 * suc bytes) c rest n pc s2.0 s1.0 w need0 m v it (omega (arith, most)) told big
+      s2.2 s1.2 more h f
 
   -- what a comparison of two numbers gives
   compared_numbers : (op : BinOp) (r : Relation) (exchanged : Bool) → family_of op ≡ Compared r exchanged
@@ -796,28 +813,18 @@ module _ (p : PlainProgram) (functions : List PlainIrFunction) (e : Env) (slots 
               (omega (arith, relation_big op ty (integer s a.bytes) (integer s b.bytes))) stand
               (other_needed op t a b a.bytes b.bytes (needs at rest)) all_needed f)
 
-  relation_wide : (op : BinOp) (ty aty bty : PlainType) → 640 ≤ 64 * binary_words op ty aty bty
-  relation_wide op ty aty bty = by_kind (is_bitwise op && is_integer ty)
-    where
-      wide : 1 ≤ widest (ty ∷ aty ∷ bty ∷ [])
-      wide = omega arith
-
-      by_kind : (x : Bool) → 640 ≤ 64 * (if x then 10 * widest (ty ∷ aty ∷ bty ∷ []) else operation_words (widest (ty ∷ aty ∷ bty ∷ [])))
-      by_kind true = omega (arith, wide)
-      by_kind false = omega (arith, wide)
-
-  -- a comparison with a known number, whose truth value is needed: the number is put to its temporary first
+  -- a comparison with a known number, whose truth value is needed
   related_number_follows : (op : BinOp) (r : Relation) → family_of op ≡ Compared r false
       → (s sign : Bool) (size : ℕ) (ty : PlainType) (mode : Mode) (t a b : Temp) (k : ℤ) (rest : List PlainIr) (n pc : ℕ) (m : Mach)
-      (v : View) → HasHome slots t → HasHome slots a → HasHome slots b → b.bytes ≡ a.bytes → IsKnown b k m
+      (v : View) → HasHome slots t → HasHome slots a → HasHome slots b → b.bytes ≡ a.bytes
       → AreComparedBy a b k s size sign m
       → HasAt e ((if wanted (needs at rest) t == 0 then []
-      else constant_code (home b) (low_bytes 16 k) a.bytes
-      ++ compared_code r sign (home a) (home b) (home t) size (wanted (needs at rest) t)) ++ items rest) pc end
+      else compared_with_code (home a) (low_bytes 16 k) size
+      ++ compared_code r sign (home a) (home b) (home t) 0 (wanted (needs at rest) t)) ++ items rest) pc end
       → M (at_least a.at (operand_wanted op size (wanted (needs at rest) t)) (without t.at (needs at rest))) m v
       → Rest (suc n) rest
       → G (suc n) m.state.work pc v (P n (binary_op op ty mode t a (integer s a.bytes) b (integer s b.bytes)) rest m)
-  related_number_follows op r is s sign size ty mode t a b k rest n pc m v it ia ib same known by stands h f =
+  related_number_follows op r is s sign size ty mode t a b k rest n pc m v it ia ib same by stands h f =
       compared_numbers op r false is s ty mode t a b rest n pc need0 m v ia ib same h
       (λ low1 low2 qa qb below1 below2. ⊎_elim (λ q. dead q low1 low2) (λ q. alive q low1 low2 qa qb below1)
       (cases_Bool (w == 0)))
@@ -828,20 +835,18 @@ module _ (p : PlainProgram) (functions : List PlainIrFunction) (e : Env) (slots 
       need0 : Need
       need0 = at_least a.at (operand_wanted op size w) (without t.at (needs at rest))
 
-      need1 : Need
-      need1 = operands_needed op t a b size b.bytes (needs at rest)
-
       c : ℕ
       c = op_steps (binary_op op ty mode t a (integer s a.bytes) b (integer s b.bytes))
 
       number : ℕ
       number = low_bytes 16 k
 
-      put : List AsmItem
-      put = constant_code (home b) number a.bytes
+      -- the comparison, and the truth value that is told of it
+      compared : List AsmItem
+      compared = compared_with_code (home a) number size
 
       own : List AsmItem
-      own = compared_code r sign (home a) (home b) (home t) size w
+      own = compared_code r sign (home a) (home b) (home t) 0 w
 
       still : (u : ℕ) → u ≢ t.at → needs at rest u ≤ need0 u
       still u d =
@@ -855,7 +860,7 @@ module _ (p : PlainProgram) (functions : List PlainIrFunction) (e : Env) (slots 
           let truth = stand_so r s a.bytes low1 low2 in
           let low = low_bytes t.bytes (pos (from_bool truth)) in
           let m1 = told_machine t truth c m in
-          let stand = subst (λ (x : Bool). HasAt e ((if x then [] else put ++ own) ++ items rest) pc end) q stands in
+          let stand = subst (λ (x : Bool). HasAt e ((if x then [] else compared ++ own) ++ items rest) pc end) q stands in
           let matches = not_needed t low c (needs at rest) need0 m v it (eqb-true w 0 q)
           (low_below t.bytes (pos (from_bool truth))) still h in
           goes_past [] (items rest) (suc n) (suc n) m.state.work m1.state.work pc v (R (suc n) rest m1) stand refl (omega arith)
@@ -873,55 +878,44 @@ module _ (p : PlainProgram) (functions : List PlainIrFunction) (e : Env) (slots 
           all_needed =
               subst (λ x. M (at_least a.at x (without t.at (needs at rest))) m v) (all_wanted op r false is size w q) h
 
-          v1 : View
-          v1 = block e put v
-
-          matches : M need1 m v1
-          matches =
-              subst (λ j. M need1 m (block e (constant_code (home b) number j) v)) same
-              (number_put p e slots home base place y b k low2 need1 (at_least a.at size (without t.at (needs at rest))) m v ib qb
-              (known low2 qb) (λ u d. more u d) all_needed)
-            where
-              more : (u : ℕ) → u ≢ b.at → need1 u ≤ at_least a.at size (without t.at (needs at rest)) u
-              more u d =
-                  let x = ne_eqb u b.at d in
-                  rw x (omega arith)
+          more : (u : ℕ) → u ≢ t.at → needs at rest u ≤ at_least a.at size (without t.at (needs at rest)) u
+          more u d =
+              let x = without_other t.at u (needs at rest) d in
+              let z = least_other a.at size u (without t.at (needs at rest)) in
+              omega (arith, x, z)
 
           by_size : (bytes : ℕ) → size ≡ suc bytes
               → G (suc n) m.state.work pc v (R (suc n) rest (told_machine t (stand_so r sign size low1 low2) c m))
           by_size bytes is_size =
               let eight = ia.most in
               let within = by.within in
-              let take = (values_take (home b) number 0 a.bytes).0 in
-              let straight = (values_are_straight (home b) number 0 a.bytes).0 in
-              let wide = relation_wide op ty (integer s a.bytes) (integer s b.bytes) in
-              let relation = relation_code r sign (home a) (home b) size ++ conversion_code false (InRegisters 30) (home t) 1 w in
-              let code : (if w == 0 then [] else put ++ own) ≡ put ++ relation =
-              ap (λ (x : Bool). if x then [] else put ++ (if x then [] else relation)) q in
-              let stand : HasAt e (put ++ (relation ++ items rest)) pc end =
-              subst (λ (x : List AsmItem). HasAt e x pc end) (ap (λ (x : List AsmItem). x ++ items rest) code
-              ∙ append_assoc put relation (items rest)) stands in
-              let left : value v1.at (base a) size ≡ low1 =
-              left_holds op t a b size b.bytes low1 (needs at rest) m v1 ia within qa matches
+              let some = by.some in
+              let conversion = conversion_code false (InRegisters 30) (home t) 1 w in
+              let code : (if w == 0 then [] else compared ++ own) ≡ (compared ++ truth_code r sign) ++ conversion =
+              ap (λ (x : Bool). if x then [] else compared ++ (if x then [] else truth_code r sign ++ conversion)) q
+              ∙ sym (append_assoc compared (truth_code r sign) conversion) in
+              let s1 = has_parts e ((compared ++ truth_code r sign) ++ conversion) (items rest) pc end
+              (subst (λ (x : List AsmItem). HasAt e (x ++ items rest) pc end) code stands) in
+              let s2 = has_parts e (compared ++ truth_code r sign) conversion pc s1.0 s1.1 in
+              let here = least_here a.at size (without t.at (needs at rest)) in
+              let left : value v.at (base a) size ≡ low1 =
+              (at_width p e slots home base place y (at_least a.at size (without t.at (needs at rest))) m v a _ size all_needed ia qa refl
+              (omega (arith, here, within))).0
               ∙ kept_below low1 (256 ^ size) (by.left low1 low2 qa below1) in
-              let here = least_here b.at b.bytes (without t.at (needs at rest)) in
-              let also = least_other a.at size b.at (at_least b.at b.bytes (without t.at (needs at rest))) in
-              let few : low2 < 256 ^ size =
-              subst (λ x. x < 256 ^ size) (by.right low2 qb) (mod_below number (256 ^ size) (pow_pos size)) in
-              let right : value v1.at (base b) size ≡ low2 =
-              (at_width p e slots home base place y need1 m v1 b _ size matches ib qb refl (omega (arith, here, also, within, same))).0
-              ∙ kept_below low2 (256 ^ size) few in
-              let m1 = told_machine t (stand_so r sign size low1 low2) c m in
-              goes_past put (relation ++ items rest) (suc n) (suc n) m.state.work (m.state.work + code_steps put) pc v
-              (R (suc n) rest m1) stand straight (omega arith) (omega arith)
-              (λ mid u. subst (λ j. G (suc n) (m.state.work + code_steps put) mid v1
-              (R (suc n) rest (told_machine t (stand_so r sign j low1 low2) c m))) (sym is_size)
-              (related_passes r sign t a b bytes low1 low2 c rest n mid (m.state.work + code_steps put) need1 m v1 it ia ib
-              (omega (arith, is_size, within)) (omega (arith, is_size, within, same)) (omega (arith, is_size, within, eight))
-              (subst (λ j. value v1.at (base a) j ≡ low1) is_size left)
-              (subst (λ j. value v1.at (base b) j ≡ low2) is_size right) (omega (arith, take, eight, wide))
-              (subst (λ j. HasAt e ((relation_code r sign (home a) (home b) j ++ conversion_code false (InRegisters 30) (home t) 1 w)
-              ++ items rest) mid end) is_size u) (other_needed op t a b size b.bytes (needs at rest)) matches f))
+              let stood = stand p e slots home base place y a size ia within in
+              let outside : Outside (base a) size 30 =
+              narrower (base a) a.bytes size 30 within (work_outside (base a) a.bytes (y.layout.temps_work a ia)) in
+              let told0 = numbers_are_told y.numbers r sign e (home a) number bytes (base a) pc s2.0 v
+              (subst (λ j. StandsFrom e (home a) j (base a) Own) is_size stood) (subst (λ j. Outside (base a) j 30) is_size outside) h.bytes
+              (subst (λ j. HasAt e (compared_with_code (home a) number j ++ truth_code r sign) pc s2.0) is_size s2.1) in
+              let truth : stand_so r sign (suc bytes) (value v.at (base a) (suc bytes)) (number % 256 ^ suc bytes)
+              ≡ stand_so r sign size low1 low2 =
+              ap (λ j. stand_so r sign j (value v.at (base a) j) (number % 256 ^ j)) (sym is_size)
+              ∙ ap (λ x. stand_so r sign size x (number % 256 ^ size)) left ∙ ap (stand_so r sign size low1) (by.right low2 qb) in
+              truth_passes (stand_so r sign size low1 low2) t (3 + 3 * suc bytes) c rest n pc s2.0 s1.0 m.state.work
+              (at_least a.at size (without t.at (needs at rest))) m v it (omega (arith, is_size, within, eight))
+              (subst (λ x. Tells e (3 + 3 * suc bytes) pc v s2.0 x) truth told0)
+              (let big = relation_big op ty (integer s a.bytes) (integer s b.bytes) in omega (arith, big)) s2.2 s1.2 more all_needed f
 
   -- ---- products
 
@@ -1542,7 +1536,8 @@ module _ (p : PlainProgram) (functions : List PlainIrFunction) (e : Env) (slots 
           (at_width p e slots home base place y need1 m v a _ 1 h1 ia qa refl (omega (arith, here, some))).0
           ∙ kept_below low1 (256 ^ 1) (small_operand low1 qa) in
           let g =
-          counted_leads p e slots home base place y (Right false) t a 0 low1 low2 pc s1.0 v it ia (omega (arith, some, same)) some left small
+          counted_leads p e slots home base place y (Right false) t a 0 low1 low2 pc s1.0 v it ia
+          (omega (arith, some, same)) some left small
           h1.bytes s1.1 in
           let last = block e second g.last in
           let x = cleared t w (low1 / 2 ^ low2) g.last it (omega (arith, some, same)) most z.below g.numbers g.number_is in
@@ -2097,20 +2092,27 @@ module _ (p : PlainProgram) (functions : List PlainIrFunction) (e : Env) (slots 
               (subst (λ x1. given x1 (second low2)) (sym x_is) (subst (λ x2. given low1 x2) (sym y_is) number))
               z parts.0 parts.1 (λ number v2 g matches. reached parts.0 number v2 parts.2 x_is y_is g matches)
 
+  -- an operator that is none on integers is apart
+  fixed_apart : (op : BinOp) (ty : PlainType) (mode : Mode) (aty bty : PlainType) → IsFixedType aty ⊎ IsFixedType bty
+      → is_on_integers (family_of op) mode ty aty bty ≡ false → is_apart (family_of op) mode ty aty bty ≡ true
+  fixed_apart op ty mode aty bty k apart =
+      ap (λ z. z && not (is_on_integers (family_of op) mode ty aty bty)) (either_fixed is_whole type_whole aty bty k) ∙ ap not apart
+
   -- the same where all bytes of the second operand are needed too
   fixed_binary_passes : (op : BinOp) (ty : PlainType) (mode : Mode) (t a : Temp) (aty : PlainType) (b : Temp) (bty : PlainType)
       (rest : List PlainIr) (n pc : ℕ) (m : Mach) (v : View) (code : List AsmItem) → IsFixedBinary slots op t a b ty aty bty
+      → is_on_integers (family_of op) mode ty aty bty ≡ false
       → ((wanted (needs at rest) t == 0) ≡ true → code ≡ []) → HasAt e (code ++ items rest) pc end
       → M (plain_needs (binary_op op ty mode t a aty b bty) rest) m v
       → FixedBinaryRuns op ty mode t a aty b bty rest n pc m v code (λ low. value v.at (base b) (scalar_size bty))
       → Rest (suc n) rest → G (suc n) m.state.work pc v (P n (binary_op op ty mode t a aty b bty) rest m)
-  fixed_binary_passes op ty mode t a aty b bty rest n pc m v code k none stands h runs f =
+  fixed_binary_passes op ty mode t a aty b bty rest n pc m v code k apart none stands h runs f =
       let need = needs at rest in
       let w = wanted need t in
       let need0 = plain_needs (binary_op op ty mode t a aty b bty) rest in
-      let ka = first_wanted (is_whole aty || is_whole bty) op a.bytes w in
-      let kb = second_wanted (is_whole aty || is_whole bty) op b.bytes w in
-      let wx = either_fixed is_whole type_whole aty bty k.types.fixed in
+      let ka = first_wanted (is_apart (family_of op) mode ty aty bty) op a.bytes w in
+      let kb = second_wanted (is_apart (family_of op) mode ty aty bty) op b.bytes w in
+      let wx = fixed_apart op ty mode aty bty k.types.fixed apart in
       let least_a : all_or_none a.bytes w ≤ need0 a.at = subst (λ (x : Bool). first_wanted x op a.bytes w ≤ need0 a.at) wx
       (least_here a.at ka (at_least b.at kb (without t.at need))) in
       let inner = least_here b.at kb (without t.at need) in
@@ -2123,7 +2125,7 @@ module _ (p : PlainProgram) (functions : List PlainIrFunction) (e : Env) (slots 
 
   -- the number is held that the second operand is known to hold
   abbrev HoldsKnown : Option RightNumber → Temp → Mach → Type 0
-  HoldsKnown known b m = (k : RightNumber) → known ≡ Some k → IsKnown b k.number m
+  HoldsKnown known b m = (k : ℤ) → number_known known ≡ Some k → IsKnown b k m
 
   pub fixed_binary_follows : (known : Option RightNumber) (op : BinOp) (ty : PlainType) (mode : Mode) (t a : Temp) (aty : PlainType)
       (b : Temp) (bty : PlainType) (rest : List PlainIr) (n pc : ℕ) (m : Mach) (v : View) → HoldsKnown known b m
@@ -2132,7 +2134,7 @@ module _ (p : PlainProgram) (functions : List PlainIrFunction) (e : Env) (slots 
       (plain_needs (binary_op op ty mode t a aty b bty) rest) m v
       → Rest (suc n) rest → G (suc n) m.state.work pc v (P n (binary_op op ty mode t a aty b bty) rest m)
   fixed_binary_follows known op ty mode t a aty b bty rest n pc m v holds_known k apart stands h f =
-      fixed_binary_passes op ty mode t a aty b bty rest n pc m v own k none stand h runs f
+      fixed_binary_passes op ty mode t a aty b bty rest n pc m v own k apart none stand h runs f
     where
       i : PlainIr
       i = binary_op op ty mode t a aty b bty
@@ -2147,19 +2149,16 @@ module _ (p : PlainProgram) (functions : List PlainIrFunction) (e : Env) (slots 
       w = wanted need t
 
       ka : ℕ
-      ka = first_wanted (is_whole aty || is_whole bty) op a.bytes w
+      ka = first_wanted (is_apart (family_of op) mode ty aty bty) op a.bytes w
 
       kb : ℕ
-      kb = second_wanted (is_whole aty || is_whole bty) op b.bytes w
+      kb = second_wanted (is_apart (family_of op) mode ty aty bty) op b.bytes w
 
       fx : (is_fixed aty || is_fixed bty) ≡ true
       fx = either_fixed is_fixed type_fixed aty bty k.types.fixed
 
-      wx : (is_whole aty || is_whole bty) ≡ true
-      wx = either_fixed is_whole type_whole aty bty k.types.fixed
-
       is_apart_so : is_apart (family_of op) mode ty aty bty ≡ true
-      is_apart_so = ap (λ z. z && not (is_on_integers (family_of op) mode ty aty bty)) wx ∙ ap not apart
+      is_apart_so = fixed_apart op ty mode aty bty k.types.fixed apart
 
       none_told : (x : Bool)
           → (if x then told_by (is_apart (family_of op) mode ty aty bty) (family_of op) (is_signed aty) else None) ≡ None
@@ -2188,7 +2187,7 @@ module _ (p : PlainProgram) (functions : List PlainIrFunction) (e : Env) (slots 
           (pointer_binary known link.core (is_pointer aty) (is_pointer bty) p op aty bty (home a) (home b) (home t) a.bytes b.bytes w)
           (integer_code known None op (is_signed aty) (is_signed bty) (home a) (home b) (home t) a.bytes w))) fx
           ∙ ap
-          (λ z. if z then binary_code (family_of op) (is_signed aty) (is_signed bty) (home a) (home b) (home t) a.bytes w
+          (λ z. if z then integer_code known None op (is_signed aty) (is_signed bty) (home a) (home b) (home t) a.bytes w
           else (if stops then stopped else answer_code code (home t) w)) apart
 
       stand : HasAt e (own ++ items rest) pc end
@@ -2196,7 +2195,7 @@ module _ (p : PlainProgram) (functions : List PlainIrFunction) (e : Env) (slots 
           (none_told (is_only_tested t (slice_get rest 0) (slice_index (wanted_bytes at rest) 0))) stands
 
       -- the lowest byte of a known number is the count
-      count_known : (x : Option RightNumber) → known ≡ x → (low : ℕ)
+      count_known : (x : Option ℤ) → number_known known ≡ x → (low : ℕ)
           → m.temps b.at ≡ Some (record { bytes = b.bytes; content = bits low }) → value v.at (base b) (scalar_size bty) ≡ low
           → KnownCount p e slots home base place y x b v
       count_known None s low q y_is = tt
@@ -2205,10 +2204,11 @@ module _ (p : PlainProgram) (functions : List PlainIrFunction) (e : Env) (slots 
           let eight = k.right.most in
           let two = (y.layout.temps_at b k.right).clear in
           let size = k.right_bytes in
-          let held = λ (j : ℕ) (l : j < scalar_size bty). (let r : v.at (base b + j) < 256 = h.bytes (base b + j) (omega (arith, two)) in r) in
+          let held = λ (j : ℕ) (l : j < scalar_size bty).
+          (let r : v.at (base b + j) < 256 = h.bytes (base b + j) (omega (arith, two)) in r) in
           let here : base b + 0 ≡ base b = omega arith in
           let one : value v.at (base b) 1 ≡ v.at (base b + 0) = omega arith in
-          number_low number.number 1 b.bytes some (omega (arith, eight)) ∙ ap (λ x. x % 256 ^ 1) (sym (holds_known number s low q))
+          number_low number 1 b.bytes some (omega (arith, eight)) ∙ ap (λ x. x % 256 ^ 1) (sym (holds_known number s low q))
           ∙ ap (λ x. x % 256 ^ 1) (sym y_is) ∙ value_mod v.at (base b) 1 (scalar_size bty) (omega (arith, some, size)) held
           ∙ one ∙ ap v.at here
 
@@ -2236,7 +2236,8 @@ module _ (p : PlainProgram) (functions : List PlainIrFunction) (e : Env) (slots 
               let parts = and_parts (is_placed op mode ty aty bty) (not (same_location (home b) (home t))) s in
               let code_there : HasAt e whole pc mid = subst (λ (x : Bool). HasAt e (if x then [] else whole) pc mid) z there in
               placed_passes p e slots home base place y op known ty aty bty mode c (suc n) pc mid t a b need (plain_needs i rest) m v
-              (R (suc n) rest m1) r (count_known known refl low2 qb y_is) k parts.0 parts.1 number h more code_there (omega arith) onward
+              (R (suc n) rest m1) r (count_known (number_known known) refl low2 qb y_is) k
+              parts.0 parts.1 number h more code_there (omega arith) onward
           by_code false s there =
               let size = scalar_size ty in
               let same : size ≡ t.bytes = sym k.result_bytes in
@@ -2262,12 +2263,12 @@ module _ (p : PlainProgram) (functions : List PlainIrFunction) (e : Env) (slots 
               (plain_needs i rest) m v (R (suc n) rest m1) holds k.result same h more z there run (omega (arith, room, same)) onward
 
   -- a shift that takes a known count, of which nothing is needed
-  fixed_counted_follows : (number : RightNumber) (op : BinOp) (ty : PlainType) (mode : Mode) (t a : Temp) (aty : PlainType)
+  fixed_counted_follows : (number : TakenNumber) (op : BinOp) (ty : PlainType) (mode : Mode) (t a : Temp) (aty : PlainType)
       (b : Temp) (bty : PlainType) (rest : List PlainIr) (n pc : ℕ) (m : Mach) (v : View) → IsKnown b number.number m
       → IsFixedBinary slots op t a b ty aty bty → IsCounted op mode ty aty bty t b
-      → HasAt e (known_items (Some number) (binary_op op ty mode t a aty b bty) rest) pc end
-      → M (at_least a.at (first_wanted (is_whole aty || is_whole bty) op a.bytes (wanted (needs at rest) t)) (without t.at (needs at rest)))
-      m v
+      → HasAt e (known_items (Some (as_known number)) (binary_op op ty mode t a aty b bty) rest) pc end
+      → M (at_least a.at (first_wanted (is_apart (family_of op) mode ty aty bty) op a.bytes (wanted (needs at rest) t))
+      (without t.at (needs at rest))) m v
       → Rest (suc n) rest → G (suc n) m.state.work pc v (P n (binary_op op ty mode t a aty b bty) rest m)
   fixed_counted_follows number op ty mode t a aty b bty rest n pc m v known k counted stands h f =
       fixed_operands_pass op ty mode t a aty b bty rest n pc m v own (λ low. low) need0 k none stand h more least_a (λ low qb z. refl)
@@ -2286,7 +2287,7 @@ module _ (p : PlainProgram) (functions : List PlainIrFunction) (e : Env) (slots 
       w = wanted need t
 
       ka : ℕ
-      ka = first_wanted (is_whole aty || is_whole bty) op a.bytes w
+      ka = first_wanted (is_apart (family_of op) mode ty aty bty) op a.bytes w
 
       need0 : Need
       need0 = at_least a.at ka (without t.at need)
@@ -2294,20 +2295,17 @@ module _ (p : PlainProgram) (functions : List PlainIrFunction) (e : Env) (slots 
       fx : (is_fixed aty || is_fixed bty) ≡ true
       fx = either_fixed is_fixed type_fixed aty bty k.types.fixed
 
-      wx : (is_whole aty || is_whole bty) ≡ true
-      wx = either_fixed is_whole type_whole aty bty k.types.fixed
-
       apart : is_on_integers (family_of op) mode ty aty bty ≡ false
       apart = never_on_integers op mode ty aty bty counted.shift
 
       is_apart_so : is_apart (family_of op) mode ty aty bty ≡ true
-      is_apart_so = ap (λ z. z && not (is_on_integers (family_of op) mode ty aty bty)) wx ∙ ap not apart
+      is_apart_so = fixed_apart op ty mode aty bty k.types.fixed apart
 
       own : List AsmItem
-      own = own_code p home link None None (Some number) need i
+      own = own_code p home link None None (Some (as_known number)) need i
 
       whole : List AsmItem
-      whole = placed_whole (Some number) op (is_signed aty) (home a) (home b) (home t) (a.bytes - 1)
+      whole = placed_whole (Some (as_known number)) op (is_signed aty) (home a) (home b) (home t) (a.bytes - 1)
 
       others : List AsmItem
       others = answer_code (fixed_binary_code op ty aty bty mode (home a) (home b) answer_location work_location) (home t) w
@@ -2318,18 +2316,20 @@ module _ (p : PlainProgram) (functions : List PlainIrFunction) (e : Env) (slots 
 
       code_is : own ≡ (if w == 0 then [] else whole)
       code_is =
-          ap (λ z. code_by_kind z (fixed_binary (Some number) None op ty aty bty mode (home a) (home b) (home t) a.bytes w)
+          ap (λ z. code_by_kind z (fixed_binary (Some (as_known number)) None op ty aty bty mode (home a) (home b) (home t) a.bytes w)
           (code_by_kind (is_pointer aty || is_pointer bty)
-          (pointer_binary (Some number) link.core (is_pointer aty) (is_pointer bty) p op aty bty (home a) (home b) (home t) a.bytes b.bytes w)
-          (integer_code (Some number) None op (is_signed aty) (is_signed bty) (home a) (home b) (home t) a.bytes w))) fx
+          (pointer_binary (Some (as_known number)) link.core (is_pointer aty) (is_pointer bty) p op aty bty (home a) (home b) (home t)
+          a.bytes b.bytes w)
+          (integer_code (Some (as_known number)) None op (is_signed aty) (is_signed bty) (home a) (home b) (home t) a.bytes w))) fx
           ∙ ap
-          (λ z. if z then binary_code (family_of op) (is_signed aty) (is_signed bty) (home a) (home b) (home t) a.bytes w
+          (λ z. if z then integer_code (Some (as_known number)) None op (is_signed aty) (is_signed bty) (home a) (home b) (home t) a.bytes w
           else (if is_placed op mode ty aty bty && not (same_location (home b) (home t))
-          then placed_binary (Some number) op (is_signed aty) (home a) (home b) (home t) a.bytes w else others)) apart
-          ∙ ap (λ z. if z then placed_binary (Some number) op (is_signed aty) (home a) (home b) (home t) a.bytes w else others) stops
+          then placed_binary (Some (as_known number)) op (is_signed aty) (home a) (home b) (home t) a.bytes w else others)) apart
+          ∙ ap (λ z. if z then placed_binary (Some (as_known number)) op (is_signed aty) (home a) (home b) (home t) a.bytes w
+          else others) stops
 
       stand : HasAt e (own ++ items rest) pc end
-      stand = subst (λ x. HasAt e (own_code p home link None x (Some number) need i ++ items_told x rest) pc end)
+      stand = subst (λ x. HasAt e (own_code p home link None x (Some (as_known number)) need i ++ items_told x rest) pc end)
           (untold_by (is_only_tested t (slice_get rest 0) (slice_index (wanted_bytes at rest) 0))
           (is_apart (family_of op) mode ty aty bty) (family_of op) (is_signed aty) is_apart_so) stands
 
@@ -2337,7 +2337,7 @@ module _ (p : PlainProgram) (functions : List PlainIrFunction) (e : Env) (slots 
       more u d = let x = without_other t.at u need d in let z = least_other a.at ka u (without t.at need) in omega (arith, x, z)
 
       least_a : all_or_none a.bytes w ≤ need0 a.at
-      least_a = subst (λ (x : Bool). first_wanted x op a.bytes w ≤ need0 a.at) wx (least_here a.at ka (without t.at need))
+      least_a = subst (λ (x : Bool). first_wanted x op a.bytes w ≤ need0 a.at) is_apart_so (least_here a.at ka (without t.at need))
 
       none : (w == 0) ≡ true → own ≡ []
       none z = code_is ∙ ap (λ (q : Bool). if q then [] else whole) z
@@ -2359,12 +2359,12 @@ module _ (p : PlainProgram) (functions : List PlainIrFunction) (e : Env) (slots 
   -- a call of its routine
   fixed_binary_called : (l : ℕ) (op : BinOp) (ty : PlainType) (mode : Mode) (t a : Temp) (aty : PlainType) (b : Temp) (bty : PlainType)
       (rest : List PlainIr) (n pc : ℕ) (m : Mach) (v : View) → IsFixedBinary slots op t a b ty aty bty
-      → HasRoutine e l (binary_body op ty aty bty mode)
+      → is_on_integers (family_of op) mode ty aty bty ≡ false → HasRoutine e l (binary_body op ty aty bty mode)
       → HasAt e (called_code home l (wanted (needs at rest) t) (binary_op op ty mode t a aty b bty) ++ items rest) pc end
       → M (plain_needs (binary_op op ty mode t a aty b bty) rest) m v
       → Rest (suc n) rest → G (suc n) m.state.work pc v (P n (binary_op op ty mode t a aty b bty) rest m)
-  fixed_binary_called l op ty mode t a aty b bty rest n pc m v k routine stands h f =
-      fixed_binary_passes op ty mode t a aty b bty rest n pc m v (answer_code code (home t) w) k
+  fixed_binary_called l op ty mode t a aty b bty rest n pc m v k apart routine stands h f =
+      fixed_binary_passes op ty mode t a aty b bty rest n pc m v (answer_code code (home t) w) k apart
       (λ z. ap (λ (q : Bool). if q then [] else code ++ copy_code answer_location (home t) w) z) stands h runs f
     where
       i : PlainIr
@@ -2380,10 +2380,10 @@ module _ (p : PlainProgram) (functions : List PlainIrFunction) (e : Env) (slots 
       w = wanted need t
 
       ka : ℕ
-      ka = first_wanted (is_whole aty || is_whole bty) op a.bytes w
+      ka = first_wanted (is_apart (family_of op) mode ty aty bty) op a.bytes w
 
       kb : ℕ
-      kb = second_wanted (is_whole aty || is_whole bty) op b.bytes w
+      kb = second_wanted (is_apart (family_of op) mode ty aty bty) op b.bytes w
 
       more : (u : ℕ) → u ≢ t.at → need u ≤ plain_needs i rest u
       more u d = other_needed op t a b ka kb need u d
@@ -2680,10 +2680,10 @@ module _ (p : PlainProgram) (functions : List PlainIrFunction) (e : Env) (slots 
       by_result low qa (Ok r) q = by_need (w == 0) refl
         where
           ka : ℕ
-          ka = only_wanted (is_whole ty || is_whole aty) a.bytes w
+          ka = only_wanted (is_fixed ty || is_fixed aty) a.bytes w
 
-          wx : (is_whole ty || is_whole aty) ≡ true
-          wx = either_fixed is_whole type_whole ty aty k.types.fixed
+          wx : (is_fixed ty || is_fixed aty) ≡ true
+          wx = either_fixed is_fixed type_fixed ty aty k.types.fixed
 
           more : (u : ℕ) → u ≢ t.at → need u ≤ plain_needs i rest u
           more u d = let x = without_other t.at u need d in let z = least_other a.at ka u (without t.at need) in omega arith
@@ -2750,7 +2750,7 @@ module _ (p : PlainProgram) (functions : List PlainIrFunction) (e : Env) (slots 
       w = wanted need t
 
       ka : ℕ
-      ka = only_wanted (is_whole ty || is_whole aty) a.bytes w
+      ka = only_wanted (is_fixed ty || is_fixed aty) a.bytes w
 
       fx : (is_fixed ty || is_fixed aty) ≡ true
       fx = either_fixed is_fixed type_fixed ty aty k.types.fixed
@@ -2771,7 +2771,7 @@ module _ (p : PlainProgram) (functions : List PlainIrFunction) (e : Env) (slots 
       code_is : code_of i rest ≡ (if brings then brought else answer_code code (home t) w)
       code_is =
           ap (λ z. code_by_kind z (fixed_conversion ty aty mode (home a) (home t) a.bytes w) (code_by_kind (is_pointer aty)
-          (pointer_conversion aty (home a) (home t) a.bytes t.bytes w)
+          (pointer_conversion aty (home a) (home t) a.bytes w)
           (conversion_code (is_signed aty) (home a) (home t) a.bytes w))) fx
           ∙ ap
           (λ z. if z then conversion_code (is_signed aty) (home a) (home t) a.bytes w
@@ -2844,7 +2844,7 @@ module _ (p : PlainProgram) (functions : List PlainIrFunction) (e : Env) (slots 
       w = wanted need t
 
       ka : ℕ
-      ka = only_wanted (is_whole ty || is_whole aty) a.bytes w
+      ka = only_wanted (is_fixed ty || is_fixed aty) a.bytes w
 
       more : (u : ℕ) → u ≢ t.at → need u ≤ plain_needs i rest u
       more u d = let x = without_other t.at u need d in let z = least_other a.at ka u (without t.at need) in omega arith
@@ -3243,10 +3243,10 @@ module _ (p : PlainProgram) (functions : List PlainIrFunction) (e : Env) (slots 
 
   -- behind an operation that is no label
   onward : (told : Option Told) (i : PlainIr) (ops : List PlainIr) (pc : ℕ) → HasAt e (items_told told (i ∷ ops)) pc end
-      → (mid : ℕ) × HasAt e (items_told (tells_next at told i ops) ops) mid end
+      → (mid : ℕ) × HasAt e (items_told (tells_next p at told i ops) ops) mid end
   onward told i ops pc stands =
-      let s = has_parts e (op_code p home link told (tells_next at told i ops) (at.known (i ∷ ops)) (needs at ops) i)
-      (items_told (tells_next at told i ops) ops) pc
+      let s = has_parts e (op_code p home link told (tells_next p at told i ops) (at.known (i ∷ ops)) (needs at ops) i)
+      (items_told (tells_next p at told i ops) ops) pc
       end stands in
       (s.0, s.2)
 
@@ -3294,7 +3294,7 @@ module _ (p : PlainProgram) (functions : List PlainIrFunction) (e : Env) (slots 
       (record { covered = r.covered.1; live = r.live; inside = r.inside; here = r.here; stands = s.1 }) f
   found told (load_object t o offset ∷ ops) pc l rest r f =
       let s =
-      onward told (load_object t o offset) ops pc r.stands in found None ops s.0 l rest
+      onward told (load_object t o offset) ops pc r.stands in found (tells_next p at told (load_object t o offset) ops) ops s.0 l rest
       (record { covered = r.covered.1; live = r.live; inside = r.inside; here = r.here; stands = s.1 }) f
   found told (store_object o offset t ∷ ops) pc l rest r f =
       let s =
@@ -3303,7 +3303,7 @@ module _ (p : PlainProgram) (functions : List PlainIrFunction) (e : Env) (slots 
   found told (binary_op op ty mode t a aty b bty ∷ ops) pc l rest r f =
       let s =
       onward told (binary_op op ty mode t a aty b bty) ops pc r.stands in found
-      (tells_next at told (binary_op op ty mode t a aty b bty) ops) ops s.0 l rest
+      (tells_next p at told (binary_op op ty mode t a aty b bty) ops) ops s.0 l rest
       (record { covered = r.covered.1; live = r.live; inside = r.inside; here = r.here; stands = s.1 }) f
   found told (conversion t ty mode a aty ∷ ops) pc l rest r f =
       let s =
@@ -3315,7 +3315,7 @@ module _ (p : PlainProgram) (functions : List PlainIrFunction) (e : Env) (slots 
       (record { covered = r.covered.1; live = r.live; inside = r.inside; here = r.here; stands = s.1 }) f
   found told (branch_zero t k ∷ ops) pc l rest r f =
       let s =
-      onward told (branch_zero t k) ops pc r.stands in found (tells_next at told (branch_zero t k) ops) ops s.0 l rest
+      onward told (branch_zero t k) ops pc r.stands in found (tells_next p at told (branch_zero t k) ops) ops s.0 l rest
       (record { covered = r.covered.1; live = r.live; inside = r.inside; here = r.here; stands = s.1 }) f
   found told (return_from t ∷ ops) pc l rest r f =
       let s =
@@ -3326,7 +3326,8 @@ module _ (p : PlainProgram) (functions : List PlainIrFunction) (e : Env) (slots 
       found None ops s.0 l rest (record { covered = r.covered.1; live = r.live; inside = r.inside; here = r.here; stands = s.1 }) f
   found told (field t space offset ∷ ops) pc l rest r f =
       let s = onward told (field t space offset) ops pc r.stands in
-      found None ops s.0 l rest (record { covered = r.covered.1; live = r.live; inside = r.inside; here = r.here; stands = s.1 }) f
+      found (tells_next p at told (field t space offset) ops) ops s.0 l rest
+      (record { covered = r.covered.1; live = r.live; inside = r.inside; here = r.here; stands = s.1 }) f
   found told (load_at t u space ∷ ops) pc l rest r f =
       let s = onward told (load_at t u space) ops pc r.stands in
       found None ops s.0 l rest (record { covered = r.covered.1; live = r.live; inside = r.inside; here = r.here; stands = s.1 }) f
@@ -3519,16 +3520,17 @@ module _ (p : PlainProgram) (functions : List PlainIrFunction) (e : Env) (slots 
   over_jump l (i ∷ rest) q = absurd cc
 
   -- a jump that was told something, where it is made
-  told_jump_follows : (start k : ℕ) (rest : List PlainIr) (told : Told) (n w pc to : ℕ) (m : Mach) (v : View) → Ready start all
-      → BranchesAt e (not (is_set told.relation)) (flag_of told.relation told.signed) (link.label_of k) pc to
-      → flag_at v.flags (flag_of told.relation told.signed) ≡ if_bit (not (is_set told.relation)) → w ≤ m.state.work
+  told_jump_follows : (start k : ℕ) (rest : List PlainIr) (relation : Relation) (signed : Bool) (n w pc to : ℕ) (m : Mach) (v : View)
+      → Ready start all
+      → BranchesAt e (not (is_set relation)) (flag_of relation signed) (link.label_of k) pc to
+      → flag_at v.flags (flag_of relation signed) ≡ if_bit (not (is_set relation)) → w ≤ m.state.work
       → M (labels k) m v → Onwards n → G n w pc v (R n (jump k ∷ rest) m)
-  told_jump_follows start k rest told zero w pc to m v ready branch made most h f =
+  told_jump_follows start k rest relation signed zero w pc to m v ready branch made most h f =
       stays 0 0 w m.state.work pc v (R 0 (jump k ∷ rest) m) (omega arith) most (stay p place e pc v m.state h.seen h.safe)
-  told_jump_follows start k rest told (suc n) w pc to m v ready branch made most h f =
-      let set = not (is_set told.relation) in
-      let flag = flag_of told.relation told.signed in
-      let b = branch_taken e set flag (link.label_of k) pc to v (flag_is told.relation told.signed) made branch in
+  told_jump_follows start k rest relation signed (suc n) w pc to m v ready branch made most h f =
+      let set = not (is_set relation) in
+      let flag = flag_of relation signed in
+      let b = branch_taken e set flag (link.label_of k) pc to v (flag_is relation signed) made branch in
       let least = b.at_least in
       let few = b.at_most in
       stays (suc n) (suc n) w m.state.work pc v (R (suc n) (jump k ∷ rest) m) (omega arith) most
@@ -3541,9 +3543,11 @@ module _ (p : PlainProgram) (functions : List PlainIrFunction) (e : Env) (slots 
       → Ready start all → Behind rest → GoesBehind all (branch_zero t l) rest → IsOverJump l rest → TellsTruth none told v
       → HasAt e (items_told (Some told) rest) pc end → w + 2 ≤ m.state.work + op_steps (branch_zero t l)
       → M (needs at rest) m v → M (labels l) m v → Onwards n → G n w pc v (branched n l t rest m none)
-  turned_follows start l t rest told n w pc m v none ready r go over tells stands most here there f =
+  turned_follows start l t rest (InZ offset) n w pc m v none ready r go over tells stands most here there f = absurd tells
+  turned_follows start l t rest (Operands relation signed) n w pc m v none ready r go over tells stands most here there f =
       subst
-      (λ x. Behind x → GoesBehind all (branch_zero t l) x → HasAt e (items_told (Some told) x) pc end → M (needs at x) m v
+      (λ x. Behind x → GoesBehind all (branch_zero t l) x → HasAt e (items_told (Some (Operands relation signed)) x) pc end
+      → M (needs at x) m v
       → G n w pc v (branched n l t x m none)) (sym over.is) at_jump r go stands here
     where
       k : ℕ
@@ -3562,17 +3566,17 @@ module _ (p : PlainProgram) (functions : List PlainIrFunction) (e : Env) (slots 
       m1 = machine m.temps (worked c m.state)
 
       set : Bool
-      set = not (is_set told.relation)
+      set = not (is_set relation)
 
       flag : ℕ
-      flag = flag_of told.relation told.signed
+      flag = flag_of relation signed
 
       by_truth : Behind own → GoesBehind all (branch_zero t l) own → M (labels k) m v → (to : ℕ)
           → BranchesAt e set flag (link.label_of k) pc to → HasAt e (items behind) to end → (b : Bool) → none ≡ b
           → G n w pc v (branched n l t own m b)
       by_truth r go here to branch to_end true q =
-          let b = branch_passed e set flag (link.label_of k) pc to v (flag_is told.relation told.signed)
-          (tells.holds q ∙ ap if_bit (sym (not_not (is_set told.relation)))) branch in
+          let b = branch_passed e set flag (link.label_of k) pc to v (flag_is relation signed)
+          (tells.holds q ∙ ap if_bit (sym (not_not (is_set relation)))) branch in
           let matches = weaker p e slots home base place y (labels l) (needs at behind) m v there r.live.0 in
           subst
           (λ o. G n w pc v (jump_to o (λ q u. checked_on functions p y.inputs n q.code q.stack q.rest u) all stack m1))
@@ -3582,13 +3586,14 @@ module _ (p : PlainProgram) (functions : List PlainIrFunction) (e : Env) (slots 
           (record { covered = r.covered.1.1; live = r.live.1; inside = r.inside; here = ready.here; stands = to_end })
           (again (needs at behind) m v c matches)))
       by_truth r go here to branch to_end false q =
-          told_jump_follows start k (label l ∷ behind) told n w pc to m1 v ready branch (tells.fails q) (omega (arith, most))
+          told_jump_follows start k (label l ∷ behind) relation signed n w pc to m1 v ready branch (tells.fails q) (omega (arith, most))
           (again (labels k) m v c here) f
 
-      at_jump : Behind own → GoesBehind all (branch_zero t l) own → HasAt e (items_told (Some told) own) pc end → M (labels k) m v
+      at_jump : Behind own → GoesBehind all (branch_zero t l) own
+          → HasAt e (items_told (Some (Operands relation signed)) own) pc end → M (labels k) m v
           → G n w pc v (branched n l t own m none)
       at_jump r go stands here =
-          let s = at_use_behind [] (Some told) (jump k) (label l ∷ behind) pc r.covered.0.1 (λ l none. none) stands in
+          let s = at_use_behind [] (Some (Operands relation signed)) (jump k) (label l ∷ behind) pc r.covered.0.1 (λ l none. none) stands in
           let s1 = at_use_behind [] None (label l) behind s.0 r.covered.1.0.1 (λ l none. none) s.2 in
           by_truth r go here s.0 s.1 (subst (λ i. HasAt e (items behind) i end) s1.1.1 s1.2) none refl
 
@@ -3708,37 +3713,42 @@ module _ (p : PlainProgram) (functions : List PlainIrFunction) (e : Env) (slots 
   -- ---- a comparison that only the next operation tests
 
   abbrev so_told : Relation → Bool → Told
-  so_told r s = record { relation = r; signed = s }
+  so_told r s = Operands r s
 
-  -- the branch on a truth value that a flag tells
-  told_branch_follows : (start l : ℕ) (t : Temp) (truth : Bool) (told : Told) (rest : List PlainIr) (n pc : ℕ) (m : Mach)
+  -- a truth value is 0 where it is false
+  truth_zero : (t : Temp) (truth : Bool) → 1 ≤ t.bytes → not truth ≡ (low_bytes t.bytes (pos (from_bool truth)) == 0)
+  truth_zero t truth some = not_zero_bit truth ∙ ap (λ x. x == 0) (sym (truth_low t.bytes some truth))
+
+  -- the branch on a number of which a flag tells whether it is not 0
+  told_branch_follows : (start l : ℕ) (t : Temp) (truth : Bool) (low : ℕ) (told : Told) (rest : List PlainIr) (n pc : ℕ) (m : Mach)
       (v : View) → Ready start all → Behind (branch_zero t l ∷ rest) → HasHome slots t
-      → m.temps t.at ≡ Some (record { bytes = t.bytes; content = bits (low_bytes t.bytes (pos (from_bool truth))) })
+      → m.temps t.at ≡ Some (record { bytes = t.bytes; content = bits low }) → not truth ≡ (low == 0)
       → TellsTruth truth told v → HasAt e (own_told (Some told) (branch_zero t l) rest) pc end
       → M (needs at rest) m v → M (labels l) m v → Onwards n
       → G n m.state.work pc v (P n (branch_zero t l) rest m)
-  told_branch_follows start l t truth told rest n pc m v ready r it holds tells stands here there f =
+  told_branch_follows start l t truth low (InZ offset) rest n pc m v ready r it holds is_none tells stands here there f = absurd tells
+  told_branch_follows start l t truth low (Operands relation signed) rest n pc m v ready r it holds is_none tells stands here there f =
       from_held p place e t m.temps (worked (op_steps (branch_zero t l)) m.state) _ n m.state.work pc v
       (λ x q w.
-      let same : x.content ≡ bits (low_bytes t.bytes (pos (from_bool truth))) = content_of_held x _ (sym q ∙ holds) in
-      subst (λ c. G n m.state.work pc v (branched n l t rest m (is_zero c))) (sym (same ∙ ap bits (truth_low t.bytes it.some truth)))
-      (subst (λ b. G n m.state.work pc v (branched n l t rest m b)) (not_zero_bit truth)
+      let same : x.content ≡ bits low = content_of_held x _ (sym q ∙ holds) in
+      subst (λ c. G n m.state.work pc v (branched n l t rest m (is_zero c))) (sym same)
+      (subst (λ b. G n m.state.work pc v (branched n l t rest m b)) is_none
       (by_over (is_over_jump l (slice_get rest 0) (slice_get rest 1)) refl stands)))
     where
       c : ℕ
       c = op_steps (branch_zero t l)
 
       set : Bool
-      set = not (is_set told.relation)
+      set = not (is_set relation)
 
       flag : ℕ
-      flag = flag_of told.relation told.signed
+      flag = flag_of relation signed
 
       size : ℕ
       size = compared_bytes (at.known (branch_zero t l ∷ rest)) t.bytes
 
       telling : Bool → Option Told
-      telling over = if over then Some (turned_round (Some told)) else None
+      telling over = if over then Some (turned_round (Some (Operands relation signed))) else None
 
       behind : Behind rest
       behind = record { covered = r.covered.1; live = r.live; inside = r.inside }
@@ -3746,26 +3756,27 @@ module _ (p : PlainProgram) (functions : List PlainIrFunction) (e : Env) (slots 
       by_truth : (to : ℕ) → BranchesAt e set flag (link.label_of l) pc to → HasAt e (items rest) to end → (b : Bool) → truth ≡ b
           → G (suc n) m.state.work pc v (branched n l t rest m (not b))
       by_truth to branch to_end false q =
-          let b = branch_taken e set flag (link.label_of l) pc to v (flag_is told.relation told.signed) (tells.fails q) branch in
+          let b = branch_taken e set flag (link.label_of l) pc to v (flag_is relation signed) (tells.fails q) branch in
           let least = b.at_least in
           let most = b.at_most in
           jumps start l n c b.steps pc m v v ready (branch_has_word e set flag (link.label_of l) pc to branch) b.goes (omega (arith, least))
           (omega (arith, most)) there (f n (omega arith))
       by_truth to branch to_end true q =
           let m1 = machine m.temps (worked c m.state) in
-          let b = branch_passed e set flag (link.label_of l) pc to v (flag_is told.relation told.signed)
-          (tells.holds q ∙ ap if_bit (sym (not_not (is_set told.relation)))) branch in
+          let b = branch_passed e set flag (link.label_of l) pc to v (flag_is relation signed)
+          (tells.holds q ∙ ap if_bit (sym (not_not (is_set relation)))) branch in
           after p place e 1 n (suc n) m.state.work m1.state.work pc to v v (R n rest m1) b (omega arith) (omega arith)
           (f n (omega arith) to rest m1 v
           (record { covered = behind.covered; live = behind.live; inside = behind.inside; here = ready.here; stands = to_end })
           (again (needs at rest) m v c here))
 
       by_over : (over : Bool) → is_over_jump l (slice_get rest 0) (slice_get rest 1) ≡ over
-          → HasAt e (tested_code (Some told) (telling over) (home t) size (link.label_of l) ++ items_told (telling over) rest) pc end
+          → HasAt e (tested_code (Some (Operands relation signed)) (telling over) (home t) size (link.label_of l)
+          ++ items_told (telling over) rest) pc end
           → G n m.state.work pc v (branched n l t rest m (not truth))
       by_over true q stands =
-          turned_follows start l t rest (turned_round (Some told)) n m.state.work pc m v (not truth) ready behind r.covered.0.3
-          (over_jump l rest q) (turned_told truth told v tells) stands (omega arith) here there f
+          turned_follows start l t rest (turned_round (Some (Operands relation signed))) n m.state.work pc m v (not truth) ready behind
+          r.covered.0.3 (over_jump l rest q) (turned_told truth (Operands relation signed) v tells) stands (omega arith) here there f
       by_over false q stands =
           stays (suc n) n m.state.work m.state.work pc v (branched n l t rest m (not truth)) (omega arith) (omega arith)
           (by_truth stands.0 stands.1 stands.2 truth refl)
@@ -3773,7 +3784,7 @@ module _ (p : PlainProgram) (functions : List PlainIrFunction) (e : Env) (slots 
   -- the comparison of two temporaries, and the branch behind it
   told_passes : (start l : ℕ) (r : Relation) (s : Bool) (t x1 x2 : Temp) (bytes x z c : ℕ) (rest : List PlainIr) (n pc : ℕ)
       (need0 : Need) (m : Mach) (v : View) → Ready start all → Behind (branch_zero t l ∷ rest) → HasHome slots t → HasHome slots x1
-      → HasHome slots x2 → x1.bytes ≡ suc bytes → x2.bytes ≡ suc bytes → suc bytes ≤ 16
+      → HasHome slots x2 → suc bytes ≤ x1.bytes → suc bytes ≤ x2.bytes → suc bytes ≤ 16
       → value v.at (base x1) (suc bytes) ≡ x → value v.at (base x2) (suc bytes) ≡ z → 102 ≤ c
       → wanted (either (needs at rest) (labels l)) t ≡ 0
       → HasAt e (compare_code (home x2) (home x1) (suc bytes) ++ own_told (Some (so_told r s)) (branch_zero t l) rest) pc end
@@ -3787,10 +3798,8 @@ module _ (p : PlainProgram) (functions : List PlainIrFunction) (e : Env) (slots 
       let v1 = block e compared v in
       let m1 = told_machine t truth c m in
       let s1 = has_parts e compared (own_told (Some (so_told r s)) (branch_zero t l) rest) pc end stands in
-      let sa : StandsFrom e (home x1) (suc bytes) (base x1) Own =
-      subst (λ j. StandsFrom e (home x1) j (base x1) Own) q1 (y.layout.temps_at x1 i1) in
-      let sb : StandsFrom e (home x2) (suc bytes) (base x2) Own =
-      subst (λ j. StandsFrom e (home x2) j (base x2) Own) q2 (y.layout.temps_at x2 i2) in
+      let sa : StandsFrom e (home x1) (suc bytes) (base x1) Own = stand p e slots home base place y x1 (suc bytes) i1 q1 in
+      let sb : StandsFrom e (home x2) (suc bytes) (base x2) Own = stand p e slots home base place y x2 (suc bytes) i2 q2 in
       let kept : KeepsAll v v1 = comparisons_keep e (home x2) (home x1) (suc bytes) (base x2) (base x1) v sb sa h.bytes in
       let matches : M both m1 v1 =
       kept_matches both m1 v v1 kept
@@ -3809,7 +3818,8 @@ module _ (p : PlainProgram) (functions : List PlainIrFunction) (e : Env) (slots 
       after p place e (code_steps compared) n (suc n) m.state.work m1.state.work pc s1.0 v v1
       (R (suc n) (branch_zero t l ∷ rest) m1) goes (omega (arith, some)) (omega (arith, take, most, big))
       (checked functions p y.inputs place e n n m1.state.work s1.0 v1 all stack (branch_zero t l) rest m1
-      (λ held. told_branch_follows start l t truth (so_told r s) rest n s1.0 m1 v1 ready behind it (held_at t _ m.temps)
+      (λ held. told_branch_follows start l t truth _ (so_told r s) rest n s1.0 m1 v1 ready behind it (held_at t _ m.temps)
+      (truth_zero t truth it.some)
       (record {
         holds = λ q. holds_in_flag r s e (home x1) (home x2) bytes (base x1) (base x2) v sa sb h.bytes (told ∙ q) ∙ bit_is (is_set r);
         fails = λ q. fails_in_flag r s e (home x1) (home x2) bytes (base x1) (base x2) v sa sb h.bytes (told ∙ q)
@@ -3856,7 +3866,8 @@ module _ (p : PlainProgram) (functions : List PlainIrFunction) (e : Env) (slots 
       after p place e (code_steps code) n (suc n) m.state.work m1.state.work pc s1.0 v v1
       (R (suc n) (branch_zero t l ∷ rest) m1) goes (omega (arith, some)) (omega (arith, few, eight, q1, big))
       (checked functions p y.inputs place e n n m1.state.work s1.0 v1 all stack (branch_zero t l) rest m1
-      (λ held. told_branch_follows start l t truth (so_told r s) rest n s1.0 m1 v1 ready behind it (held_at t _ m.temps)
+      (λ held. told_branch_follows start l t truth _ (so_told r s) rest n s1.0 m1 v1 ready behind it (held_at t _ m.temps)
+      (truth_zero t truth it.some)
       (record {
         holds = λ q. holds_by_number e (home x1) number bytes (base x1) v v1 k r s (told ∙ q) ∙ bit_is (is_set r);
         fails = λ q. fails_by_number e (home x1) number bytes (base x1) v v1 k r s (told ∙ q) ∙ bit_is (not (is_set r));
@@ -3920,8 +3931,8 @@ module _ (p : PlainProgram) (functions : List PlainIrFunction) (e : Env) (slots 
           (sym size)
           (told_passes start l r s t a b bytes low1 low2
           (op_steps (binary_op op ty mode t a (integer s a.bytes) b (integer s b.bytes))) rest n pc
-          (operands_needed op t a b a.bytes b.bytes (needs at (branch_zero t l ∷ rest))) m v ready behind it ia ib size
-          (same ∙ size) (omega arith) la lb (relation_big op ty (integer s a.bytes) (integer s b.bytes)) none
+          (operands_needed op t a b a.bytes b.bytes (needs at (branch_zero t l ∷ rest))) m v ready behind it ia ib (omega (arith, size))
+          (omega (arith, same, size)) (omega arith) la lb (relation_big op ty (integer s a.bytes) (integer s b.bytes)) none
           (subst
           (λ j. HasAt e
           (compare_code (home b) (home a) j ++ own_told (Some (so_told r s)) (branch_zero t l) rest) pc end) size stand) more needed f)
@@ -3937,7 +3948,8 @@ module _ (p : PlainProgram) (functions : List PlainIrFunction) (e : Env) (slots 
           (told_passes start l r s t b a bytes low2 low1
           (op_steps (binary_op op ty mode t a (integer s a.bytes) b (integer s b.bytes))) rest n pc
           (operands_needed op t a b a.bytes b.bytes (needs at (branch_zero t l ∷ rest))) m v ready behind it ib ia
-          (same ∙ size) size (omega arith) lb la (relation_big op ty (integer s a.bytes) (integer s b.bytes)) none
+          (omega (arith, same, size)) (omega (arith, size)) (omega arith) lb la
+          (relation_big op ty (integer s a.bytes) (integer s b.bytes)) none
           (subst
           (λ j. HasAt e
           (compare_code (home a) (home b) j ++ own_told (Some (so_told r s)) (branch_zero t l) rest) pc end) size stand) more needed f)
@@ -4015,6 +4027,124 @@ module _ (p : PlainProgram) (functions : List PlainIrFunction) (e : Env) (slots 
           (subst (λ j. HasAt e (compared_with_code (home a) number j ++ own_told (Some (so_told r sign)) (branch_zero t l) rest) pc end)
           is_size stands) more all_needed f)
 
+  -- AND of a byte and a number, and the branch behind it
+  masked_passes : (start l : ℕ) (t x1 : Temp) (number low c : ℕ) (rest : List PlainIr) (n pc : ℕ) (need0 : Need) (m : Mach) (v : View)
+      → Ready start all → Behind (branch_zero t l ∷ rest) → HasHome slots t → HasHome slots x1 → number < 256 → low < 256 ^ t.bytes
+      → (bit_and (v.at (base x1)) number == 0) ≡ (low == 0) → 102 ≤ c → wanted (either (needs at rest) (labels l)) t ≡ 0
+      → HasAt e (masked_code (home x1) (home t) number ++ own_told (Some (so_told NotEqual false)) (branch_zero t l) rest) pc end
+      → ((k : ℕ) → k ≢ t.at → either (needs at rest) (labels l) k ≤ need0 k) → M need0 m v → Onwards n
+      → G (suc n) m.state.work pc v (R (suc n) (branch_zero t l ∷ rest) (after_operator t low c m))
+  masked_passes start l t x1 number low c rest n pc need0 m v ready behind it i1 few below is_none big none stands more h f =
+      let both = either (needs at rest) (labels l) in
+      let code = masked_code (home x1) (home t) number in
+      let v1 = block e code v in
+      let m1 = after_operator t low c m in
+      let s1 = has_parts e code (own_told (Some (so_told NotEqual false)) (branch_zero t l) rest) pc end stands in
+      let sa : StandsFrom e (home x1) 1 (base x1) Own = stand p e slots home base place y x1 1 i1 i1.some in
+      let st : StandsFrom e (home t) 1 (base t) Own = stand p e slots home base place y t 1 it it.some in
+      let first : base x1 + 0 ≡ base x1 = omega arith in
+      let second : base t + 0 ≡ base t = omega arith in
+      let o = masks e (base x1) (base t) number v few h.bytes (home x1) (home t) (sa.at 0 (omega arith) ∙ first)
+      (subst (λ j. KindIs e (home x1) j Own) first (sa.kind 0 (omega arith))) sa.clear (st.at 0 (omega arith) ∙ second) in
+      let some = it.some in
+      let frame : Frame v v1 (base t) t.bytes =
+      λ i d g j q. o.same i j (λ w. let r = q (omega (arith, w)) in absurd (omega (arith, r, w, some))) in
+      let empty : value v1.at (base t) 0 ≡ low % 256 ^ 0 = omega arith in
+      let matches : M both m1 v1 =
+      written p e slots home base place y t (bits low) both need0 m (worked c m.state) v v1 it h more frame
+      (subst (λ j. value v1.at (base t) j ≡ low % 256 ^ j) (sym none) empty, below)
+      o.numbers refl (o.seen ∙ h.seen) (kept_left y.inputs m.state v v1 o.inputs h.left) (o.safe ∙ h.safe) in
+      let here : M (needs at rest) m1 v1 =
+      weaker p e slots home base place y both (needs at rest) m1 v1 matches (either_left (needs at rest) (labels l)) in
+      let there : M (labels l) m1 v1 =
+      weaker p e slots home base place y both (labels l) m1 v1 matches (either_right (needs at rest) (labels l)) in
+      let form = masked_form (home x1) (home t) number in
+      let least = form.1 in
+      let most = form.2 in
+      let goes = block_goes e code pc s1.0 v form.0 s1.1 in
+      after p place e (code_steps code) n (suc n) m.state.work m1.state.work pc s1.0 v v1
+      (R (suc n) (branch_zero t l ∷ rest) m1) goes (omega (arith, least)) (omega (arith, most, big))
+      (checked functions p y.inputs place e n n m1.state.work s1.0 v1 all stack (branch_zero t l) rest m1
+      (λ held. told_branch_follows start l t (not (low == 0)) low (so_told NotEqual false) rest n s1.0 m1 v1 ready behind it
+      (held_at t _ m.temps) (not_not (low == 0))
+      (turned_told (low == 0) (so_told Equal false) v1 (zero_told (low == 0) v1 (o.zero_is ∙ ap from_bool is_none))) s1.2 here there f))
+
+  masked_follows : (start l : ℕ) (s s1 s2 : Bool) (mode : Mode) (t a b : Temp) (k : ℤ) (rest : List PlainIr) (n pc : ℕ) (m : Mach)
+      (v : View) → Ready start all → Behind (branch_zero t l ∷ rest) → HasHome slots t → HasHome slots a → HasHome slots b
+      → a.bytes ≡ t.bytes → b.bytes ≡ t.bytes → IsKnown b k m → is_mask (Some k) ≡ true → wanted (either (needs at rest) (labels l)) t ≡ 0
+      → HasAt e (masked_code (home a) (home t) (low_bytes 16 k % 256)
+      ++ own_told (Some (so_told NotEqual false)) (branch_zero t l) rest) pc end
+      → M (at_least a.at (wanted (needs at (branch_zero t l ∷ rest)) t) (without t.at (needs at (branch_zero t l ∷ rest)))) m v
+      → Onwards n
+      → G (suc n) m.state.work pc v
+      (P n (binary_op And (integer s t.bytes) mode t a (integer s1 a.bytes) b (integer s2 b.bytes)) (branch_zero t l ∷ rest) m)
+  masked_follows start l s s1 s2 mode t a b k rest n pc m v ready behind it ia ib sa sb known mask none stands h f =
+      from_number p place e s1 a m.temps st _ (suc n) m.state.work pc v
+      (λ low1 qa. from_number p place e s2 b m.temps st _ (suc n) m.state.work pc v
+      (λ low2 qb.
+      let below1 : low1 < 256 ^ t.bytes = subst (λ x. low1 < 256 ^ x) sa (h.temps_hold a _ ia qa refl).1 in
+      let below2 : low2 < 256 ^ t.bytes = subst (λ x. low2 < 256 ^ x) sb (h.temps_hold b _ ib qb refl).1 in
+      let g = gives_of And BitAnd refl p mode s s1 s2 t.bytes a.bytes b.bytes low1 low2 st st sa sb below1 below2 in
+      let low = low_bytes t.bytes g.number in
+      let second : low2 ≡ number.value = known low2 qb ∙ byte_bytes k b.bytes byte ib.some in
+      let bits_most = and_le_r low1 low2 in
+      let low_is : low ≡ bit_and low1 low2 = g.low ∙ kept_below (bit_and low1 low2) (256 ^ t.bytes) (omega (arith, bits_most, below2)) in
+      let left = at_width p e slots home base place y need0 m v a _ 1 h ia qa refl tested_needed in
+      let one : v.at (base a) ≡ value v.at (base a) 1 =
+      (let z : base a ≡ base a + 0 = omega arith in ap v.at z ∙ first_byte_is v.at (base a)) in
+      let null : (bit_and (v.at (base a)) number.value == 0) ≡ (low == 0) =
+      ap (λ x. bit_and x number.value == 0) (one ∙ left.0) ∙ ap (λ x. x == 0) (sym (mask_low low1 number.value number.below))
+      ∙ ap (λ x. bit_and low1 x == 0) (sym second) ∙ ap (λ x. x == 0) (sym low_is) in
+      subst (λ r. G (suc n) m.state.work pc v
+      (next (given r st) (λ u s3. R (suc n) (branch_zero t l ∷ rest) (machine (with_temp t u m.temps) s3)))) (sym g.is)
+      (masked_passes start l t a number.value low c rest n pc need0 m v ready behind it ia number.below (low_below t.bytes g.number) null
+      (relation_big And (integer s t.bytes) (integer s1 a.bytes) (integer s2 b.bytes)) none
+      (subst (λ x. HasAt e (masked_code (home a) (home t) x ++ own_told (Some (so_told NotEqual false)) (branch_zero t l) rest) pc end)
+      number_is stands) more h f)))
+    where
+      c : ℕ
+      c = op_steps (binary_op And (integer s t.bytes) mode t a (integer s1 a.bytes) b (integer s2 b.bytes))
+
+      st : State
+      st = worked c m.state
+
+      need : Need
+      need = needs at (branch_zero t l ∷ rest)
+
+      need0 : Need
+      need0 = at_least a.at (wanted need t) (without t.at need)
+
+      byte : is_byte k ≡ true
+      byte = mask_byte k mask
+
+      number : ByteNumber k
+      number = byte_value k byte
+
+      number_is : low_bytes 16 k % 256 ≡ number.value
+      number_is = ap (λ x. x % 256) (byte_bytes k 16 byte (omega arith)) ∙ kept_below number.value 256 number.below
+
+      first_byte_is : (g : ℕ → ℕ) (i : ℕ) → g (i + 0) ≡ value g i 1
+      first_byte_is g i = omega arith
+
+      tested_bytes : ℕ
+      tested_bytes = compared_bytes (at.known (branch_zero t l ∷ rest)) t.bytes
+
+      tested_needed : 1 ≤ wanted need0 a
+      tested_needed =
+          let here = least_here t.at tested_bytes (either (needs at rest) (labels l)) in
+          let also = least_here a.at (wanted need t) (without t.at need) in
+          let some = it.some in
+          let one = ia.some in
+          let tests = compared_some (at.known (branch_zero t l ∷ rest)) t.bytes it.some in
+          omega (arith, here, also, some, one, tests)
+
+      more : (u : ℕ) → u ≢ t.at → either (needs at rest) (labels l) u ≤ need0 u
+      more u d =
+          let x = without_other t.at u need d in
+          let w = least_other a.at (wanted need t) u (without t.at need) in
+          let z = least_other t.at tested_bytes u (either (needs at rest) (labels l)) in
+          omega (arith, x, w, z)
+
   -- ---- labels
 
   -- a label counts for nothing
@@ -4091,7 +4221,7 @@ module _ (p : PlainProgram) (functions : List PlainIrFunction) (e : Env) (slots 
           (operands_needed op t a b (operand_wanted op a.bytes (wanted (needs at ops) t))
           (right_wanted op b.bytes (wanted (needs at ops) t)) (needs at ops)) m v
       needed ops h = subst (λ x. M (operands_needed op t a b (first_wanted x op a.bytes (wanted (needs at ops) t))
-          (second_wanted x op b.bytes (wanted (needs at ops) t)) (needs at ops)) m v) wx h
+          (second_wanted x op b.bytes (wanted (needs at ops) t)) (needs at ops)) m v) ax h
 
       by_family : (x : Family) → family_of op ≡ x → (told : Told) → told_of x (is_signed aty) ≡ Some told → (l : ℕ) (ops : List PlainIr)
           → IsBinary x slots t a b ty aty bty → Behind (branch_zero t l ∷ ops) → wanted (either (needs at ops) (labels l)) t ≡ 0
@@ -4202,61 +4332,118 @@ module _ (p : PlainProgram) (functions : List PlainIrFunction) (e : Env) (slots 
   are_testing t (i ∷ ops) x told q = absurd cc
 
   -- its code, and what comes after it
-  abbrev number_told : BinOp → PlainType → Mode → Temp → (aty bty : PlainType) → RightNumber → List PlainIr → Option Told
+  abbrev number_told : BinOp → PlainType → Mode → Temp → (aty bty : PlainType) → TakenNumber → List PlainIr → Option Told
   number_told op ty mode t aty bty k rest =
       if is_only_tested t (slice_get rest 0) (slice_index (wanted_bytes at rest) 0)
-      then told_by (is_apart (family_of op) mode ty aty bty) (family_of op) (compared_signed (Some k) (is_signed aty)) else None
+      then told_taking (Some (as_known k)) (is_apart (family_of op) mode ty aty bty) op (is_signed aty) else None
 
-  abbrev number_items : BinOp → PlainType → Mode → (t a : Temp) → PlainType → Temp → PlainType → RightNumber → List PlainIr
+  abbrev number_items : BinOp → PlainType → Mode → (t a : Temp) → PlainType → Temp → PlainType → TakenNumber → List PlainIr
       → List AsmItem
   number_items op ty mode t a aty b bty k rest =
-      taking_code (Some k) (number_told op ty mode t aty bty k rest) (family_of op) (is_signed aty) (is_signed bty)
+      taking_code (Some (as_known k)) (number_told op ty mode t aty bty k rest) (family_of op) (is_signed aty) (is_signed bty)
       (home a) (home b) (home t) a.bytes (wanted (needs at rest) t)
       ++ items_told (number_told op ty mode t aty bty k rest) rest
 
   -- what is needed before it
-  abbrev number_needs : BinOp → (t a : Temp) → RightNumber → List PlainIr → Need
+  abbrev number_needs : BinOp → (t a : Temp) → TakenNumber → List PlainIr → Need
   number_needs op t a k rest =
-      at_least a.at (operand_wanted op (first_bytes (Some k) op a.bytes) (wanted (needs at rest) t)) (without t.at (needs at rest))
+      at_least a.at (operand_wanted op (compared_bytes (Some (as_known k)) a.bytes) (wanted (needs at rest) t))
+      (without t.at (needs at rest))
 
   -- what is shown of it
-  abbrev NumberCase : BinOp → PlainType → Mode → (t a : Temp) → PlainType → Temp → PlainType → RightNumber → ℕ → List PlainIr → (n : ℕ)
+  abbrev NumberCase : BinOp → PlainType → Mode → (t a : Temp) → PlainType → Temp → PlainType → TakenNumber → ℕ → List PlainIr → (n : ℕ)
       → Mach → View → Type 0
   NumberCase op ty mode t a aty b bty k pc rest n m v =
       Behind rest → HasAt e (number_items op ty mode t a aty b bty k rest) pc end → M (number_needs op t a k rest) m v
       → Rest (suc n) rest → G (suc n) m.state.work pc v (P n (binary_op op ty mode t a aty b bty) rest m)
 
-  -- a sum, a difference, AND or OR tells nothing
+  -- AND with a number below 255
+  masked_number : (start : ℕ) → Ready start all → (n : ℕ) → Onwards n → (ty : PlainType) (mode : Mode)
+      (t a : Temp) (aty : PlainType) (b : Temp) (bty : PlainType) (k : TakenNumber) (pc : ℕ) (rest : List PlainIr) (m : Mach)
+      (v : View) → AreIntegers slots t a b ty aty bty → IsKnown b k.number m → is_mask (Some k.number) ≡ true
+      → NumberCase And ty mode t a aty b bty k pc rest n m v
+  masked_number start ready n go ty mode t a aty b bty k pc rest m v i known mask =
+      (subst (λ x. NumberCase And x mode t a aty b bty k pc rest n m v) (sym i.result_type)
+      (subst (λ x. NumberCase And (integer i.signed t.bytes) mode t a x b bty k pc rest n m v) (sym i.left_type)
+      (subst (λ x. NumberCase And (integer i.signed t.bytes) mode t a (integer i.left_signed a.bytes) b x k pc rest n m v)
+      (sym i.right_type)
+      (λ behind stands h f. by_told (telling rest) refl behind stands h f))))
+    where
+      own : PlainIr
+      own = binary_op And (integer i.signed t.bytes) mode t a (integer i.left_signed a.bytes) b (integer i.right_signed b.bytes)
+
+      telling : List PlainIr → Option Told
+      telling ops =
+          number_told And (integer i.signed t.bytes) mode t (integer i.left_signed a.bytes) (integer i.right_signed b.bytes) k ops
+
+      taken_by : Option Told → List PlainIr → List AsmItem
+      taken_by told ops =
+          taking_code (Some (as_known k)) told (Combined BitAnd) i.left_signed i.right_signed (home a) (home b) (home t) a.bytes
+          (wanted (needs at ops) t)
+
+      code : Option Told → List PlainIr → List AsmItem
+      code told ops = taken_by told ops ++ items_told told ops
+
+      by_told : (told : Option Told) → telling rest ≡ told → Behind rest → HasAt e (code (telling rest) rest) pc end
+          → M (number_needs And t a k rest) m v → Rest (suc n) rest → G (suc n) m.state.work pc v (P n own rest m)
+      by_told None q behind stands h f =
+          combined_number_follows And BitAnd refl refl i.signed i.left_signed i.right_signed mode t a b k.number rest n pc m v
+          i.result i.left i.right i.left_bytes i.right_bytes known (subst (λ x. HasAt e (code x rest) pc end) q stands) h f
+      by_told (Some told) q behind stands h f =
+          let z = are_testing t rest (told_taking (Some (as_known k)) false And i.left_signed) told q in
+          subst
+          (λ ops. Behind ops → HasAt e (code (Some told) ops) pc end → M (number_needs And t a k ops) m v
+          → G (suc n) m.state.work pc v (P n own ops m)) (sym z.is)
+          (λ behind1 stands1 h1.
+          let by_flag : Some (so_told NotEqual false) ≡ Some told =
+          ap (λ (x : Bool). if x then Some (so_told NotEqual false) else None) (sym mask) ∙ z.by in
+          let same : so_told NotEqual false ≡ told = cc in
+          masked_follows start z.l i.signed i.left_signed i.right_signed mode t a b k.number z.rest n pc m v ready behind1
+          i.result i.left i.right i.left_bytes i.right_bytes known mask z.none
+          (subst (λ (x : Told). HasAt e (masked_code (home a) (home t) (low_bytes 16 k.number % 256)
+          ++ own_told (Some x) (branch_zero t z.l) z.rest) pc end) (sym same)
+          (at_use_behind (taken_by (Some told) (branch_zero t z.l ∷ z.rest)) (Some told) (branch_zero t z.l) z.rest pc
+          behind1.covered.0.1 (λ l none. none) stands1)) h1 go)
+          behind (subst (λ x. HasAt e (code x rest) pc end) q stands) h
+
+  -- a sum, a difference, OR, or any other AND tells nothing
   combined_number : (op : BinOp) (o : Operator) → family_of op ≡ Combined o → is_changed o ≡ true → (ty : PlainType) (mode : Mode)
-      (t a : Temp) (aty : PlainType) (b : Temp) (bty : PlainType) (k : RightNumber) (pc : ℕ) (rest : List PlainIr) (n : ℕ) (m : Mach)
+      (t a : Temp) (aty : PlainType) (b : Temp) (bty : PlainType) (k : TakenNumber) (pc : ℕ) (rest : List PlainIr) (n : ℕ) (m : Mach)
       (v : View)
-      → AreIntegers slots t a b ty aty bty → IsKnown b k.number m → NumberCase op ty mode t a aty b bty k pc rest n m v
-  combined_number op o is changed ty mode t a aty b bty k pc rest n m v i known =
+      → AreIntegers slots t a b ty aty bty → IsKnown b k.number m → is_masked (Some (as_known k)) op ≡ false
+      → NumberCase op ty mode t a aty b bty k pc rest n m v
+  combined_number op o is changed ty mode t a aty b bty k pc rest n m v i known unmasked =
       (subst (λ x. NumberCase op x mode t a aty b bty k pc rest n m v) (sym i.result_type)
       (subst (λ x. NumberCase op (integer i.signed t.bytes) mode t a x b bty k pc rest n m v) (sym i.left_type)
       (subst (λ x. NumberCase op (integer i.signed t.bytes) mode t a (integer i.left_signed a.bytes) b x k pc rest n m v)
       (sym i.right_type)
       (λ behind stands h f. combined_number_follows op o is changed i.signed i.left_signed i.right_signed mode t a b k.number rest n pc m v
       i.result i.left i.right i.left_bytes i.right_bytes known
-      (subst (λ x. HasAt e (taking_code (Some k) None x i.left_signed i.right_signed (home a) (home b) (home t) a.bytes
+      (subst (λ x. HasAt e (taking_code (Some (as_known k)) None x i.left_signed i.right_signed (home a) (home b) (home t) a.bytes
       (wanted (needs at rest) t) ++ items rest) pc end) is
-      (subst (λ x. HasAt e (taking_code (Some k) x (family_of op) i.left_signed i.right_signed (home a) (home b) (home t) a.bytes
+      (subst (λ x. HasAt e (taking_code (Some (as_known k)) x (family_of op) i.left_signed i.right_signed (home a) (home b) (home t) a.bytes
       (wanted (needs at rest) t) ++ items_told x rest) pc end)
       (untold (is_only_tested t (slice_get rest 0) (slice_index (wanted_bytes at rest) 0))
       (is_apart (family_of op) mode (integer i.signed t.bytes) (integer i.left_signed a.bytes)
-      (integer i.right_signed b.bytes)) (compared_signed (Some k) i.left_signed))
+      (integer i.right_signed b.bytes)) i.left_signed)
       stands))
       (subst (λ x. M (at_least a.at x (without t.at (needs at rest))) m v)
-      (low_bytes_wanted op o is (first_bytes (Some k) op a.bytes) (wanted (needs at rest) t)) h)
+      (low_bytes_wanted op o is (compared_bytes (Some (as_known k)) a.bytes) (wanted (needs at rest) t)) h)
       f))))
     where
-      untold : (only apart s : Bool) → (if only then told_by apart (family_of op) s else None) ≡ None
+      none : (apart s : Bool) → told_by apart (family_of op) s ≡ None
+      none true s = refl
+      none false s = ap (λ x. told_of x s) is
+
+      untold : (only apart s : Bool) → (if only then told_taking (Some (as_known k)) apart op s else None) ≡ None
       untold false apart s = refl
-      untold true true s = refl
-      untold true false s = ap (λ x. told_of x s) is
+      untold true apart s =
+          ap (λ (x : Bool). if x then Some (so_told NotEqual false) else told_by apart (family_of op)
+          (compared_signed (Some (as_known k)) s)) unmasked
+          ∙ none apart (compared_signed (Some (as_known k)) s)
 
   -- where both operands are below 256, what is known of the first one
-  abbrev IsByte : Temp → RightNumber → Mach → Type 0
+  abbrev IsByte : Temp → TakenNumber → Mach → Type 0
   IsByte a k m =
       k.in_byte ≡ true → (1 < a.bytes) × (is_byte k.number ≡ true)
       × ((low : ℕ) → m.temps a.at ≡ Some (record { bytes = a.bytes; content = bits low }) → low < 256)
@@ -4304,7 +4491,7 @@ module _ (p : PlainProgram) (functions : List PlainIrFunction) (e : Env) (slots 
   -- a comparison
   compared_number : (start : ℕ) → Ready start all → (n : ℕ) → Onwards n → (op : BinOp) (r : Relation)
       → family_of op ≡ Compared r false
-      → (ty : PlainType) (mode : Mode) (t a : Temp) (aty : PlainType) (b : Temp) (bty : PlainType) (k : RightNumber) (pc : ℕ)
+      → (ty : PlainType) (mode : Mode) (t a : Temp) (aty : PlainType) (b : Temp) (bty : PlainType) (k : TakenNumber) (pc : ℕ)
       (rest : List PlainIr) (m : Mach) (v : View) → AreCompared slots t a b aty bty → IsKnown b k.number m → IsByte a k m
       → NumberCase op ty mode t a aty b bty k pc rest n m v
   compared_number start ready n go op r is ty mode t a aty b bty k pc rest m v i known byte =
@@ -4316,10 +4503,10 @@ module _ (p : PlainProgram) (functions : List PlainIrFunction) (e : Env) (slots 
       own = binary_op op ty mode t a (integer i.signed a.bytes) b (integer i.signed b.bytes)
 
       size : ℕ
-      size = compared_bytes (Some k) a.bytes
+      size = compared_bytes (Some (as_known k)) a.bytes
 
       sign : Bool
-      sign = compared_signed (Some k) i.signed
+      sign = compared_signed (Some (as_known k)) i.signed
 
       by : AreComparedBy a b k.number i.signed size sign m
       by = by_kind k.in_byte refl
@@ -4337,15 +4524,14 @@ module _ (p : PlainProgram) (functions : List PlainIrFunction) (e : Env) (slots 
       compared_needed : (ops : List PlainIr) → M (number_needs op t a k ops) m v
           → M (at_least a.at (operand_wanted op size (wanted (needs at ops) t)) (without t.at (needs at ops))) m v
       compared_needed ops h =
-          subst (λ x. M (at_least a.at (operand_wanted op x (wanted (needs at ops) t)) (without t.at (needs at ops))) m v)
-          (first_compared op r is k a.bytes) h
+          h
 
       telling : List PlainIr → Option Told
       telling ops = number_told op ty mode t (integer i.signed a.bytes) (integer i.signed b.bytes) k ops
 
       taken_by : Option Told → List PlainIr → List AsmItem
       taken_by told ops =
-          taking_code (Some k) told (family_of op) i.signed i.signed (home a) (home b) (home t) a.bytes (wanted (needs at ops) t)
+          taking_code (Some (as_known k)) told (family_of op) i.signed i.signed (home a) (home b) (home t) a.bytes (wanted (needs at ops) t)
 
       code : Option Told → List PlainIr → List AsmItem
       code told ops = taken_by told ops ++ items_told told ops
@@ -4353,30 +4539,36 @@ module _ (p : PlainProgram) (functions : List PlainIrFunction) (e : Env) (slots 
       by_told : (told : Option Told) → telling rest ≡ told → Behind rest → HasAt e (code (telling rest) rest) pc end
           → M (number_needs op t a k rest) m v → Rest (suc n) rest → G (suc n) m.state.work pc v (P n own rest m)
       by_told None q behind stands h f =
-          related_number_follows op r is i.signed sign size ty mode t a b k.number rest n pc m v i.result i.left i.right i.same_bytes known by
-          (subst (λ x. HasAt e (taking_code (Some k) None x i.signed i.signed (home a) (home b) (home t) a.bytes
+          related_number_follows op r is i.signed sign size ty mode t a b k.number rest n pc m v i.result i.left i.right i.same_bytes by
+          (subst (λ x. HasAt e (taking_code (Some (as_known k)) None x i.signed i.signed (home a) (home b) (home t) a.bytes
           (wanted (needs at rest) t) ++ items rest) pc end) is (subst (λ x. HasAt e (code x rest) pc end) q stands))
           (compared_needed rest h) f
       by_told (Some told) q behind stands h f =
-          let z = are_testing t rest (told_by false (family_of op) sign) told q in
+          let z = are_testing t rest (told_taking (Some (as_known k)) false op i.signed) told q in
           subst
           (λ ops. Behind ops → HasAt e (code (Some told) ops) pc end → M (number_needs op t a k ops) m v
           → G (suc n) m.state.work pc v (P n own ops m)) (sym z.is)
           (λ behind1 stands1 h1.
-          let by_flag : Some (record { relation = r; signed = sign }) ≡ Some told = ap (λ x. told_of x sign) (sym is) ∙ z.by in
-          let same : record { relation = r; signed = sign } ≡ told = cc in
+          let by_flag : Some (Operands r sign) ≡ Some told =
+          ap (λ x. told_of x sign) (sym is)
+          ∙ ap (λ (x : Bool). if x then Some (Operands NotEqual false) else told_of (family_of op) sign)
+          (sym (order_unmasked op r false (as_known k) is))
+          ∙ z.by in
+          let same : Operands r sign ≡ told = cc in
           told_number_follows start z.l op r is i.signed sign size ty mode t a b k.number z.rest n pc m v ready behind1
           i.result i.left i.right i.same_bytes by z.none
           (subst (λ (x : Told). HasAt e (compared_with_code (home a) (low_bytes 16 k.number) size
           ++ own_told (Some x) (branch_zero t z.l) z.rest) pc end) (sym same)
-          (at_use_behind (taken_by (Some told) (branch_zero t z.l ∷ z.rest)) (Some told) (branch_zero t z.l) z.rest pc
-          behind1.covered.0.1 (λ l none. none) stands1))
+          (at_use_behind (compared_with_code (home a) (low_bytes 16 k.number) size) (Some told) (branch_zero t z.l) z.rest pc
+          behind1.covered.0.1 (λ l none. none)
+          (subst (λ x. HasAt e (told_number_code x (home a) (home t) (low_bytes 16 k.number) size
+          ++ items_told (Some told) (branch_zero t z.l ∷ z.rest)) pc end) is stands1)))
           (compared_needed (branch_zero t z.l ∷ z.rest) h1) go)
           behind (subst (λ x. HasAt e (code x rest) pc end) q stands) h
 
   -- a shift
   shifted_number : (op : BinOp) (up : Bool) → family_of op ≡ Shifted up → (ty : PlainType) (mode : Mode) (t a : Temp) (aty : PlainType)
-      (b : Temp) (bty : PlainType) (k : RightNumber) (pc : ℕ) (rest : List PlainIr) (n : ℕ) (m : Mach) (v : View)
+      (b : Temp) (bty : PlainType) (k : TakenNumber) (pc : ℕ) (rest : List PlainIr) (n : ℕ) (m : Mach) (v : View)
       → IsBinary (Shifted up) slots t a b ty aty bty → IsKnown b k.number m → IsByte a k m
       → NumberCase op ty mode t a aty b bty k pc rest n m v
   shifted_number op up is ty mode t a aty b bty k pc rest n m v j known byte =
@@ -4387,22 +4579,28 @@ module _ (p : PlainProgram) (functions : List PlainIrFunction) (e : Env) (slots 
       (subst (λ x. NumberCase op (integer i.signed a.bytes) mode t a x b bty k pc rest n m v) (sym i.left_type)
       (subst (λ x. NumberCase op (integer i.signed a.bytes) mode t a (integer i.signed a.bytes) b x k pc rest n m v) (sym i.count_type)
       (λ behind stands h f. by_way i.signed i.count_signed i.result i.left i.count same up is k.in_byte refl
-      (subst (λ x. HasAt e (taking_code (Some k) None x i.signed i.count_signed (home a) (home b) (home t) a.bytes
+      (subst (λ x. HasAt e (taking_code (Some (as_known k)) None x i.signed i.count_signed (home a) (home b) (home t) a.bytes
       (wanted (needs at rest) t) ++ items rest) pc end) is
-      (subst (λ x. HasAt e (taking_code (Some k) x (family_of op) i.signed i.count_signed (home a) (home b) (home t) a.bytes
+      (subst (λ x. HasAt e (taking_code (Some (as_known k)) x (family_of op) i.signed i.count_signed (home a) (home b) (home t) a.bytes
       (wanted (needs at rest) t) ++ items_told x rest) pc end)
       (untold (is_only_tested t (slice_get rest 0) (slice_index (wanted_bytes at rest) 0))
       (is_apart (family_of op) mode (integer i.signed a.bytes) (integer i.signed a.bytes)
-      (integer i.count_signed b.bytes)) (compared_signed (Some k) i.signed))
+      (integer i.count_signed b.bytes)) i.signed)
       stands)) h f))))
     where
       w : ℕ
       w = wanted (needs at rest) t
 
-      untold : (only apart s : Bool) → (if only then told_by apart (family_of op) s else None) ≡ None
+      none : (apart s : Bool) → told_by apart (family_of op) s ≡ None
+      none true s = refl
+      none false s = ap (λ x. told_of x s) is
+
+      untold : (only apart s : Bool) → (if only then told_taking (Some (as_known k)) apart op s else None) ≡ None
       untold false apart s = refl
-      untold true true s = refl
-      untold true false s = ap (λ x. told_of x s) is
+      untold true apart s =
+          ap (λ (x : Bool). if x then Some (so_told NotEqual false) else told_by apart (family_of op)
+          (compared_signed (Some (as_known k)) s))
+          (shift_unmasked op up (as_known k) is) ∙ none apart (compared_signed (Some (as_known k)) s)
 
       -- no byte becomes 0
       all_shifted : (s : Bool) → a.bytes ≡ t.bytes
@@ -4440,19 +4638,278 @@ module _ (p : PlainProgram) (functions : List PlainIrFunction) (e : Env) (slots 
           ++ items rest) pc end) one stands) h f
 
   number_follows : (start : ℕ) → Ready start all → (n : ℕ) → Onwards n → (op : BinOp) (ty : PlainType) (mode : Mode)
-      (t a : Temp) (aty : PlainType) (b : Temp) (bty : PlainType) (k : RightNumber) (pc : ℕ) (rest : List PlainIr) (m : Mach) (v : View)
+      (t a : Temp) (aty : PlainType) (b : Temp) (bty : PlainType) (k : TakenNumber) (pc : ℕ) (rest : List PlainIr) (m : Mach) (v : View)
       → takes_number op ≡ true → IsBinary (family_of op) slots t a b ty aty bty → IsKnown b k.number m → IsByte a k m
       → NumberCase op ty mode t a aty b bty k pc rest n m v
   number_follows start ready n go op ty mode t a aty b bty k pc rest m v taken i known byte =
       ⊎_elim
-      (λ (x : TakesSum op). combined_number op x.operator x.is x.changed ty mode t a aty b bty k pc rest n m v
-      (subst (λ z. IsBinary z slots t a b ty aty bty) x.is i) known)
+      (λ (x : TakesSum op). by_mask x (is_masked (Some (as_known k)) op) refl)
       (λ (z : TakesOrder op ⊎ TakesShift op). ⊎_elim
       (λ (x : TakesOrder op). compared_number start ready n go op x.relation x.is ty mode t a aty b bty k pc rest m v
       (subst (λ z. IsBinary z slots t a b ty aty bty) x.is i) known byte)
       (λ (x : TakesShift op). shifted_number op x.up x.is ty mode t a aty b bty k pc rest n m v
       (subst (λ z. IsBinary z slots t a b ty aty bty) x.is i) known byte) z)
       (takes op taken)
+    where
+      by_mask : TakesSum op → (x : Bool) → is_masked (Some (as_known k)) op ≡ x → NumberCase op ty mode t a aty b bty k pc rest n m v
+      by_mask s true q =
+          let is = masked_is op (as_known k) q in
+          subst (λ z. NumberCase z ty mode t a aty b bty k pc rest n m v) (sym is.0)
+          (masked_number start ready n go ty mode t a aty b bty k pc rest m v
+          (subst (λ z. IsBinary (family_of z) slots t a b ty aty bty) is.0 i) known is.1)
+      by_mask s false q =
+          combined_number op s.operator s.is s.changed ty mode t a aty b bty k pc rest n m v
+          (subst (λ z. IsBinary z slots t a b ty aty bty) s.is i) known q
+
+  -- two operands that are known to be below 256
+  record AreLow (a b : Temp) (m : Mach) : Type 0 where
+    more : 1 < a.bytes
+    left : (low : ℕ) → m.temps a.at ≡ Some (record { bytes = a.bytes; content = bits low }) → low < 256
+    right : (low : ℕ) → m.temps b.at ≡ Some (record { bytes = b.bytes; content = bits low }) → low < 256
+
+  -- their comparison, by one byte of each
+  low_same : (r : Relation) (exchanged s : Bool) (a b : Temp) (low1 low2 : ℕ) (m : Mach) → AreLow a b m
+      → m.temps a.at ≡ Some (record { bytes = a.bytes; content = bits low1 })
+      → m.temps b.at ≡ Some (record { bytes = b.bytes; content = bits low2 })
+      → stand_so r s a.bytes (first_of_two exchanged low1 low2) (first_of_two exchanged low2 low1)
+      ≡ stand_so r false 1 (first_of_two exchanged low1 low2) (first_of_two exchanged low2 low1)
+  low_same r false s a b low1 low2 m low qa qb = byte_order r s a.bytes low1 low2 low.more (low.left low1 qa) (low.right low2 qb)
+  low_same r true s a b low1 low2 m low qa qb = byte_order r s a.bytes low2 low1 low.more (low.right low2 qb) (low.left low1 qa)
+
+  -- what is needed before it, where some of its result is needed
+  low_needed : (op : BinOp) (r : Relation) (exchanged : Bool) → family_of op ≡ Compared r exchanged → (t a b : Temp)
+      (ops : List PlainIr) (m : Mach) (v : View) → (wanted (needs at ops) t == 0) ≡ false
+      → M (operands_needed op t a b (operand_wanted op 1 (wanted (needs at ops) t)) (right_wanted op 1 (wanted (needs at ops) t))
+      (needs at ops)) m v
+      → M (operands_needed op t a b 1 1 (needs at ops)) m v
+  low_needed op r exchanged is t a b ops m v q h =
+      subst (λ x. M (operands_needed op t a b x 1 (needs at ops)) m v) (all_wanted op r exchanged is 1 (wanted (needs at ops) t) q)
+      (subst (λ x. M (operands_needed op t a b (operand_wanted op 1 (wanted (needs at ops) t)) x (needs at ops)) m v)
+      (all_right_wanted op r exchanged is 1 (wanted (needs at ops) t) q) h)
+
+  low_hold : (op : BinOp) (t a b : Temp) (need : Need) (low1 low2 : ℕ) (m : Mach) (v : View) → HasHome slots a → HasHome slots b
+      → AreLow a b m → m.temps a.at ≡ Some (record { bytes = a.bytes; content = bits low1 })
+      → m.temps b.at ≡ Some (record { bytes = b.bytes; content = bits low2 }) → M (operands_needed op t a b 1 1 need) m v
+      → (value v.at (base a) 1 ≡ low1) × (value v.at (base b) 1 ≡ low2)
+  low_hold op t a b need low1 low2 m v ia ib low qa qb h = (
+    left_holds op t a b 1 1 low1 need m v ia ia.some qa h ∙ kept_below low1 (256 ^ 1) (low.left low1 qa),
+    right_holds op t a b 1 1 low2 need m v ib ib.some qb h ∙ kept_below low2 (256 ^ 1) (low.right low2 qb),
+  )
+
+  related_bytes_follows : (op : BinOp) (r : Relation) (exchanged : Bool) → family_of op ≡ Compared r exchanged
+      → (s : Bool) (ty : PlainType) (mode : Mode) (t a b : Temp) (rest : List PlainIr) (n pc : ℕ) (m : Mach) (v : View)
+      → HasHome slots t → HasHome slots a → HasHome slots b → b.bytes ≡ a.bytes → AreLow a b m
+      → HasAt e (bytes_code None (Compared r exchanged) (home a) (home b) (home t) 1 (wanted (needs at rest) t) ++ items rest) pc end
+      → M (operands_needed op t a b (operand_wanted op 1 (wanted (needs at rest) t)) (right_wanted op 1 (wanted (needs at rest) t))
+      (needs at rest)) m v
+      → Rest (suc n) rest
+      → G (suc n) m.state.work pc v (P n (binary_op op ty mode t a (integer s a.bytes) b (integer s b.bytes)) rest m)
+  related_bytes_follows op r exchanged is s ty mode t a b rest n pc m v it ia ib same low stands h f =
+      compared_numbers op r exchanged is s ty mode t a b rest n pc
+      (operands_needed op t a b (operand_wanted op 1 w) (right_wanted op 1 w) need) m v ia ib same h
+      (λ low1 low2 qa qb below1 below2.
+      subst (λ (x : Bool). G (suc n) m.state.work pc v (R (suc n) rest (told_machine t x c m)))
+      (sym (low_same r exchanged s a b low1 low2 m low qa qb))
+      (⊎_elim (λ q. dead q low1 low2) (λ q. alive q exchanged low1 low2 qa qb is stands) (cases_Bool (w == 0))))
+    where
+      need : Need
+      need = needs at rest
+
+      w : ℕ
+      w = wanted need t
+
+      c : ℕ
+      c = op_steps (binary_op op ty mode t a (integer s a.bytes) b (integer s b.bytes))
+
+      Goes : Bool → Bool → (low1 low2 : ℕ) → Type 0
+      Goes x sign low1 low2 =
+          G (suc n) m.state.work pc v
+          (R (suc n) rest (told_machine t (stand_so r sign 1 (first_of_two x low1 low2) (first_of_two x low2 low1)) c m))
+
+      dead : (w == 0) ≡ true → (low1 low2 : ℕ) → Goes exchanged false low1 low2
+      dead q low1 low2 =
+          let truth = stand_so r false 1 (first_of_two exchanged low1 low2) (first_of_two exchanged low2 low1) in
+          no_code_passes (bytes_code None (Compared r exchanged) (home a) (home b) (home t) 1 w) t
+          (low_bytes t.bytes (pos (from_bool truth))) c rest n pc
+          (operands_needed op t a b (operand_wanted op 1 w) (right_wanted op 1 w) need) m v it (none exchanged) (eqb-true w 0 q)
+          (low_below t.bytes (pos (from_bool truth))) stands
+          (other_needed op t a b (operand_wanted op 1 w) (right_wanted op 1 w) need) h f
+        where
+          none : (x : Bool) → bytes_code None (Compared r x) (home a) (home b) (home t) 1 w ≡ []
+          none false = rw q refl
+          none true = rw q refl
+
+      alive : (w == 0) ≡ false → (x : Bool) → (low1 low2 : ℕ) → m.temps a.at ≡ Some (record { bytes = a.bytes; content = bits low1 })
+          → m.temps b.at ≡ Some (record { bytes = b.bytes; content = bits low2 }) → family_of op ≡ Compared r x
+          → HasAt e (bytes_code None (Compared r x) (home a) (home b) (home t) 1 w ++ items rest) pc end → Goes x false low1 low2
+      alive q false low1 low2 qa qb is stands =
+          let needed = low_needed op r false is t a b rest m v q h in
+          let held = low_hold op t a b need low1 low2 m v ia ib low qa qb needed in
+          let code = relation_code r false (home a) (home b) 1 ++ conversion_code false (InRegisters 30) (home t) 1 w in
+          related_passes r false t a b 0 low1 low2 c rest n pc m.state.work (operands_needed op t a b 1 1 need) m v it ia ib
+          ia.some ib.some (omega arith) held.0 held.1
+          (omega (arith, relation_big op ty (integer s a.bytes) (integer s b.bytes)))
+          (subst (λ (x : Bool). HasAt e ((if x then [] else code) ++ items rest) pc end) q stands)
+          (other_needed op t a b 1 1 need) needed f
+      alive q true low1 low2 qa qb is stands =
+          let needed = low_needed op r true is t a b rest m v q h in
+          let held = low_hold op t a b need low1 low2 m v ia ib low qa qb needed in
+          let code = relation_code r false (home b) (home a) 1 ++ conversion_code false (InRegisters 30) (home t) 1 w in
+          related_passes r false t b a 0 low2 low1 c rest n pc m.state.work (operands_needed op t a b 1 1 need) m v it ib ia
+          ib.some ia.some (omega arith) held.1 held.0
+          (omega (arith, relation_big op ty (integer s a.bytes) (integer s b.bytes)))
+          (subst (λ (x : Bool). HasAt e ((if x then [] else code) ++ items rest) pc end) q stands)
+          (other_needed op t a b 1 1 need) needed f
+
+  -- and the branch behind it
+  told_bytes_follows : (start l : ℕ) (op : BinOp) (r : Relation) (exchanged : Bool) → family_of op ≡ Compared r exchanged
+      → (s : Bool) (ty : PlainType) (mode : Mode) (t a b : Temp) (rest : List PlainIr) (n pc : ℕ) (m : Mach) (v : View)
+      → Ready start all → Behind (branch_zero t l ∷ rest) → HasHome slots t → HasHome slots a
+      → HasHome slots b → b.bytes ≡ a.bytes → AreLow a b m → wanted (either (needs at rest) (labels l)) t ≡ 0
+      → HasAt e (flag_code (Compared r exchanged) (home a) (home b) 1 ++ own_told (Some (so_told r false)) (branch_zero t l) rest) pc end
+      → M (operands_needed op t a b (operand_wanted op 1 (wanted (needs at (branch_zero t l ∷ rest)) t))
+      (right_wanted op 1 (wanted (needs at (branch_zero t l ∷ rest)) t)) (needs at (branch_zero t l ∷ rest))) m v
+      → Onwards n
+      → G (suc n) m.state.work pc v
+      (P n (binary_op op ty mode t a (integer s a.bytes) b (integer s b.bytes)) (branch_zero t l ∷ rest) m)
+  told_bytes_follows start l op r exchanged is s ty mode t a b rest n pc m v ready behind it ia ib same low none stands h f =
+      compared_numbers op r exchanged is s ty mode t a b (branch_zero t l ∷ rest) n pc
+      (operands_needed op t a b (operand_wanted op 1 (wanted need t)) (right_wanted op 1 (wanted need t)) need) m v ia ib same h
+      (λ low1 low2 qa qb below1 below2.
+      subst (λ (x : Bool). G (suc n) m.state.work pc v (R (suc n) (branch_zero t l ∷ rest) (told_machine t x c m)))
+      (sym (low_same r exchanged s a b low1 low2 m low qa qb)) (by_side exchanged low1 low2 qa qb is stands))
+    where
+      need : Need
+      need = needs at (branch_zero t l ∷ rest)
+
+      c : ℕ
+      c = op_steps (binary_op op ty mode t a (integer s a.bytes) b (integer s b.bytes))
+
+      size : ℕ
+      size = compared_bytes (at.known (branch_zero t l ∷ rest)) t.bytes
+
+      tested_needed : (wanted need t == 0) ≡ false
+      tested_needed =
+          let here = least_here t.at size (either (needs at rest) (labels l)) in
+          let some = it.some in
+          let tests = compared_some (at.known (branch_zero t l ∷ rest)) t.bytes it.some in
+          ne_eqb (wanted need t) 0 (λ q. absurd (omega (arith, here, some, tests, q)))
+
+      more : (k : ℕ) → k ≢ t.at → either (needs at rest) (labels l) k ≤ operands_needed op t a b 1 1 need k
+      more k d =
+          let x = other_needed op t a b 1 1 need k d in
+          let z = least_other t.at size k (either (needs at rest) (labels l)) in
+          omega (arith, x, z)
+
+      by_side : (x : Bool) → (low1 low2 : ℕ) → m.temps a.at ≡ Some (record { bytes = a.bytes; content = bits low1 })
+          → m.temps b.at ≡ Some (record { bytes = b.bytes; content = bits low2 }) → family_of op ≡ Compared r x
+          → HasAt e (flag_code (Compared r x) (home a) (home b) 1 ++ own_told (Some (so_told r false)) (branch_zero t l) rest) pc end
+          → G (suc n) m.state.work pc v
+          (R (suc n) (branch_zero t l ∷ rest)
+          (told_machine t (stand_so r false 1 (first_of_two x low1 low2) (first_of_two x low2 low1)) c m))
+      by_side false low1 low2 qa qb is stand =
+          let needed = low_needed op r false is t a b (branch_zero t l ∷ rest) m v tested_needed h in
+          let held = low_hold op t a b need low1 low2 m v ia ib low qa qb needed in
+          told_passes start l r false t a b 0 low1 low2 c rest n pc (operands_needed op t a b 1 1 need) m v ready behind it ia ib
+          ia.some ib.some (omega arith) held.0 held.1 (relation_big op ty (integer s a.bytes) (integer s b.bytes)) none stand more needed f
+      by_side true low1 low2 qa qb is stand =
+          let needed = low_needed op r true is t a b (branch_zero t l ∷ rest) m v tested_needed h in
+          let held = low_hold op t a b need low1 low2 m v ia ib low qa qb needed in
+          told_passes start l r false t b a 0 low2 low1 c rest n pc (operands_needed op t a b 1 1 need) m v ready behind it ib ia
+          ib.some ia.some (omega arith) held.1 held.0 (relation_big op ty (integer s a.bytes) (integer s b.bytes)) none stand more needed f
+
+  -- what it tells, its code and what comes after it
+  abbrev bytes_told : BinOp → PlainType → Mode → Temp → (aty bty : PlainType) → List PlainIr → Option Told
+  bytes_told op ty mode t aty bty rest =
+      if is_only_tested t (slice_get rest 0) (slice_index (wanted_bytes at rest) 0)
+      then told_by (is_apart (family_of op) mode ty aty bty) (family_of op) false else None
+
+  abbrev bytes_items : BinOp → PlainType → Mode → (t a : Temp) → PlainType → Temp → PlainType → List PlainIr → List AsmItem
+  bytes_items op ty mode t a aty b bty rest =
+      bytes_code (bytes_told op ty mode t aty bty rest) (family_of op) (home a) (home b) (home t) (min 1 a.bytes) (wanted (needs at rest) t)
+      ++ items_told (bytes_told op ty mode t aty bty rest) rest
+
+  abbrev bytes_needs : BinOp → (t a b : Temp) → List PlainIr → Need
+  bytes_needs op t a b rest =
+      operands_needed op t a b (operand_wanted op (min 1 a.bytes) (wanted (needs at rest) t))
+      (right_wanted op (min 1 b.bytes) (wanted (needs at rest) t)) (needs at rest)
+
+  abbrev BytesCase : BinOp → PlainType → Mode → (t a : Temp) → PlainType → Temp → PlainType → ℕ → List PlainIr → (n : ℕ) → Mach → View
+      → Type 0
+  BytesCase op ty mode t a aty b bty pc rest n m v =
+      Behind rest → HasAt e (bytes_items op ty mode t a aty b bty rest) pc end → M (bytes_needs op t a b rest) m v
+      → Rest (suc n) rest → G (suc n) m.state.work pc v (P n (binary_op op ty mode t a aty b bty) rest m)
+
+  bytes_follow : (start : ℕ) → Ready start all → (n : ℕ) → Onwards n → (op : BinOp) (r : Relation) (exchanged : Bool)
+      → family_of op ≡ Compared r exchanged
+      → (ty : PlainType) (mode : Mode) (t a : Temp) (aty : PlainType) (b : Temp) (bty : PlainType) (pc : ℕ)
+      (rest : List PlainIr) (m : Mach) (v : View) → AreCompared slots t a b aty bty → AreLow a b m
+      → BytesCase op ty mode t a aty b bty pc rest n m v
+  bytes_follow start ready n go op r exchanged is ty mode t a aty b bty pc rest m v i low =
+      (subst (λ x. BytesCase op ty mode t a x b bty pc rest n m v) (sym i.left_type)
+      (subst (λ x. BytesCase op ty mode t a (integer i.signed a.bytes) b x pc rest n m v) (sym i.right_type)
+      (λ behind stands h f. by_told (telling rest) refl behind stands (needed rest h) f)))
+    where
+      own : PlainIr
+      own = binary_op op ty mode t a (integer i.signed a.bytes) b (integer i.signed b.bytes)
+
+      one_left : min 1 a.bytes ≡ 1
+      one_left = let some = i.left.some in omega arith
+
+      one_right : min 1 b.bytes ≡ 1
+      one_right = let some = i.right.some in omega arith
+
+      telling : List PlainIr → Option Told
+      telling ops = bytes_told op ty mode t (integer i.signed a.bytes) (integer i.signed b.bytes) ops
+
+      code : Option Told → ℕ → List PlainIr → List AsmItem
+      code told bytes ops =
+          bytes_code told (family_of op) (home a) (home b) (home t) bytes (wanted (needs at ops) t) ++ items_told told ops
+
+      one_needs : List PlainIr → Need
+      one_needs ops =
+          operands_needed op t a b (operand_wanted op 1 (wanted (needs at ops) t)) (right_wanted op 1 (wanted (needs at ops) t))
+          (needs at ops)
+
+      needed : (ops : List PlainIr) → M (bytes_needs op t a b ops) m v → M (one_needs ops) m v
+      needed ops h =
+          subst (λ x. M (operands_needed op t a b (operand_wanted op 1 (wanted (needs at ops) t))
+          (right_wanted op x (wanted (needs at ops) t)) (needs at ops)) m v) one_right
+          (subst (λ x. M (operands_needed op t a b (operand_wanted op x (wanted (needs at ops) t))
+          (right_wanted op (min 1 b.bytes) (wanted (needs at ops) t)) (needs at ops)) m v) one_left h)
+
+      by_told : (told : Option Told) → telling rest ≡ told → Behind rest → HasAt e (code (telling rest) (min 1 a.bytes) rest) pc end
+          → M (one_needs rest) m v → Rest (suc n) rest → G (suc n) m.state.work pc v (P n own rest m)
+      by_told None q behind stands h f =
+          related_bytes_follows op r exchanged is i.signed ty mode t a b rest n pc m v i.result i.left i.right i.same_bytes low
+          (subst (λ x. HasAt e (bytes_code None x (home a) (home b) (home t) 1 (wanted (needs at rest) t) ++ items rest) pc end) is
+          (subst (λ x. HasAt e (code None x rest) pc end) one_left (subst (λ x. HasAt e (code x (min 1 a.bytes) rest) pc end) q stands)))
+          h f
+      by_told (Some told) q behind stands h f =
+          let z = are_testing t rest (told_by false (family_of op) false) told q in
+          subst
+          (λ ops. Behind ops → HasAt e (code (Some told) 1 ops) pc end → M (one_needs ops) m v
+          → G (suc n) m.state.work pc v (P n own ops m)) (sym z.is)
+          (λ behind1 stands1 h1.
+          let by_flag : Some (Operands r false) ≡ Some told = ap (λ x. told_of x false) (sym is) ∙ z.by in
+          let same : Operands r false ≡ told = cc in
+          told_bytes_follows start z.l op r exchanged is i.signed ty mode t a b z.rest n pc m v ready behind1
+          i.result i.left i.right i.same_bytes low z.none
+          (subst (λ (x : Told). HasAt e (flag_code (Compared r exchanged) (home a) (home b) 1
+          ++ own_told (Some x) (branch_zero t z.l) z.rest) pc end) (sym same)
+          (at_use_behind (flag_code (Compared r exchanged) (home a) (home b) 1) (Some told) (branch_zero t z.l) z.rest pc
+          behind1.covered.0.1 (λ l none. none)
+          (subst (λ x. HasAt e (x ++ items_told (Some told) (branch_zero t z.l ∷ z.rest)) pc end)
+          (ap (λ x. bytes_code (Some told) x (home a) (home b) (home t) 1 (wanted (needs at (branch_zero t z.l ∷ z.rest)) t)) is
+          ∙ flags exchanged (wanted (needs at (branch_zero t z.l ∷ z.rest)) t) told) stands1)))
+          h1 go)
+          behind (subst (λ x. HasAt e (code (Some told) x rest) pc end) one_left
+          (subst (λ x. HasAt e (code x (min 1 a.bytes) rest) pc end) q stands)) h
+        where
+          flags : (x : Bool) (w : ℕ) (told : Told)
+              → bytes_code (Some told) (Compared r x) (home a) (home b) (home t) 1 w ≡ flag_code (Compared r x) (home a) (home b) 1
+          flags false w told = refl
+          flags true w told = refl
 
   -- ---- operators on numbers of one fixed-point format, which are those of the integers of their bytes
 
@@ -4480,20 +4937,19 @@ module _ (p : PlainProgram) (functions : List PlainIrFunction) (e : Env) (slots 
       ∙ ap (λ o. next o (λ z s2. result (Number (whole_of k low1)) z s2)) (whole_held sign bytes low2 b m.temps st qb)
       ∙ ap (λ z. next (given z st) go) is
 
-  -- where the code of an operator is that on integers, it does what that does
-  on_integers_follow : (start : ℕ) → Ready start all → (n : ℕ) → Onwards n → (op : BinOp) (ty : PlainType) (mode : Mode)
-      (t a : Temp) (aty : PlainType) (b : Temp) (bty : PlainType) (pc : ℕ) (rest : List PlainIr) (m : Mach) (v : View)
-      → is_on_integers (family_of op) mode ty aty bty ≡ true → IsOnWholes slots op mode t a b ty aty bty
-      → Rest (suc n) rest → Behind rest
-      → HasAt e (plain_items (binary_op op ty mode t a aty b bty) rest) pc end → M
-      (plain_needs (binary_op op ty mode t a aty b bty) rest) m v
+  -- an operator on numbers of one format does what it does to the integers of their bytes
+  as_integers : (op : BinOp) (ty : PlainType) (mode : Mode) (t a : Temp) (aty : PlainType) (b : Temp) (bty : PlainType) (pc : ℕ)
+      (rest : List PlainIr) (n : ℕ) (m : Mach) (v : View) (h : IsOnWholes slots op mode t a b ty aty bty)
+      → G (suc n) m.state.work pc v (P n (binary_op op h.result mode t a (whole_type h.kind) b (whole_type h.kind)) rest m)
       → G (suc n) m.state.work pc v (P n (binary_op op ty mode t a aty b bty) rest m)
-  on_integers_follow start ready n go op ty mode t a aty b bty pc rest m v on h f r stands needed =
-      let done =
-      λ (x z : PlainType). is_on_integers (family_of op) mode ty x z ≡ true
-      → HasAt e (plain_items (binary_op op ty mode t a x b z) rest) pc end → M (plain_needs (binary_op op ty mode t a x b z) rest) m v
-      → G (suc n) m.state.work pc v (P n (binary_op op ty mode t a x b z) rest m) in
-      (subst (λ x. done x bty) (sym h.left_is) (subst (λ x. done (fixed k s1) x) (sym h.right_is) (λ q u w. shown q u w))) on stands needed
+  as_integers op ty mode t a aty b bty pc rest n m v h done =
+      subst (λ x. G (suc n) m.state.work pc v (P n (binary_op op ty mode t a x b bty) rest m)) (sym h.left_is)
+      (subst (λ x. G (suc n) m.state.work pc v (P n (binary_op op ty mode t a (fixed k s1) b x) rest m)) (sym h.right_is)
+      (from_typed p place e (fixed k s1) a m.temps st _ (suc n) m.state.work pc v tt
+      (λ low1 qa. from_typed p place e (fixed k s2) b m.temps st _ (suc n) m.state.work pc v tt
+      (λ low2 qb. by_result low1 low2 qa qb
+      (binary_result op ty mode (operand_of p (fixed k s1) (Number (whole_of k low1)) st)
+      (operand_of p (fixed k s2) (Number (whole_of k low2)) st)) refl))))
     where
       k : FxKind
       k = h.kind
@@ -4516,6 +4972,56 @@ module _ (p : PlainProgram) (functions : List PlainIrFunction) (e : Env) (slots 
       st : State
       st = worked (op_steps i) m.state
 
+      steps : st ≡ worked (op_steps i1) m.state
+      steps = ap (λ c. worked (64 * c) m.state) h.words
+
+      by_result : (low1 low2 : ℕ)
+          → m.temps a.at ≡ Some (record { bytes = a.bytes; content = bits low1 })
+          → m.temps b.at ≡ Some (record { bytes = b.bytes; content = bits low2 }) → (z : Result Value Undefined)
+          → binary_result op ty mode (operand_of p (fixed k s1) (Number (whole_of k low1)) st)
+          (operand_of p (fixed k s2) (Number (whole_of k low2)) st) ≡ z
+          → G (suc n) m.state.work pc v (next (given z st) (λ u s3. R (suc n) rest (machine (with_temp t u m.temps) s3)))
+      by_result low1 low2 qa qb (Err point) q = tt
+      by_result low1 low2 qa qb (Ok r) q =
+          let g = h.gives p low1 low2 st r q in
+          let is = whole_run op whole mode t a b k low1 low2 g.number rest n m st steps qa qb g.is in
+          subst (λ (x : Content). G (suc n) m.state.work pc v (R (suc n) rest (machine (with_content t x m.temps) st))) (sym g.same)
+          (subst (λ o. G (suc n) m.state.work pc v o) is done)
+
+  -- where the code of an operator is that on integers, it does what that does
+  on_integers_follow : (start : ℕ) → Ready start all → (n : ℕ) → Onwards n → (op : BinOp) (ty : PlainType) (mode : Mode)
+      (t a : Temp) (aty : PlainType) (b : Temp) (bty : PlainType) (pc : ℕ) (rest : List PlainIr) (m : Mach) (v : View)
+      → is_on_integers (family_of op) mode ty aty bty ≡ true → IsOnWholes slots op mode t a b ty aty bty
+      → Rest (suc n) rest → Behind rest
+      → HasAt e (plain_items (binary_op op ty mode t a aty b bty) rest) pc end → M
+      (plain_needs (binary_op op ty mode t a aty b bty) rest) m v
+      → G (suc n) m.state.work pc v (P n (binary_op op ty mode t a aty b bty) rest m)
+  on_integers_follow start ready n go op ty mode t a aty b bty pc rest m v on h f r stands needed =
+      as_integers op ty mode t a aty b bty pc rest n m v h
+      ((subst (λ x. done x bty) (sym h.left_is) (subst (λ x. done (fixed k s1) x) (sym h.right_is) run)) on stands needed)
+    where
+      k : FxKind
+      k = h.kind
+
+      s1 : Bool
+      s1 = h.first_saturates
+
+      s2 : Bool
+      s2 = h.second_saturates
+
+      i : PlainIr
+      i = binary_op op ty mode t a (fixed k s1) b (fixed k s2)
+
+      i1 : PlainIr
+      i1 = binary_op op h.result mode t a (whole_type k) b (whole_type k)
+
+      -- of operands with these types
+      done : (x z : PlainType) → Type 0
+      done x z =
+          is_on_integers (family_of op) mode ty x z ≡ true
+          → HasAt e (plain_items (binary_op op ty mode t a x b z) rest) pc end
+          → M (plain_needs (binary_op op ty mode t a x b z) rest) m v → G (suc n) m.state.work pc v (P n i1 rest m)
+
       w : ℕ
       w = wanted (needs at rest) t
 
@@ -4536,53 +5042,62 @@ module _ (p : PlainProgram) (functions : List PlainIrFunction) (e : Env) (slots 
           (home t) w)) ++ items_told (plain_told i rest) rest) on
           ∙ ap (λ z. operator_code z (family_of op) sign sign (home a) (home b) (home t) a.bytes w ++ items_told z rest) tells_same
 
-      fewer : (u : ℕ) → plain_needs i1 rest u ≤ plain_needs i rest u
-      fewer =
-          let most = wanted_most (needs at rest) t in
-          more_needed a.at (operand_wanted op a.bytes w) (all_or_none a.bytes w)
-          (at_least b.at (right_wanted op b.bytes w) (without t.at (needs at rest)))
-          (at_least b.at (all_or_none b.bytes w) (without t.at (needs at rest))) (h.first_wanted w most)
-          (more_needed b.at (right_wanted op b.bytes w) (all_or_none b.bytes w) (without t.at (needs at rest))
-          (without t.at (needs at rest)) (h.second_wanted w most) (λ u. omega arith))
-
-      run : is_on_integers (family_of op) mode ty (fixed k s1) (fixed k s2) ≡ true → HasAt e (plain_items i rest) pc end
-          → M (plain_needs i rest) m v → G (suc n) m.state.work pc v (P n i1 rest m)
+      run : done (fixed k s1) (fixed k s2)
       run on own needed =
-          integers_follow start ready n go op whole mode t a (whole_type k) b (whole_type k) pc rest m v h.binary r
+          integers_follow start ready n go op h.result mode t a (whole_type k) b (whole_type k) pc rest m v h.binary r
           (subst (λ (x : List AsmItem). HasAt e x pc end) (code on) own)
-          (weaker p e slots home base place y (plain_needs i rest) (plain_needs i1 rest) m v needed fewer) f
+          (subst (λ z. M (operands_needed op t a b (first_wanted z op a.bytes w) (second_wanted z op b.bytes w) (needs at rest)) m v)
+          (ap not on) needed) f
 
-      steps : st ≡ worked (op_steps i1) m.state
-      steps = ap (λ c. worked (64 * c) m.state) h.words
+  -- the same where it takes a known number
+  on_number_follows : (start : ℕ) → Ready start all → (n : ℕ) → Onwards n → (op : BinOp) (ty : PlainType) (mode : Mode)
+      (t a : Temp) (aty : PlainType) (b : Temp) (bty : PlainType) (number : TakenNumber) (pc : ℕ) (rest : List PlainIr) (m : Mach)
+      (v : View) → takes_number op ≡ true → IsKnown b number.number m → IsByte a number m
+      → is_on_integers (family_of op) mode ty aty bty ≡ true → IsOnWholes slots op mode t a b ty aty bty
+      → NumberCase op ty mode t a aty b bty number pc rest n m v
+  on_number_follows start ready n go op ty mode t a aty b bty number pc rest m v taken known byte on h behind stands needed f =
+      as_integers op ty mode t a aty b bty pc rest n m v h
+      ((subst (λ x. done x bty) (sym h.left_is) (subst (λ x. done (fixed k s1) x) (sym h.right_is) run)) on stands)
+    where
+      k : FxKind
+      k = h.kind
 
-      by_result : G (suc n) m.state.work pc v (P n i1 rest m) → (low1 low2 : ℕ)
-          → m.temps a.at ≡ Some (record { bytes = a.bytes; content = bits low1 })
-          → m.temps b.at ≡ Some (record { bytes = b.bytes; content = bits low2 }) → (z : Result Value Undefined)
-          → binary_result op ty mode (operand_of p (fixed k s1) (Number (whole_of k low1)) st)
-          (operand_of p (fixed k s2) (Number (whole_of k low2)) st) ≡ z
-          → G (suc n) m.state.work pc v (next (given z st) (λ u s3. R (suc n) rest (machine (with_temp t u m.temps) s3)))
-      by_result done low1 low2 qa qb (Err point) q = tt
-      by_result done low1 low2 qa qb (Ok r) q =
-          let g = h.gives p low1 low2 st r q in
-          let is = whole_run op whole mode t a b k low1 low2 g.number rest n m st steps qa qb g.is in
-          subst (λ (x : Content). G (suc n) m.state.work pc v (R (suc n) rest (machine (with_content t x m.temps) st))) (sym g.same)
-          (subst (λ o. G (suc n) m.state.work pc v o) is done)
+      s1 : Bool
+      s1 = h.first_saturates
 
-      shown : is_on_integers (family_of op) mode ty (fixed k s1) (fixed k s2) ≡ true → HasAt e (plain_items i rest) pc end → M
-          (plain_needs i rest) m v
-          → G (suc n) m.state.work pc v (P n i rest m)
-      shown on own needed =
-          let done = run on own needed in
-          from_typed p place e (fixed k s1) a m.temps st _ (suc n) m.state.work pc v tt
-          (λ low1 qa. from_typed p place e (fixed k s2) b m.temps st _ (suc n) m.state.work pc v tt
-          (λ low2 qb. by_result done low1 low2 qa qb
-          (binary_result op ty mode (operand_of p (fixed k s1) (Number (whole_of k low1)) st)
-          (operand_of p (fixed k s2) (Number (whole_of k low2)) st)) refl))
+      s2 : Bool
+      s2 = h.second_saturates
+
+      sign : Bool
+      sign = (format_of k).signed
+
+      only : Bool
+      only = is_only_tested t (slice_get rest 0) (slice_index (wanted_bytes at rest) 0)
+
+      -- of operands with these types
+      done : (x z : PlainType) → Type 0
+      done x z =
+          is_on_integers (family_of op) mode ty x z ≡ true → HasAt e (number_items op ty mode t a x b z number rest) pc end
+          → G (suc n) m.state.work pc v (P n (binary_op op h.result mode t a (whole_type k) b (whole_type k)) rest m)
+
+      -- the code where it tells so much
+      items_telling : Option Told → List AsmItem
+      items_telling told =
+          taking_code (Some (as_known number)) told (family_of op) sign sign (home a) (home b) (home t) a.bytes (wanted (needs at rest) t)
+          ++ items_told told rest
+
+      run : done (fixed k s1) (fixed k s2)
+      run on own =
+          number_follows start ready n go op h.result mode t a (whole_type k) b (whole_type k) number pc rest m v taken h.binary known byte
+          behind
+          (subst (λ z. HasAt e
+          (items_telling (if only then told_taking (Some (as_known number)) (not z) op sign else None)) pc end) on own)
+          needed f
 
   -- where an operand is no integer, no number is taken
   none_taken : (op : BinOp) (known : Option RightNumber) (whole : Bool) → whole ≡ true → number_taken known whole op ≡ None
   none_taken op None whole q = refl
-  none_taken op (Some k) whole q = ap (λ x. if not x && takes_number op then Some k else None) q
+  none_taken op (Some k) whole q = ap (λ x. if not x && takes_known k.number op then Some k else None) q
 
   -- of the code of one kind, that of the others says nothing
   other_same : (own : Bool) (c g x : List AsmItem) → own ≡ false → code_by_kind own c x ≡ code_by_kind own g x
@@ -4616,10 +5131,7 @@ module _ (p : PlainProgram) (functions : List PlainIrFunction) (e : Env) (slots 
       (λ (k : IsBinary (family_of op) slots t a b ty aty bty). on_integers k (number_taken known false op) refl)
       (λ j. ⊎_elim
       (λ (k : IsFixedBinary slots op t a b ty aty bty). on_fixed k)
-      (λ (k : IsPointerBinary p slots op t a b ty aty bty).
-      pointer_binary_follows p functions e slots home base place y labels all end results me link stack known op ty mode t a aty b bty
-      rest n pc m v (λ number held_so. (right_held (known_at all (i ∷ rest)) a b number m.temps held_so held).number) k
-      (whole_stands (either_whole aty bty k.pointer)) (moving_needs (no_fixed_operand p slots op t a b ty aty bty k)) r.here.core f)
+      (λ (k : IsPointerBinary p slots op t a b ty aty bty). on_pointers k)
       j)
       r.covered.0.0
     where
@@ -4630,7 +5142,7 @@ module _ (p : PlainProgram) (functions : List PlainIrFunction) (e : Env) (slots 
       known = at.known (i ∷ rest)
 
       telling : Option Told
-      telling = tells_next at None i rest
+      telling = tells_next p at None i rest
 
       w : ℕ
       w = wanted (needs at rest) t
@@ -4644,6 +5156,12 @@ module _ (p : PlainProgram) (functions : List PlainIrFunction) (e : Env) (slots 
       is_wx : Bool
       is_wx = is_whole aty || is_whole bty
 
+      is_ax : Bool
+      is_ax = is_apart (family_of op) mode ty aty bty
+
+      is_on : Bool
+      is_on = is_on_integers (family_of op) mode ty aty bty
+
       of_fixed : List AsmItem
       of_fixed = fixed_binary known telling op ty aty bty mode (home a) (home b) (home t) a.bytes w
 
@@ -4654,7 +5172,7 @@ module _ (p : PlainProgram) (functions : List PlainIrFunction) (e : Env) (slots 
       telling_with : Option RightNumber → Option Told
       telling_with taken =
           if is_only_tested t (slice_get rest 0) (slice_index (wanted_bytes at rest) 0)
-          then told_by (is_apart (family_of op) mode ty aty bty) (family_of op) (compared_signed taken (is_signed aty)) else None
+          then told_taking taken (is_apart (family_of op) mode ty aty bty) op (is_signed aty) else None
 
       of_integers : Option RightNumber → List AsmItem
       of_integers taken =
@@ -4663,16 +5181,16 @@ module _ (p : PlainProgram) (functions : List PlainIrFunction) (e : Env) (slots 
       behind : Behind rest
       behind = record { covered = r.covered.1; live = r.live; inside = r.inside }
 
-      -- an operator on integers takes no known number where its operands are fixed-point numbers
-      code_on : is_fx ≡ true → is_on_integers (family_of op) mode ty aty bty ≡ true → (x : Option RightNumber)
-          → own_code p home link None (telling_with None) x (needs at rest) i
-          ≡ operator_code (telling_with None) (family_of op) (is_signed aty) (is_signed bty) (home a) (home b) (home t) a.bytes w
-      code_on fx on x =
-          ap (λ z. code_by_kind z (fixed_binary x (telling_with None) op ty aty bty mode (home a) (home b) (home t) a.bytes w)
+      -- where its operands are fixed-point numbers, the code of an operator on integers is that of integers
+      code_on : is_fx ≡ true → is_on ≡ true → (x : Option RightNumber) (told : Option Told)
+          → own_code p home link None told x (needs at rest) i
+          ≡ integer_code x told op (is_signed aty) (is_signed bty) (home a) (home b) (home t) a.bytes w
+      code_on fx on x told =
+          ap (λ z. code_by_kind z (fixed_binary x told op ty aty bty mode (home a) (home b) (home t) a.bytes w)
           (code_by_kind is_px (of_pointers x)
-          (integer_code x (telling_with None) op (is_signed aty) (is_signed bty) (home a) (home b) (home t) a.bytes w))) fx
+          (integer_code x told op (is_signed aty) (is_signed bty) (home a) (home b) (home t) a.bytes w))) fx
           ∙ ap
-          (λ z. if z then operator_code (telling_with None) (family_of op) (is_signed aty) (is_signed bty) (home a) (home b) (home t) a.bytes w
+          (λ z. if z then integer_code x told op (is_signed aty) (is_signed bty) (home a) (home b) (home t) a.bytes w
           else (if is_placed op mode ty aty bty && not (same_location (home b) (home t))
           then placed_binary x op (is_signed aty) (home a) (home b) (home t) a.bytes w
           else answer_code (fixed_binary_code op ty aty bty mode (home a) (home b) answer_location work_location) (home t) w)) on
@@ -4683,78 +5201,138 @@ module _ (p : PlainProgram) (functions : List PlainIrFunction) (e : Env) (slots 
       counted : Bool
       counted = is_counted op mode ty aty bty t b
 
-      whole_stands : is_wx ≡ true → HasAt e (known_items known i rest) pc end
+      whole_stands : is_ax ≡ true → HasAt e (known_items known i rest) pc end
       whole_stands w =
-          subst (λ x. HasAt e (own_code p home link None (telling_with x) known (needs at rest) i ++ items_told (telling_with x) rest) pc end)
-          (none_taken op known is_wx w) stands
+          subst (λ x. HasAt e (own_code p home link None (telling_with x) known (needs at rest) i ++ items_told
+          (telling_with x) rest) pc end)
+          (none_taken op known is_ax w) stands
 
-      needs_with : (taken second : Option RightNumber) → Need
-      needs_with taken second =
-          at_least a.at (first_wanted is_wx op (first_bytes taken op a.bytes) w)
-          (right_needed second b.at (second_wanted is_wx op b.bytes w) (without t.at (needs at rest)))
+      needs_with : (apart : Bool) → (taken second : Option RightNumber) → Need
+      needs_with apart taken second =
+          at_least a.at (first_wanted apart op (compared_bytes taken a.bytes) w)
+          (right_needed second b.at (second_wanted apart op (compared_bytes taken b.bytes) w) (without t.at (needs at rest)))
 
       -- an operator that shifts no fixed-point number takes any number where it moves a pointer
-      moving_needs : is_fx ≡ false → M (needs_with (number_taken known is_wx op) (right_taken known (moves_pointer op aty bty) is_wx op)) m v
+      moving_needs : is_fx ≡ false
+          → M (needs_with is_ax (number_taken known is_ax op) (right_taken known (moves_pointer op aty bty) is_ax op)) m v
       moving_needs fx =
-          subst (λ x. M (needs_with (number_taken known is_wx op) (right_taken known x is_wx op)) m v)
+          subst (λ x. M (needs_with is_ax (number_taken known is_ax op) (right_taken known x is_ax op)) m v)
           (uncounted_takes op mode ty aty bty t b (not_counted op mode ty aty bty t b fx)) h
 
       -- one that moves no pointer takes a count
-      unmoved_needs : moves_pointer op aty bty ≡ false → M (needs_with (number_taken known is_wx op) (right_taken known counted is_wx op)) m v
+      unmoved_needs : moves_pointer op aty bty ≡ false
+          → M (needs_with is_ax (number_taken known is_ax op) (right_taken known counted is_ax op)) m v
       unmoved_needs q =
-          subst (λ x. M (needs_with (number_taken known is_wx op) (right_taken known x is_wx op)) m v)
+          subst (λ x. M (needs_with is_ax (number_taken known is_ax op) (right_taken known x is_ax op)) m v)
           (unmoved_takes op mode ty aty bty t b q) h
 
-      -- and where both operands are integers, the number that is taken is that of integers
-      taken_needs : is_wx ≡ false → is_fx ≡ false → M (needs_with (number_taken known is_wx op) (number_taken known is_wx op)) m v
-      taken_needs wx fx =
-          subst (λ x. M (needs_with (number_taken known is_wx op) x) m v)
-          (right_same known counted is_wx op (not_counted op mode ty aty bty t b fx)) (unmoved_needs (whole_unmoved op aty bty wx))
+      -- and where it is not apart, the number that is taken is that of integers
+      taken_needs : moves_pointer op aty bty ≡ false → counted ≡ false → is_ax ≡ false
+          → M (needs_with false (number_taken known false op) (numbered (number_taken known false op))) m v
+      taken_needs unmoved uncounted ax =
+          subst (λ x. M (needs_with x (number_taken known x op) (numbered (number_taken known x op))) m v) ax
+          (subst (λ x. M (needs_with is_ax (number_taken known is_ax op) x) m v) (right_same known counted is_ax op uncounted)
+          (unmoved_needs unmoved))
 
-      own_needs : moves_pointer op aty bty ≡ false → is_wx ≡ true → count_taken known counted ≡ false → M (plain_needs i rest) m v
+      own_needs : moves_pointer op aty bty ≡ false → is_ax ≡ true → count_taken known counted ≡ false → M (plain_needs i rest) m v
       own_needs unmoved q none =
-          subst (λ x. M (needs_with x None) m v) (none_taken op known is_wx q)
-          (subst (λ x. M (needs_with (number_taken known is_wx op) x) m v)
-          (right_none known counted is_wx op none (none_taken op known is_wx q)) (unmoved_needs unmoved))
+          subst (λ x. M (needs_with is_ax x None) m v) (none_taken op known is_ax q)
+          (subst (λ x. M (needs_with is_ax (number_taken known is_ax op) x) m v)
+          (right_none known counted is_ax op none (none_taken op known is_ax q)) (unmoved_needs unmoved))
+
+      on_pointers : IsPointerBinary p slots op t a b ty aty bty → G (suc n) m.state.work pc v (P n i rest m)
+      on_pointers k =
+          let wx : is_wx ≡ true = either_whole aty bty k.pointer in
+          let fx = no_fixed_operand p slots op t a b ty aty bty k in
+          let ax : is_ax ≡ true = ap (λ z. z && not is_on) wx ∙ ap not (none_on_integers op mode ty aty bty fx) in
+          pointer_binary_follows p functions e slots home base place y labels all end results me link stack known op ty mode t a aty b bty
+          rest n pc m v (λ number held_so. number_there (known_at all (i ∷ rest)) a b bty number m.temps held_so held) k
+          (whole_stands ax)
+          (subst (λ x. M (needs_with x (number_taken known x op) (right_taken known (moves_pointer op aty bty) x op)) m v) (ax ∙ sym wx)
+          (moving_needs fx)) r.here.core f
 
       -- a shift by a known count
-      on_count : IsFixedBinary slots op t a b ty aty bty → TakesCount known counted → G (suc n) m.state.work pc v (P n i rest m)
-      on_count k c =
-          let whole = either_fixed is_whole type_whole aty bty k.types.fixed in
-          let needed : M (needs_with None (right_taken known counted is_wx op)) m v =
-          subst (λ x. M (needs_with x (right_taken known counted is_wx op)) m v) (none_taken op known is_wx whole)
-          (unmoved_needs (fixed_unmoved op aty bty k.types.fixed)) in
-          let by_number : M (needs_with None (right_taken (Some c.number) true is_wx op)) m v =
-          subst (λ x. M (needs_with None (right_taken (Some c.number) x is_wx op)) m v) c.counted_so
-          (subst (λ x. M (needs_with None (right_taken x counted is_wx op)) m v) c.known_is needed) in
-          fixed_counted_follows c.number op ty mode t a aty b bty rest n pc m v
-          (right_held (known_at all (i ∷ rest)) a b c.number m.temps c.known_is held).number k
-          (counted_is op mode ty aty bty t b c.counted_so)
-          (subst (λ x. HasAt e (known_items x i rest) pc end) c.known_is (whole_stands whole)) by_number f
-
-      on_operands : IsFixedBinary slots op t a b ty aty bty → count_taken known counted ≡ false
+      on_count : IsFixedBinary slots op t a b ty aty bty → is_ax ≡ true → TakesCount known counted
           → G (suc n) m.state.work pc v (P n i rest m)
-      on_operands k none =
-          let whole = either_fixed is_whole type_whole aty bty k.types.fixed in
-          let fixed_so = either_fixed is_fixed type_fixed aty bty k.types.fixed in
-          let stand = whole_stands whole in
-          let needed = own_needs (fixed_unmoved op aty bty k.types.fixed) whole none in
-          ⊎_elim
-          (λ (q : is_on_integers (family_of op) mode ty aty bty ≡ true).
-          on_integers_follow start ready n go op ty mode t a aty b bty pc rest m v q (on_wholes slots op mode t a b ty aty bty k q) f behind
-          (subst (λ x. HasAt e (x ++ items_told (telling_with None) rest) pc end)
-          (code_on fixed_so q known ∙ sym (code_on fixed_so q None)) stand) needed)
-          (λ (q : is_on_integers (family_of op) mode ty aty bty ≡ false).
-          fixed_binary_follows known op ty mode t a aty b bty rest n pc m v
-          (λ number held_so. (right_held (known_at all (i ∷ rest)) a b number m.temps held_so held).number) k q stand needed f)
-          (cases_Bool (is_on_integers (family_of op) mode ty aty bty))
+      on_count k ax c =
+          let needed : M (needs_with is_ax None (right_taken known counted is_ax op)) m v =
+          subst (λ x. M (needs_with is_ax x (right_taken known counted is_ax op)) m v) (none_taken op known is_ax ax)
+          (unmoved_needs (fixed_unmoved op aty bty k.types.fixed)) in
+          let by_number : M (needs_with is_ax None (right_taken (Some (as_known c.number)) true is_ax op)) m v =
+          subst (λ x. M (needs_with is_ax None (right_taken (Some (as_known c.number)) x is_ax op)) m v) c.counted_so
+          (subst (λ x. M (needs_with is_ax None (right_taken x counted is_ax op)) m v) c.known_is needed) in
+          fixed_counted_follows c.number op ty mode t a aty b bty rest n pc m v
+          (right_held (known_at all (i ∷ rest)) a b bty c.number m.temps c.known_is held).number k
+          (counted_is op mode ty aty bty t b c.counted_so)
+          (subst (λ x. HasAt e (known_items x i rest) pc end) c.known_is (whole_stands ax)) by_number f
+
+      on_apart : IsFixedBinary slots op t a b ty aty bty → is_on ≡ false → G (suc n) m.state.work pc v (P n i rest m)
+      on_apart k apart = by_count (count_taken known counted) refl
+        where
+          ax : is_ax ≡ true
+          ax = fixed_apart op ty mode aty bty k.types.fixed apart
+
+          by_count : (x : Bool) → count_taken known counted ≡ x → G (suc n) m.state.work pc v (P n i rest m)
+          by_count false q =
+              fixed_binary_follows known op ty mode t a aty b bty rest n pc m v
+              (λ number held_so. number_there (known_at all (i ∷ rest)) a b bty number m.temps held_so held) k apart (whole_stands ax)
+              (own_needs (fixed_unmoved op aty bty k.types.fixed) ax q) f
+          by_count true q = on_count k ax (count_is_taken known counted q)
+
+      -- numbers of one format, as the integers of their bytes
+      on_whole : IsFixedBinary slots op t a b ty aty bty → is_on ≡ true → G (suc n) m.state.work pc v (P n i rest m)
+      on_whole k on = by_taken (number_taken known false op) refl
+        where
+          fx : is_fx ≡ true
+          fx = either_fixed is_fixed type_fixed aty bty k.types.fixed
+
+          ax : is_ax ≡ false
+          ax = ap (λ z. z && not is_on) (either_fixed is_whole type_whole aty bty k.types.fixed) ∙ ap not on
+
+          wholes : IsOnWholes slots op mode t a b ty aty bty
+          wholes = on_wholes slots op mode t a b ty aty bty k on
+
+          needed : M (needs_with false (number_taken known false op) (numbered (number_taken known false op))) m v
+          needed = taken_needs (fixed_unmoved op aty bty k.types.fixed) (on_uncounted op mode ty aty bty t b on) ax
+
+          -- the code where so much of the second operand is taken
+          items_with : Option RightNumber → List AsmItem
+          items_with x =
+              taking_code x (telling_with x) (family_of op) (is_signed aty) (is_signed bty) (home a) (home b) (home t) a.bytes w
+              ++ items_told (telling_with x) rest
+
+          stand : HasAt e (items_with (number_taken known false op)) pc end
+          stand =
+              subst (λ x. HasAt e (x ++ items_told (telling_with (number_taken known false op)) rest) pc end)
+              (code_on fx on known (telling_with (number_taken known false op)))
+              (subst (λ x. HasAt e (own_code p home link None (telling_with (number_taken known x op)) known (needs at rest) i
+              ++ items_told (telling_with (number_taken known x op)) rest) pc end) ax stands)
+
+          by_taken : (x : Option RightNumber) → number_taken known false op ≡ x → G (suc n) m.state.work pc v (P n i rest m)
+          by_taken None q =
+              on_integers_follow start ready n go op ty mode t a aty b bty pc rest m v on wholes f behind
+              (subst (λ x. HasAt e (x ++ items_told (telling_with None) rest) pc end) (sym (code_on fx on None (telling_with None)))
+              (subst (λ x. HasAt e (items_with x) pc end) q stand))
+              (subst (λ x. M (needs_with x None None) m v) (sym ax) (subst (λ x. M (needs_with false x (numbered x)) m v) q needed))
+          by_taken (Some taken) q =
+              ⊎_elim
+              (λ (x : HasNumber taken). with_number x.taken (q ∙ ap Some x.is))
+              (λ (x : taken ≡ no_number taken.in_byte).
+              absurd (on_no_bytes (known_at all (i ∷ rest)) a b bty wholes.kind wholes.second_saturates taken.in_byte wholes.right_is
+              (taken_is op known (no_number taken.in_byte) (q ∙ ap Some x)).0))
+              (number_or_none taken)
+            where
+              with_number : (number : TakenNumber) → number_taken known false op ≡ Some (as_known number)
+                  → G (suc n) m.state.work pc v (P n i rest m)
+              with_number number q =
+                  let is = taken_is op known (as_known number) q in
+                  let row = right_held (known_at all (i ∷ rest)) a b bty number m.temps is.0 held in
+                  on_number_follows start ready n go op ty mode t a aty b bty number pc rest m v is.1 row.number row.byte on wholes behind
+                  (subst (λ x. HasAt e (items_with x) pc end) q stand)
+                  (subst (λ x. M (needs_with false x (numbered x)) m v) q needed) f
 
       on_fixed : IsFixedBinary slots op t a b ty aty bty → G (suc n) m.state.work pc v (P n i rest m)
-      on_fixed k = by_count (count_taken known counted) refl
-        where
-          by_count : (x : Bool) → count_taken known counted ≡ x → G (suc n) m.state.work pc v (P n i rest m)
-          by_count false q = on_operands k q
-          by_count true q = on_count k (count_is_taken known counted q)
+      on_fixed k = ⊎_elim (on_whole k) (on_apart k) (cases_Bool is_on)
 
       on_integers : IsBinary (family_of op) slots t a b ty aty bty → (taken : Option RightNumber) → number_taken known false op ≡ taken
           → G (suc n) m.state.work pc v (P n i rest m)
@@ -4763,14 +5341,20 @@ module _ (p : PlainProgram) (functions : List PlainIrFunction) (e : Env) (slots 
           wx : is_wx ≡ false
           wx = no_kind is_whole (λ s n. refl) (family_of op) t a b ty aty bty k
 
+          ax : is_ax ≡ false
+          ax = ap (λ z. z && not is_on) wx
+
           px : is_px ≡ false
           px = no_kind is_pointer (λ s n. refl) (family_of op) t a b ty aty bty k
 
-          needed : M (needs_with (number_taken known is_wx op) (number_taken known is_wx op)) m v
-          needed = taken_needs wx (no_kind is_fixed (λ s n. refl) (family_of op) t a b ty aty bty k)
+          fx : is_fx ≡ false
+          fx = no_kind is_fixed (λ s n. refl) (family_of op) t a b ty aty bty k
 
-          taken_so : (x : Option RightNumber) → number_taken known false op ≡ x → number_taken known is_wx op ≡ x
-          taken_so x q = ap (λ z. number_taken known z op) wx ∙ q
+          needed : M (needs_with false (number_taken known false op) (numbered (number_taken known false op))) m v
+          needed = taken_needs (whole_unmoved op aty bty wx) (not_counted op mode ty aty bty t b fx) ax
+
+          taken_so : (x : Option RightNumber) → number_taken known false op ≡ x → number_taken known is_ax op ≡ x
+          taken_so x q = ap (λ z. number_taken known z op) ax ∙ q
 
           items_with : Option RightNumber → Option Told → List AsmItem
           items_with x told =
@@ -4785,34 +5369,70 @@ module _ (p : PlainProgram) (functions : List PlainIrFunction) (e : Env) (slots 
               (taken_so None q)
               (subst (λ x. HasAt e (x ++ items_told telling rest) pc end)
               (other_same is_fx of_fixed (fixed_binary None telling op ty aty bty mode (home a) (home b) (home t) a.bytes w)
-              (code_by_kind is_px (of_pointers None) (of_integers None)) (no_kind is_fixed (λ s n. refl) (family_of op) t a b ty aty bty k))
+              (code_by_kind is_px (of_pointers None) (of_integers None)) fx)
               (subst (λ x. HasAt e (code_by_kind is_fx of_fixed x ++ items_told telling rest) pc end)
               (other_same is_px (of_pointers known) (of_pointers None) (of_integers None) px)
               (subst (λ x. HasAt e (code_by_kind is_fx of_fixed (code_by_kind is_px (of_pointers known) (of_integers x))
               ++ items_told telling rest) pc end) q stands))))
-              (subst (λ x. M (needs_with x x) m v) (taken_so None q) needed) f
-          by_taken (Some number) q =
-              let fx = no_kind is_fixed (λ s n. refl) (family_of op) t a b ty aty bty k in
-              let is = taken_is op known number q in
-              let row = right_held (known_at all (i ∷ rest)) a b number m.temps is.0 held in
-              number_follows start ready n go op ty mode t a aty b bty number pc rest m v is.1 k row.number row.byte behind
-              (subst (λ x. HasAt e (items_with (Some number) (telling_with x) ++ items_told (telling_with x) rest) pc end)
-              (taken_so (Some number) q)
-              (subst (λ x. HasAt e (code_by_kind x (of_pointers known) (of_integers (Some number)) ++ items_told telling rest) pc end) px
-              (subst (λ x. HasAt e (code_by_kind x of_fixed (code_by_kind is_px (of_pointers known) (of_integers (Some number)))
-              ++ items_told telling rest) pc end) fx
-              (subst (λ x. HasAt e (code_by_kind is_fx of_fixed (code_by_kind is_px (of_pointers known) (of_integers x))
-              ++ items_told telling rest) pc end) q stands))))
-              (subst (λ x. M (at_least a.at (first_wanted x op (first_bytes (Some number) op a.bytes) w) (without t.at (needs at rest))) m v) wx
-              (subst (λ x. M (needs_with x x) m v) (taken_so (Some number) q) needed)) f
+              (subst (λ x. M (needs_with x None None) m v) (sym ax) (subst (λ x. M (needs_with false x (numbered x)) m v) q needed)) f
+          by_taken (Some taken) q =
+              ⊎_elim
+              (λ (x : HasNumber taken). with_number x.taken (q ∙ ap Some x.is))
+              (λ (x : taken ≡ no_number taken.in_byte). with_bytes taken.in_byte (q ∙ ap Some x))
+              (number_or_none taken)
+            where
+              stands_taking : (x : RightNumber) → number_taken known false op ≡ Some x
+                  → HasAt e (items_with (Some x) (telling_with (Some x)) ++ items_told (telling_with (Some x)) rest) pc end
+              stands_taking x q =
+                  subst (λ z. HasAt e (items_with (Some x) (telling_with z) ++ items_told (telling_with z) rest) pc end)
+                  (taken_so (Some x) q)
+                  (subst (λ z. HasAt e (code_by_kind z (of_pointers known) (of_integers (Some x)) ++ items_told telling rest) pc end) px
+                  (subst (λ z. HasAt e (code_by_kind z of_fixed (code_by_kind is_px (of_pointers known) (of_integers (Some x)))
+                  ++ items_told telling rest) pc end) fx
+                  (subst (λ z. HasAt e (code_by_kind is_fx of_fixed (code_by_kind is_px (of_pointers known) (of_integers z))
+                  ++ items_told telling rest) pc end) q stands)))
+
+              needs_taking : (x : RightNumber) → number_taken known false op ≡ Some x
+                  → M (needs_with false (Some x) (numbered (Some x))) m v
+              needs_taking x q = subst (λ z. M (needs_with false z (numbered z)) m v) q needed
+
+              with_number : (number : TakenNumber) → number_taken known false op ≡ Some (as_known number)
+                  → G (suc n) m.state.work pc v (P n i rest m)
+              with_number number q =
+                  let is = taken_is op known (as_known number) q in
+                  let row = right_held (known_at all (i ∷ rest)) a b bty number m.temps is.0 held in
+                  number_follows start ready n go op ty mode t a aty b bty number pc rest m v is.1 k row.number row.byte behind
+                  (stands_taking (as_known number) q) (needs_taking (as_known number) q) f
+
+              -- what it tells where it is masked, or not
+              tell : (masked : Bool) → Option Told
+              tell masked =
+                  if is_only_tested t (slice_get rest 0) (slice_index (wanted_bytes at rest) 0)
+                  then (if masked then Some (so_told NotEqual false)
+                  else told_by (is_apart (family_of op) mode ty aty bty) (family_of op) false) else None
+
+              with_bytes : (byte : Bool) → number_taken known false op ≡ Some (no_number byte) → G (suc n) m.state.work pc v (P n i rest m)
+              with_bytes byte q =
+                  let is = taken_is op known (no_number byte) q in
+                  let row = bytes_held (known_at all (i ∷ rest)) a b bty byte m.temps is.0 held in
+                  let order = compares op is.1 in
+                  bytes_follow start ready n go op order.relation order.exchanged order.is ty mode t a aty b bty pc rest m v
+                  (subst (λ z. IsBinary z slots t a b ty aty bty) order.is k)
+                  (record { more = row.more; left = row.left; right = row.right }) behind
+                  (subst (λ (x : Bool). HasAt e (items_with (Some (no_number true)) (tell x) ++ items_told (tell x) rest) pc end)
+                  (order_unmasked op order.relation order.exchanged (no_number true) order.is)
+                  (subst (λ z. HasAt e (items_with (Some (no_number z)) (telling_with (Some (no_number z)))
+                  ++ items_told (telling_with (Some (no_number z))) rest) pc end) row.byte (stands_taking (no_number byte) q)))
+                  (subst (λ z. M (needs_with false (Some (no_number z)) None) m v) row.byte (needs_taking (no_number byte) q)) f
 
   -- a call of the routine of an operator
   called_binary_follows : (l : ℕ) (op : BinOp) (ty : PlainType) (mode : Mode) (t a : Temp) (aty : PlainType) (b : Temp) (bty : PlainType)
-      (pc : ℕ) (rest : List PlainIr) (n : ℕ) (m : Mach) (v : View) → IsCovered p results me y.called slots (binary_op op ty mode t a aty b bty)
+      (pc : ℕ) (rest : List PlainIr) (n : ℕ) (m : Mach) (v : View) → IsCovered p results me y.called slots
+      (binary_op op ty mode t a aty b bty)
       → HasRoutineOf e l (binary_op op ty mode t a aty b bty) → is_on_integers (family_of op) mode ty aty bty ≡ false
       → takes_count (at.known (binary_op op ty mode t a aty b bty ∷ rest)) (binary_op op ty mode t a aty b bty) ≡ false
       → HasAt e (called_code home l (wanted (needs at rest) t) (binary_op op ty mode t a aty b bty)
-      ++ items_told (tells_next at None (binary_op op ty mode t a aty b bty) rest) rest) pc end
+      ++ items_told (tells_next p at None (binary_op op ty mode t a aty b bty) rest) rest) pc end
       → M (needs at (binary_op op ty mode t a aty b bty ∷ rest)) m v → Rest (suc n) rest
       → G (suc n) m.state.work pc v (P n (binary_op op ty mode t a aty b bty) rest m)
   called_binary_follows l op ty mode t a aty b bty pc rest n m v covered routine apart uncounted stands h f =
@@ -4834,8 +5454,8 @@ module _ (p : PlainProgram) (functions : List PlainIrFunction) (e : Env) (slots 
       w : ℕ
       w = wanted (needs at rest) t
 
-      is_wx : Bool
-      is_wx = is_whole aty || is_whole bty
+      is_ax : Bool
+      is_ax = is_apart (family_of op) mode ty aty bty
 
       only : Bool
       only = is_only_tested t (slice_get rest 0) (slice_index (wanted_bytes at rest) 0)
@@ -4846,24 +5466,24 @@ module _ (p : PlainProgram) (functions : List PlainIrFunction) (e : Env) (slots 
       -- what is needed and told where so much of the second operand is taken
       needs_with : (taken second : Option RightNumber) → Need
       needs_with taken second =
-          at_least a.at (first_wanted is_wx op (first_bytes taken op a.bytes) w)
-          (right_needed second b.at (second_wanted is_wx op b.bytes w) (without t.at (needs at rest)))
+          at_least a.at (first_wanted is_ax op (compared_bytes taken a.bytes) w)
+          (right_needed second b.at (second_wanted is_ax op (compared_bytes taken b.bytes) w) (without t.at (needs at rest)))
 
       counted : Bool
       counted = is_counted op mode ty aty bty t b
 
       telling_with : Option RightNumber → Option Told
       telling_with taken =
-          if only then told_by (is_apart (family_of op) mode ty aty bty) (family_of op) (compared_signed taken (is_signed aty)) else None
+          if only then told_taking taken (is_apart (family_of op) mode ty aty bty) op (is_signed aty) else None
 
-      plain : moves_pointer op aty bty ≡ false → number_taken known is_wx op ≡ None → M (plain_needs i rest) m v
+      plain : moves_pointer op aty bty ≡ false → number_taken known is_ax op ≡ None → M (plain_needs i rest) m v
       plain unmoved q =
           subst (λ x. M (needs_with x None) m v) q
-          (subst (λ x. M (needs_with (number_taken known is_wx op) x) m v) (right_none known counted is_wx op uncounted q)
-          (subst (λ x. M (needs_with (number_taken known is_wx op) (right_taken known x is_wx op)) m v)
+          (subst (λ x. M (needs_with (number_taken known is_ax op) x) m v) (right_none known counted is_ax op uncounted q)
+          (subst (λ x. M (needs_with (number_taken known is_ax op) (right_taken known x is_ax op)) m v)
           (unmoved_takes op mode ty aty bty t b unmoved) h))
 
-      untold : number_taken known is_wx op ≡ None → telling_with None ≡ None → HasAt e (calling ++ items rest) pc end
+      untold : number_taken known is_ax op ≡ None → telling_with None ≡ None → HasAt e (calling ++ items rest) pc end
       untold q none =
           subst (λ x. HasAt e (calling ++ items_told x rest) pc end) none
           (subst (λ x. HasAt e (calling ++ items_told (telling_with x) rest) pc end) q stands)
@@ -4875,12 +5495,10 @@ module _ (p : PlainProgram) (functions : List PlainIrFunction) (e : Env) (slots 
 
       on_fixed : IsFixedBinary slots op t a b ty aty bty → G (suc n) m.state.work pc v (P n i rest m)
       on_fixed k =
-          let none = none_taken op known is_wx (either_fixed is_whole type_whole aty bty k.types.fixed) in
-          let is_apart_so : is_apart (family_of op) mode ty aty bty ≡ true =
-          ap (λ z. z && not (is_on_integers (family_of op) mode ty aty bty)) (either_fixed is_whole type_whole aty bty k.types.fixed)
-          ∙ ap not apart in
+          let is_apart_so = fixed_apart op ty mode aty bty k.types.fixed apart in
+          let none = none_taken op known is_ax is_apart_so in
           let telling = untold_by only (is_apart (family_of op) mode ty aty bty) (family_of op) (is_signed aty) is_apart_so in
-          fixed_binary_called l op ty mode t a aty b bty rest n pc m v k
+          fixed_binary_called l op ty mode t a aty b bty rest n pc m v k apart
           (subst body_for (either_fixed is_fixed type_fixed aty bty k.types.fixed) routine) (untold none telling)
           (plain (fixed_unmoved op aty bty k.types.fixed) none) f
 
@@ -4910,8 +5528,9 @@ module _ (p : PlainProgram) (functions : List PlainIrFunction) (e : Env) (slots 
               let qa : a.bytes ≡ suc top = x.left_bytes ∙ qt in
               let qb : b.bytes ≡ suc top = x.right_bytes ∙ qt in
               let type : ty ≡ integer x.signed (suc top) = x.result_type ∙ ap (integer x.signed) qt in
-              let taken : number_taken known is_wx op ≡ None =
-              ap (λ z. number_taken known z op) (no_kind is_whole (λ s n. refl) (family_of op) t a b ty aty bty k)
+              let taken : number_taken known is_ax op ≡ None =
+              ap (λ z. number_taken known (z && not (is_on_integers (family_of op) mode ty aty bty)) op)
+              (no_kind is_whole (λ s n. refl) (family_of op) t a b ty aty bty k)
               ∙ divided_number op r q known in
               let telling : telling_with None ≡ None =
               ap (λ z. if only then told_by (is_apart (family_of op) mode ty aty bty) z (is_signed aty) else None) q
@@ -5010,10 +5629,13 @@ module _ (p : PlainProgram) (functions : List PlainIrFunction) (e : Env) (slots 
       (record { covered = r.covered.1; live = r.live; inside = r.inside; here = r.here; stands = s }) z)
   performs start ready n go calls returns pc (load_object t o offset) rest m v r h held more =
       let i = r.covered.0.0 in
-      load_follows p functions e slots home base place y labels all end results me link stack t o offset rest n pc m v i.0 i.1
-      (at_use (load_object t o offset) rest pc r (λ l none. none)) h r.here.core
+      object_goes p functions e slots home base place y labels all end results me link stack t o offset rest n pc m v i.0 i.1
+      (record { covered = r.covered.1; live = r.live; inside = r.inside; here = r.here })
+      (at_use (load_object t o offset) rest pc r (λ l none. none)) h (λ j few. go j (omega arith))
+      (λ stands. load_follows p functions e slots home base place y labels all end results me link stack t o offset rest n pc m v
+      i.0 i.1 stands h r.here.core
       (λ pc1 m1 v1 s z. go n (omega arith) pc1 rest m1 v1
-      (record { covered = r.covered.1; live = r.live; inside = r.inside; here = r.here; stands = s }) z)
+      (record { covered = r.covered.1; live = r.live; inside = r.inside; here = r.here; stands = s }) z))
   performs start ready n go calls returns pc (store_object o offset t) rest m v r h held more =
       let i = r.covered.0.0 in
       store_follows p functions e slots home base place y labels all end results me link stack o offset t rest n pc m v i.0 i.1 i.2
@@ -5059,10 +5681,13 @@ module _ (p : PlainProgram) (functions : List PlainIrFunction) (e : Env) (slots 
       (λ pc1 m1 v1 s z. more pc1 m1 v1
       (record { covered = r.covered.1; live = r.live; inside = r.inside; here = r.here; stands = s }) z)
   performs start ready n go calls returns pc (field t space offset) rest m v r h held more =
-      field_follows p functions e slots home base place y labels all end results me link stack t space offset rest n pc m v
-      r.covered.0.0 (at_use (field t space offset) rest pc r (λ l none. none)) h r.here.core
+      field_goes p functions e slots home base place y labels all end results me link stack t space offset rest n pc m v
+      r.covered.0.0 (record { covered = r.covered.1; live = r.live; inside = r.inside; here = r.here })
+      (at_use (field t space offset) rest pc r (λ l none. none)) h (λ j few. go j (omega arith))
+      (λ stands. field_follows p functions e slots home base place y labels all end results me link stack t space offset rest n pc m v
+      r.covered.0.0 stands h r.here.core
       (λ pc1 m1 v1 s z. more pc1 m1 v1
-      (record { covered = r.covered.1; live = r.live; inside = r.inside; here = r.here; stands = s }) z)
+      (record { covered = r.covered.1; live = r.live; inside = r.inside; here = r.here; stands = s }) z))
   performs start ready n go calls returns pc (load_at t u space) rest m v r h held more =
       let i = r.covered.0.0 in
       load_at_follows p functions e slots home base place y labels all end results me link stack t u space rest n pc m v i.0 i.1

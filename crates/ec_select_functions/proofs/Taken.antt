@@ -1,11 +1,13 @@
 -- The operators that take a known number in place of their second operand.
-use Rattle.std.proofs.Common.{◌≡◌, ◌⊎◌, inl, inr, ℕ, ◌<◌, ◌≤◌, Bool, true, false, ◌&&◌, ◌||◌, Option, Some, None, refl, ap, arith}
+use Rattle.std.proofs.Common.{◌≡◌, ◌⊎◌, inl, inr, ℕ, ◌<◌, ◌≤◌, Bool, true, false, ◌&&◌, ◌||◌, Option, Some, None, refl, ap, subst, arith}
+use Rattle.std.proofs.Common.{ℤ}
 use Rattle.std.specs.Prelude.{if◌then◌else◌, min, not}
 use Rattle.ec_asm.specs.declared.pieces.Operator.{Operator}
 use Rattle.ec_asm.specs.declared.pieces.Operator.TheVariants.{Sum, Difference, BitAnd, BitOr, BitXor}
 use Rattle.ec_core.specs.declared.expressions.BinOp.{BinOp}
 use Rattle.ec_core.specs.declared.expressions.BinOp.TheVariants.{Add, Sub, Mul, Div, Rem, And, Or, Xor, Lt, Gt, Le, Ge}
 use Rattle.ec_core.specs.declared.expressions.BinOp.TheVariants.{Eq, Ne, Shl, Shr}
+use Rattle.ec_core.specs.ArithmeticValues.{is_comparison}
 use Rattle.ec_core.specs.Plain.{PlainType, void, integer, fixed, pointer, array, struct}
 use Rattle.ec_ir_known.specs.declared.known.RightNumber.{RightNumber}
 use Rattle.ec_select_fixed.specs.Types.{IsFixedType}
@@ -14,7 +16,7 @@ use Rattle.ec_select_order.specs.declared.relations.Relation.TheVariants.{Less, 
 use Rattle.ec_select_operations.specs.declared.families.Family.TheVariants.{Combined, Compared, Shifted}
 use Rattle.ec_select_operations.specs.Code.{family_of}
 use Rattle.ec_select_operations.specs.Needs.{is_whole, takes_number, number_taken, is_sum_or_difference, moves_pointer}
-use Rattle.ec_select_operations.specs.Needs.{compared_bytes}
+use Rattle.ec_select_operations.specs.Needs.{compared_bytes, takes_known}
 use Rattle.ec_select_operations.specs.Pointers.{is_pointer}
 
 -- the operators of bytes that have code for a number
@@ -53,15 +55,57 @@ takes Shr q = inr (inr (record { up = false; is = refl }))
 takes Gt q = absurd cc
 takes Le q = absurd cc
 
--- a number that is taken is the one that is known
-pub taken_is : (op : BinOp) (known : Option RightNumber) (k : RightNumber) → number_taken known false op ≡ Some k
-    → (known ≡ Some k) × (takes_number op ≡ true)
-taken_is op None k q = absurd cc
-taken_is op (Some x) k q = by_test (takes_number op) refl q
+-- a comparison, with its operands exchanged or not
+pub record ComparesSo (op : BinOp) : Type 0 where
+  pub relation : Relation
+  pub exchanged : Bool
+  pub is : family_of op ≡ Compared relation exchanged
+
+pub compares : (op : BinOp) → is_comparison op ≡ true → ComparesSo op
+compares Lt q = record { relation = Less; exchanged = false; is = refl }
+compares Gt q = record { relation = Less; exchanged = true; is = refl }
+compares Le q = record { relation = NotLess; exchanged = true; is = refl }
+compares Ge q = record { relation = NotLess; exchanged = false; is = refl }
+compares Eq q = record { relation = Equal; exchanged = false; is = refl }
+compares Ne q = record { relation = NotEqual; exchanged = false; is = refl }
+compares op q = absurd cc
+
+-- ---- what is known of a second operand: a number, or none
+
+pub record TakenNumber : Type 0 where
+  pub number : ℤ
+  pub in_byte : Bool
+
+abbrev pub as_known : TakenNumber → RightNumber
+as_known k = record { number = Some k.number; in_byte = k.in_byte }
+
+abbrev pub no_number : (in_byte : Bool) → RightNumber
+no_number in_byte = record { number = None; in_byte = in_byte }
+
+pub record HasNumber (k : RightNumber) : Type 0 where
+  pub taken : TakenNumber
+  pub is : k ≡ as_known taken
+
+pub number_or_none : (k : RightNumber) → HasNumber k ⊎ (k ≡ no_number k.in_byte)
+number_or_none k = by_number k.number refl
   where
-    by_test : (taken : Bool) → takes_number op ≡ taken → (if taken then Some x else None) ≡ Some k
-        → (Some x ≡ Some k) × (takes_number op ≡ true)
-    by_test true t r = (r, t)
+    with_number : Option ℤ → RightNumber
+    with_number x = record { number = x; in_byte = k.in_byte }
+
+    by_number : (x : Option ℤ) → k.number ≡ x → HasNumber k ⊎ (k ≡ no_number k.in_byte)
+    by_number None q = inr (ap with_number q)
+    by_number (Some n) q = inl (record { taken = record { number = n; in_byte = k.in_byte }; is = ap with_number q })
+
+-- what is taken is known
+pub taken_is : (op : BinOp) (known : Option RightNumber) (k : RightNumber) → number_taken known false op ≡ Some k
+    → (known ≡ Some k) × (takes_known k.number op ≡ true)
+taken_is op None k q = absurd cc
+taken_is op (Some x) k q = by_test (takes_known x.number op) refl q
+  where
+    by_test : (taken : Bool) → takes_known x.number op ≡ taken → (if taken then Some x else None) ≡ Some k
+        → (Some x ≡ Some k) × (takes_known k.number op ≡ true)
+    by_test true t r =
+        let same : x ≡ k = cc in (r, subst (λ (z : RightNumber). takes_known z.number op ≡ true) same t)
     by_test false t r = absurd cc
 
 -- no more bytes are compared than there are

@@ -19,15 +19,21 @@ use Rattle.ec_select_order.specs.declared.relations.Relation.{Relation}
 use Rattle.ec_select_order.specs.declared.relations.Relation.TheVariants.{Less, NotLess, Equal, NotEqual}
 use Rattle.ec_select_order.specs.Relations.{flag_of, is_set}
 use Rattle.ec_select_operations.specs.declared.families.Told.{Told}
+use Rattle.ec_select_operations.specs.declared.families.Told.TheVariants.{Operands, InZ}
 use Rattle.ec_select_operations.specs.Code.{opposite, turned}
 use Rattle.ec_select_functions.proofs.Truth.{not_not}
 
 -- ---- what a flag tells
 
 -- whether operands stand so
-pub record TellsTruth (truth : Bool) (told : Told) (v : View) : Type 0 where
-  pub holds : truth ≡ true → flag_at v.flags (flag_of told.relation told.signed) ≡ if_bit (is_set told.relation)
-  pub fails : truth ≡ false → flag_at v.flags (flag_of told.relation told.signed) ≡ if_bit (not (is_set told.relation))
+pub record FlagTells (truth : Bool) (r : Relation) (s : Bool) (v : View) : Type 0 where
+  pub holds : truth ≡ true → flag_at v.flags (flag_of r s) ≡ if_bit (is_set r)
+  pub fails : truth ≡ false → flag_at v.flags (flag_of r s) ≡ if_bit (not (is_set r))
+
+-- no flag tells anything of a pointer in Z
+abbrev pub TellsTruth : (truth : Bool) → Told → View → Type 0
+TellsTruth truth (Operands r s) v = FlagTells truth r s v
+TellsTruth truth (InZ offset) v = ⊥
 
 -- Z tells whether a number is 0
 pub zero_told : (b : Bool) (v : View) → v.flags.z ≡ from_bool b → TellsTruth b (turned None) v
@@ -50,16 +56,16 @@ opposite_set Equal = refl
 opposite_set NotEqual = refl
 
 pub turned_told : (truth : Bool) (told : Told) (v : View) → TellsTruth truth told v → TellsTruth (not truth) (turned (Some told)) v
-turned_told true told v h = record {
+turned_told true (Operands r s) v h = record {
   holds = λ z. absurd (false≢true z);
-  fails = λ z. ap (flag_at v.flags) (opposite_flag told.relation told.signed) ∙ h.holds refl
-      ∙ ap if_bit (sym (ap not (opposite_set told.relation) ∙ not_not (is_set told.relation)));
+  fails = λ z. ap (flag_at v.flags) (opposite_flag r s) ∙ h.holds refl
+      ∙ ap if_bit (sym (ap not (opposite_set r) ∙ not_not (is_set r)));
 }
-turned_told false told v h = record {
-  holds = λ z. ap (flag_at v.flags) (opposite_flag told.relation told.signed) ∙ h.fails refl
-      ∙ ap if_bit (sym (opposite_set told.relation));
+turned_told false (Operands r s) v h = record {
+  holds = λ z. ap (flag_at v.flags) (opposite_flag r s) ∙ h.fails refl ∙ ap if_bit (sym (opposite_set r));
   fails = λ z. absurd (false≢true (sym z));
 }
+turned_told truth (InZ offset) v h = absurd h
 
 -- ---- at least one step
 

@@ -10,8 +10,9 @@ use ec_select_fixed::laws::{
 use ec_select_numbers::laws::numbers_are_operands;
 use ec_select_places::laws::{
     elements_are_formed, elements_are_right, far_elements_are_right, far_places_are_formed,
-    far_pointers_are_advanced, far_pointers_are_compared, indexes_are_scaled, places_are_short,
-    pointers_are_advanced, pointers_are_compared, pointers_are_converted,
+    far_pointers_are_advanced, far_pointers_are_compared, indexes_are_added, indexes_are_formed,
+    indexes_are_scaled, places_are_short, pointers_are_advanced, pointers_are_compared,
+    pointers_are_converted,
 };
 use ec_select_pointers::laws::{
     addresses_are_right, far_addresses_are_right, far_loads_are_right, far_loads_by_top_are_right,
@@ -52,6 +53,8 @@ pub fn code_follows_operations()
     stores_are_right();
     pointers_are_straight();
     indexes_are_scaled();
+    indexes_are_added();
+    indexes_are_formed();
     pointers_are_advanced();
     elements_are_right();
     elements_are_formed();

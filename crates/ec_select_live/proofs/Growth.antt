@@ -13,9 +13,10 @@ use Rattle.ec_ir.specs.Operations.{call_function, return_from, port_in, port_out
 use Rattle.ec_ir.specs.Valid.{count}
 use Rattle.ec_ir_known.specs.declared.known.RightNumber.{RightNumber}
 use Rattle.ec_select_operations.specs.Needs.{Need, at_least, without, either, wanted, is_of_low_bytes}
-use Rattle.ec_select_operations.specs.Needs.{is_whole, first_wanted, second_wanted, only_wanted}
+use Rattle.ec_select_operations.specs.Needs.{is_fixed, is_whole, first_wanted, second_wanted, only_wanted, family_of}
+use Rattle.ec_select_operations.specs.Needs.{is_apart}
 use Rattle.ec_select_operations.specs.Needs.{index_needed, all_or_none, operand_wanted, right_wanted, returned_need}
-use Rattle.ec_select_operations.specs.Needs.{number_taken, takes_whole, right_taken, first_bytes, right_needed, before, Facts}
+use Rattle.ec_select_operations.specs.Needs.{number_taken, takes_whole, right_taken, right_needed, before, Facts}
 use Rattle.ec_select_operations.specs.Needs.{compared_bytes, facts_of, known_right, needs}
 use Rattle.ec_select_operations.specs.Needs.{IsLiveBy, IsLive}
 use Rattle.ec_select_live.specs.Least.{HasLabel, HaveLabels, IsLeast}
@@ -98,17 +99,20 @@ before_more n s at other known (copy to from) a b l k q h = more_value s to from
 before_more n s at other known (load_object t o offset) a b l k q h = more_without s t.at a b h
 before_more n s at other known (store_object o offset t) a b l k q h = more_least s t.at t.bytes t.bytes a b (omega arith) h
 before_more n s at other known (binary_op op ty mode to x xty y yty) a b l k q h =
-    let w = is_whole xty || is_whole yty in
+    let w = is_apart (family_of op) mode ty xty yty in
     let taken = number_taken known w op in
     let right = right_taken known (takes_whole op mode ty xty yty to y) w op in
-    more_least s x.at (first_wanted w op (first_bytes taken op x.bytes) (wanted a to)) (first_wanted w op (first_bytes taken op x.bytes) (wanted b to))
-    (right_needed right y.at (second_wanted w op y.bytes (wanted a to)) (without to.at a))
-    (right_needed right y.at (second_wanted w op y.bytes (wanted b to)) (without to.at b))
-    (more_first w op (first_bytes taken op x.bytes) (wanted a to) (wanted b to) (more_wanted s to a b l.0 h))
-    (more_second_needed s right y.at (second_wanted w op y.bytes (wanted a to)) (second_wanted w op y.bytes (wanted b to)) (without to.at a)
-    (without to.at b) (more_second w op y.bytes (wanted a to) (wanted b to) (more_wanted s to a b l.0 h)) (more_without s to.at a b h))
+    let first = first_wanted w op (compared_bytes taken x.bytes) in
+    let second = second_wanted w op (compared_bytes taken y.bytes) in
+    more_least s x.at (first (wanted a to)) (first (wanted b to))
+    (right_needed right y.at (second (wanted a to)) (without to.at a))
+    (right_needed right y.at (second (wanted b to)) (without to.at b))
+    (more_first w op (compared_bytes taken x.bytes) (wanted a to) (wanted b to) (more_wanted s to a b l.0 h))
+    (more_second_needed s right y.at (second (wanted a to)) (second (wanted b to)) (without to.at a)
+    (without to.at b) (more_second w op (compared_bytes taken y.bytes) (wanted a to) (wanted b to) (more_wanted s to a b l.0 h))
+    (more_without s to.at a b h))
 before_more n s at other known (unary_op op ty mode to x) a b l k q h = more_alone s (is_whole ty) to x a b l.0 h
-before_more n s at other known (conversion to ty mode x xty) a b l k q h = more_alone s (is_whole ty || is_whole xty) to x a b l.0 h
+before_more n s at other known (conversion to ty mode x xty) a b l k q h = more_alone s (is_fixed ty || is_fixed xty) to x a b l.0 h
 before_more n s at other known (branch_zero t j) a b l k q h =
     more_least s t.at (compared_bytes known t.bytes) (compared_bytes known t.bytes) (either a (at j)) (either b (other j)) (omega arith)
     (more_either s a b (at j) (other j) h (q j k))

@@ -12,9 +12,10 @@ use Rattle.ec_ir.specs.Operations.{call_function, return_from, port_in, port_out
 use Rattle.ec_select_operations.specs.Code.{result_wanted, wanted_behind}
 use Rattle.ec_ir_known.specs.declared.known.RightNumber.{RightNumber}
 use Rattle.ec_select_operations.specs.Needs.{Need, nothing, at_least, without, either, wanted, is_of_low_bytes}
-use Rattle.ec_select_operations.specs.Needs.{all_or_none, is_whole, first_wanted, second_wanted, only_wanted}
+use Rattle.ec_select_operations.specs.Needs.{all_or_none, is_fixed, is_whole, first_wanted, second_wanted, only_wanted}
+use Rattle.ec_select_operations.specs.Needs.{family_of, is_apart}
 use Rattle.ec_select_operations.specs.Needs.{index_needed, operand_wanted, right_wanted, returned_need, without_result}
-use Rattle.ec_select_operations.specs.Needs.{number_taken, takes_whole, right_taken, compared_bytes, first_bytes, right_needed}
+use Rattle.ec_select_operations.specs.Needs.{number_taken, takes_whole, right_taken, compared_bytes, right_needed}
 use Rattle.ec_select_operations.specs.Needs.{before, facts_of, known_right, needs}
 use Rattle.ec_select_live.specs.Places.{HasPlace, MayHavePlace, HasPlaces, HavePlaces}
 use Rattle.ec_select_live.specs.Tables.{AreSame, IsBounded, AreBounded}
@@ -69,17 +70,19 @@ before_same s at k (copy to from) a b l h = same_value s to from a b l.0 h
 before_same s at k (load_object t o offset) a b l h = same_without s t.at a b h
 before_same s at k (store_object o offset t) a b l h = same_least s t.at t.bytes t.bytes a b refl h
 before_same s at k (binary_op op ty mode to x xty y yty) a b l h =
-    let w = is_whole xty || is_whole yty in
+    let w = is_apart (family_of op) mode ty xty yty in
     let taken = number_taken k w op in
     let right = right_taken k (takes_whole op mode ty xty yty to y) w op in
-    same_least s x.at (first_wanted w op (first_bytes taken op x.bytes) (wanted a to)) (first_wanted w op (first_bytes taken op x.bytes) (wanted b to))
-    (right_needed right y.at (second_wanted w op y.bytes (wanted a to)) (without to.at a))
-    (right_needed right y.at (second_wanted w op y.bytes (wanted b to)) (without to.at b))
-    (ap (first_wanted w op (first_bytes taken op x.bytes)) (same_wanted s to a b l.0 h))
-    (same_right s right y.at (second_wanted w op y.bytes (wanted a to)) (second_wanted w op y.bytes (wanted b to)) (without to.at a)
-    (without to.at b) (ap (second_wanted w op y.bytes) (same_wanted s to a b l.0 h)) (same_without s to.at a b h))
+    let first = first_wanted w op (compared_bytes taken x.bytes) in
+    let second = second_wanted w op (compared_bytes taken y.bytes) in
+    same_least s x.at (first (wanted a to)) (first (wanted b to))
+    (right_needed right y.at (second (wanted a to)) (without to.at a))
+    (right_needed right y.at (second (wanted b to)) (without to.at b))
+    (ap first (same_wanted s to a b l.0 h))
+    (same_right s right y.at (second (wanted a to)) (second (wanted b to)) (without to.at a)
+    (without to.at b) (ap second (same_wanted s to a b l.0 h)) (same_without s to.at a b h))
 before_same s at k (unary_op op ty mode to x) a b l h = same_only s (is_whole ty) to x a b l.0 h
-before_same s at k (conversion to ty mode x xty) a b l h = same_only s (is_whole ty || is_whole xty) to x a b l.0 h
+before_same s at k (conversion to ty mode x xty) a b l h = same_only s (is_fixed ty || is_fixed xty) to x a b l.0 h
 before_same s at k (branch_zero t j) a b l h =
     same_least s t.at (compared_bytes k t.bytes) (compared_bytes k t.bytes) (either a (at j)) (either b (at j)) refl
     (same_either s a b (at j) h)
@@ -217,16 +220,19 @@ before_bounded s at n (copy to from) a l k h = bounded_value to from a l.0.1 h
 before_bounded s at n (load_object t o offset) a l k h = bounded_without t.at a h
 before_bounded s at n (store_object o offset t) a l k h = bounded_least t.at t.bytes a l.1 h
 before_bounded s at n (binary_op op ty mode to x xty y yty) a l k h =
-    let w = is_whole xty || is_whole yty in
+    let w = is_apart (family_of op) mode ty xty yty in
     let taken = number_taken n w op in
     let right = right_taken n (takes_whole op mode ty xty yty to y) w op in
-    bounded_least x.at (first_wanted w op (first_bytes taken op x.bytes) (wanted a to))
-    (right_needed right y.at (second_wanted w op y.bytes (wanted a to)) (without to.at a))
-    (first_most w op (first_bytes taken op x.bytes) (wanted a to) (compared_most taken x.bytes l.1.1) (wanted_most a to l.0.1))
-    (bounded_right right y.at (second_wanted w op y.bytes (wanted a to)) (without to.at a)
-    (second_most w op y.bytes (wanted a to) l.2.1 (wanted_most a to l.0.1)) (bounded_without to.at a h))
+    let first = first_wanted w op (compared_bytes taken x.bytes) in
+    let second = second_wanted w op (compared_bytes taken y.bytes) in
+    bounded_least x.at (first (wanted a to))
+    (right_needed right y.at (second (wanted a to)) (without to.at a))
+    (first_most w op (compared_bytes taken x.bytes) (wanted a to) (compared_most taken x.bytes l.1.1) (wanted_most a to l.0.1))
+    (bounded_right right y.at (second (wanted a to)) (without to.at a)
+    (second_most w op (compared_bytes taken y.bytes) (wanted a to) (compared_most taken y.bytes l.2.1) (wanted_most a to l.0.1))
+    (bounded_without to.at a h))
 before_bounded s at n (unary_op op ty mode to x) a l k h = bounded_only (is_whole ty) to x a l.0.1 l.1.1 h
-before_bounded s at n (conversion to ty mode x xty) a l k h = bounded_only (is_whole ty || is_whole xty) to x a l.0.1 l.1.1 h
+before_bounded s at n (conversion to ty mode x xty) a l k h = bounded_only (is_fixed ty || is_fixed xty) to x a l.0.1 l.1.1 h
 before_bounded s at n (branch_zero t q) a l k h =
     bounded_least t.at (compared_bytes n t.bytes) (either a (at q)) (compared_most n t.bytes l.1) (bounded_either a (at q) h (k q))
 before_bounded s at n (return_from from) a l k h = bounded_returned s from l

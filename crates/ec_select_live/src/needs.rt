@@ -3,7 +3,7 @@ ghost use Rattle.std.specs.Prelude.{◌<◌, length};
 ghost use Rattle.ec_ir.specs.Operations.{plain_ir};
 ghost use Rattle.ec_select_operations.specs.Needs.{before, either, at_least, without, wanted, index_needed};
 ghost use Rattle.ec_select_operations.specs.Needs.{returned_need, without_result, first_wanted, second_wanted};
-ghost use Rattle.ec_select_operations.specs.Needs.{only_wanted, right_needed, first_bytes};
+ghost use Rattle.ec_select_operations.specs.Needs.{only_wanted, right_needed, compared_bytes};
 ghost use Rattle.ec_select_live.specs.Places.{MayHavePlace, HasPlaces};
 ghost use Rattle.ec_select_live.specs.Tables.{need_of, needs_of, AreSame};
 
@@ -12,7 +12,9 @@ use crate::table::{LabelNeeds, zeros};
 use ec_core::BinOp;
 use ec_ir::{Ir, Temp};
 use ec_ir_known::RightNumber;
-use ec_select_operations::{compared_bytes, is_whole, number_taken, right_taken, takes_whole};
+use ec_select_operations::{
+    compared_bytes, family_of, is_apart, is_fixed, is_whole, number_taken, right_taken, takes_whole,
+};
 use ec_space::{NoMemory, Seq};
 use std::alloc::Global;
 
@@ -40,8 +42,8 @@ fn keep_right(need: &mut [u8], taken: Option<RightNumber>, b: Temp, n: u8)
     }
 }
 
-/// The operands of a binary operator. An operator on integers takes the number `taken`, and any operator takes `right`, in
-/// place of the second operand.
+/// The operands of a binary operator. An operator on integers takes what is known of the second operand as `taken`, and any
+/// operator takes the number `right` in place of it.
 fn pass_operands(
     need: &mut [u8],
     whole: bool,
@@ -56,13 +58,14 @@ fn pass_operands(
     requires left { a.at < length need.old }
     requires right { b.at < length need.old }
     ensures { AreSame (length need.old) (need_of need.new)
-        (at_least a.at (first_wanted whole op (first_bytes taken op a.bytes) (wanted (need_of need.old) to))
-        (right_needed right b.at (second_wanted whole op b.bytes (wanted (need_of need.old) to))
+        (at_least a.at (first_wanted whole op (compared_bytes taken a.bytes) (wanted (need_of need.old) to))
+        (right_needed right b.at (second_wanted whole op (compared_bytes taken b.bytes) (wanted (need_of need.old) to))
         (without to.at (need_of need.old)))) }
 {
     let n = wanted_of(need, to);
     forget(need, to);
-    keep_right(need, right, b, second_wanted(whole, op, b.bytes, n));
+    let bytes = compared_bytes(taken, b.bytes);
+    keep_right(need, right, b, second_wanted(whole, op, bytes, n));
     let bytes = compared_bytes(taken, a.bytes);
     keep(need, a, first_wanted(whole, op, bytes, n));
 }
@@ -184,7 +187,7 @@ pub fn before(table: &LabelNeeds, known: Option<RightNumber>, i: &Ir, need: &mut
         Ir::StoreObj(_, _, t) => keep(need, *t, t.bytes),
         Ir::Copy(to, a) => pass_on(need, false, *to, *a),
         Ir::Un { ty, to, a, .. } => pass_on(need, is_whole(ty), *to, *a),
-        Ir::Conv { to, ty, a, aty, .. } => { pass_on(need, is_whole(ty) || is_whole(aty), *to, *a) }
+        Ir::Conv { to, ty, a, aty, .. } => { pass_on(need, is_fixed(ty) || is_fixed(aty), *to, *a) }
         Ir::Bin {
             op,
             ty,
@@ -195,11 +198,11 @@ pub fn before(table: &LabelNeeds, known: Option<RightNumber>, i: &Ir, need: &mut
             b,
             bty,
         } => {
-            let whole = is_whole(aty) || is_whole(bty);
+            let apart = is_apart(family_of(*op), *mode, ty, aty, bty);
             let takes = takes_whole(*op, *mode, ty, aty, bty, *to, *b);
-            let taken = number_taken(known, whole, *op);
-            let right = right_taken(known, takes, whole, *op);
-            pass_operands(need, whole, taken, right, *op, *to, *a, *b)
+            let taken = number_taken(known, apart, *op);
+            let right = right_taken(known, takes, apart, *op);
+            pass_operands(need, apart, taken, right, *op, *to, *a, *b)
         }
         Ir::Label(l) | Ir::Jump(l) => at_label(table, *l, need),
         Ir::BranchZero(t, l) => at_branch(table, *t, compared_bytes(known, t.bytes), *l, need),

@@ -1,8 +1,8 @@
 -- Lemmas of the emitters.
 use Rattle.std.proofs.Common.{◌≡◌, ◌++◌, ℕ, ◌≤◌, true, List, [], ◌∷◌, Ok, Err, append_assoc, refl, ap, ◌∙◌, inl, inr, subst, arith}
-use Rattle.std.specs.Prelude.{Result, OnOk, ◌||◌, map}
+use Rattle.std.specs.Prelude.{Result, OnOk, ◌||◌, ◌&&◌, ◌==◌, ◌<◌, nat_lt, not, Bool, map}
 use Rattle.std.specs.List.{list_any}
-use Rattle.std.proofs.lemmas.Bool.{eqb-true}
+use Rattle.std.proofs.lemmas.Bool.{eqb-true, ltb-true, and_parts}
 use Rattle.ec_space.specs.declared.Core.{Core}
 use Rattle.ec_space.specs.declared.Core.TheVariants.{Small, Large}
 use Rattle.ec_space.specs.declared.space.Bank.{Bank}
@@ -15,9 +15,10 @@ use Rattle.ec_core.specs.Plain.{plain_object}
 use Rattle.ec_select_order.specs.declared.relations.Relation.{Relation}
 use Rattle.ec_select_order.specs.declared.relations.Relation.TheVariants.{Less, NotLess, Equal, NotEqual}
 pub use Rattle.ec_select_bytes.proofs.Bytes.{byte_there}
+use Rattle.ec_select_places.specs.Indexes.{can_add}
 use Rattle.ec_select_places.specs.Steps.{compared_bytes}
 use Rattle.ec_select_pointers.specs.Addresses.{pointer_bytes}
-use Rattle.ec_select_operations.specs.Code.{is_far, is_whole_address, related_bytes}
+use Rattle.ec_select_operations.specs.Code.{is_far, is_whole_address, related_bytes, takes_index}
 use Rattle.ec_select_operations.specs.Pointers.{is_table, has_tables, tag_in, IsPointerSize}
 
 pub fewer_bytes : (p : Location) (n m : ℕ) → m ≤ n → HasBytes p n → HasBytes p m
@@ -56,6 +57,21 @@ pub fewer_related : (core : Core) (r : Relation) (p : Location) (n : ℕ) → 2 
     → HasBytes p (related_bytes core r n)
 fewer_related Small r p n l h = fewer_compared r p n l h
 fewer_related Large r p n l h = h
+
+-- an index is added as it stands where elements have fewer than 256 bytes
+few_added : (signed : Bool) (p q : Location) (n size : ℕ) → can_add signed p q n size ≡ true → size < 256
+few_added signed (InRegisters r) (InRegisters d) n size h =
+    let few = nat_lt 0 size && nat_lt size 256 in
+    let addend = (and_parts (not (r == d)) (not (n == 1 && signed) && few) h).1 in
+    ltb-true size 256 (and_parts (nat_lt 0 size) (nat_lt size 256) (and_parts (not (n == 1 && signed)) few addend).1).1
+few_added signed (InRegisters r) (InMemory o k) n size h = absurd cc
+few_added signed (InMemory o k) (InRegisters d) n size h = absurd cc
+few_added signed (InMemory o k) (InMemory u j) n size h = absurd cc
+
+pub few_elements : (core : Core) (signed : Bool) (p q : Location) (bytes n size : ℕ)
+    → takes_index core signed p q bytes n size ≡ true → size < 256
+few_elements core signed p q bytes n size h =
+    few_added signed p q n size (and_parts (not (is_far core bytes)) (can_add signed p q n size) h).1
 
 -- code behind code
 pub joined_code : {E T X : Type 0} (r : Result T X) (old mid new first second : List E) → mid ≡ old ++ first

@@ -20,7 +20,7 @@ use Rattle.ec_ir.specs.declared.operations.Temp.{Temp}
 use Rattle.ec_select_operations.specs.declared.families.Family.{Family}
 use Rattle.ec_select_operations.specs.declared.families.Family.TheVariants.{Combined, Compared, Multiplied, Shifted, Divided}
 use Rattle.ec_select_operations.specs.Code.{family_of, has_one_format, is_as_exact, is_on_integers, takes_place, is_placed}
-use Rattle.ec_select_operations.specs.Emitted.{second_bytes, BinaryHasBytes, FixedHasBytes, FixedOperandHasBytes}
+use Rattle.ec_select_operations.specs.Emitted.{second_bytes, TakesNumbers, BinaryHasBytes, FixedHasBytes, FixedOperandHasBytes}
 use Rattle.ec_select_operations.specs.Emitted.{FixedConversionHasBytes}
 use Rattle.ec_select_fixed.proofs.Conversions.{converted_types}
 use Rattle.ec_select_fixed.proofs.Formats.{operand_bytes, fixed_bytes}
@@ -105,6 +105,23 @@ integer_bytes op mode wanted to a b ty aty bty e h =
     by_family Multiplied k same = absurd k
     by_family (Shifted up) k same = absurd k
     by_family (Divided r) k same = absurd k
+
+-- and where it takes a number
+pub integer_numbers : (op : BinOp) (mode : Mode) (wanted : ℕ) (to a b : Temp) (ty aty bty : PlainType)
+    → is_on_integers (family_of op) mode ty aty bty ≡ true → FixedHasBytes op wanted to a b ty aty bty → TakesNumbers op a b
+integer_numbers op mode wanted to a b ty aty bty e h =
+    let same = one_size aty bty (on_integers (family_of op) mode ty aty bty e).0 in
+    let size = operand_bytes aty (operands_suit op ty aty bty h.types).first in
+    let some = size.0 in
+    let most = size.1 in
+    let left = h.left in
+    let right = h.right in
+    λ q. (by_operator op (omega (arith, same, left, right)) (omega (arith, some, same, right)), omega (arith, most, left))
+  where
+    by_operator : (op : BinOp) → a.bytes ≤ b.bytes → 1 ≤ b.bytes → second_bytes op a.bytes ≤ b.bytes
+    by_operator Shl all some = some
+    by_operator Shr all some = some
+    by_operator op all some = all
 
 -- the bytes that an operator which computes its result in its place asks for
 pub record HasPlacedBytes (op : BinOp) (to a b : Temp) : Type 0 where

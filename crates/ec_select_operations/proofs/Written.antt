@@ -12,7 +12,7 @@ use Rattle.ec_ir.specs.Operations.{store_object, binary_op, unary_op, conversion
 use Rattle.ec_ir.specs.Operations.{call_function, return_from, port_in, port_out, load_cell, store_cell, cell_port}
 use Rattle.ec_select_operations.specs.Code.{Linkage, register_places, save_place, restore_place, save_code}
 use Rattle.ec_select_operations.specs.declared.families.Told.{Told}
-use Rattle.ec_select_operations.specs.Code.{restore_code, operation_code, tells, wanted_behind, wanted_bytes, op_code}
+use Rattle.ec_select_operations.specs.Code.{restore_code, operation_code, tells_any, wanted_behind, wanted_bytes, op_code}
 use Rattle.ec_select_operations.specs.Code.{tells_next, ops_code, own_code, called_code, linked_code, routine_used, result_wanted}
 use Rattle.ec_ir_known.specs.declared.known.RightNumber.{RightNumber}
 use Rattle.ec_ir_known.specs.Known.{known_at, right_number, numbers_left}
@@ -141,28 +141,29 @@ module _ (p : PlainProgram) (home : Temp → Location) (k : Linkage) (routine_of
   abbrev piece : (labels : ℕ → Need) (all : List PlainIr) → Option Told → List PlainIr → ℕ → List AsmItem
   piece labels all first code j =
       let at = facts_of labels all in
-      operation_at p home k (told_from first (wanted_bytes at code) (numbers_left all code) code j)
-      (told_from first (wanted_bytes at code) (numbers_left all code) code (suc j)) (get_or (numbers_left all code) j None)
+      operation_at p home k (told_from p first (wanted_bytes at code) (numbers_left all code) code j)
+      (told_from p first (wanted_bytes at code) (numbers_left all code) code (suc j)) (get_or (numbers_left all code) j None)
       (get_or (map routine_of code) j None) (slice_index (wanted_bytes at code) j) (get_or (kept_rows k.slots at code) j [])
       (slice_get code j)
 
   -- what those behind the first operation have been told is what the other ones have been told
   told_behind : (labels : ℕ → Need) (all : List PlainIr) (first : Option Told) (i : PlainIr) (code : List PlainIr) (j : ℕ)
-      → told_from first (wanted_bytes (facts_of labels all) (i ∷ code)) (numbers_left all (i ∷ code)) (i ∷ code) (suc j)
-      ≡ told_from (tells_next (facts_of labels all) first i code) (wanted_bytes (facts_of labels all) code) (numbers_left all code) code j
+      → told_from p first (wanted_bytes (facts_of labels all) (i ∷ code)) (numbers_left all (i ∷ code)) (i ∷ code) (suc j)
+      ≡ told_from p (tells_next p (facts_of labels all) first i code) (wanted_bytes (facts_of labels all) code) (numbers_left all code)
+      code j
   told_behind labels all first i code zero = refl
   told_behind labels all first i code (suc j) =
-      ap (λ told. option_and_then (λ x. tells (get_or (numbers_left all code) j None) told x (slice_get code (suc j))
+      ap (λ told. option_and_then (λ x. tells_any p (get_or (numbers_left all code) j None) told x (slice_get code (suc j))
       (slice_get code (suc (suc j))) (slice_index (wanted_bytes (facts_of labels all) code) (suc j))) (slice_get code j))
       (told_behind labels all first i code j)
 
   -- those behind the first operation are those of the other ones
   piece_behind : (labels : ℕ → Need) (all : List PlainIr) (first : Option Told) (i : PlainIr) (code : List PlainIr) (j : ℕ)
-      → piece labels all first (i ∷ code) (suc j) ≡ piece labels all (tells_next (facts_of labels all) first i code) code j
+      → piece labels all first (i ∷ code) (suc j) ≡ piece labels all (tells_next p (facts_of labels all) first i code) code j
   piece_behind labels all first i code j =
-      ap (λ told. one told (told_from first (wanted_bytes at (i ∷ code)) (numbers_left all (i ∷ code)) (i ∷ code) (suc (suc j))))
+      ap (λ told. one told (told_from p first (wanted_bytes at (i ∷ code)) (numbers_left all (i ∷ code)) (i ∷ code) (suc (suc j))))
       (told_behind labels all first i code j)
-      ∙ ap (one (told_from (tells_next at first i code) (wanted_bytes at code) (numbers_left all code) code j))
+      ∙ ap (one (told_from p (tells_next p at first i code) (wanted_bytes at code) (numbers_left all code) code j))
       (told_behind labels all first i code (suc j))
     where
       at : Facts
@@ -178,7 +179,7 @@ module _ (p : PlainProgram) (home : Temp → Location) (k : Linkage) (routine_of
   pieces_are labels all first [] = refl
   pieces_are labels all first (i ∷ code) =
       let at = facts_of labels all in
-      let next = tells_next at first i code in
+      let next = tells_next p at first i code in
       let behind =
       chain_same (λ j. piece labels all first (i ∷ code) (suc j)) (piece labels all next code) (length code)
       (λ j l. piece_behind labels all first i code j) in
@@ -202,7 +203,7 @@ pub one_more : (p : PlainProgram) (home : Temp → Location) (k : Linkage) (want
     (known : List (Option RightNumber)) (routines : List (Option ℕ)) (code : List PlainIr) (j : ℕ) (i : PlainIr)
     (told telling : Option Told) (number : Option RightNumber) (routine : Option ℕ) (row : List ℕ)
     (first before after : List AsmItem)
-    → slice_get code j ≡ Some i → told ≡ told_at wanted known code j → telling ≡ told_at wanted known code (suc j)
+    → slice_get code j ≡ Some i → told ≡ told_at p wanted known code j → telling ≡ told_at p wanted known code (suc j)
     → get_or known j None ≡ number → get_or routines j None ≡ routine → get_or kept j [] ≡ row
     → before ≡ first ++ written_code p home k wanted kept known routines code j
     → after ≡ before ++ linked_code (routine_used number i routine) (λ l. called_code home l (slice_index wanted j) i)
@@ -210,12 +211,12 @@ pub one_more : (p : PlainProgram) (home : Temp → Location) (k : Linkage) (want
     → after ≡ first ++ written_code p home k wanted kept known routines code (j + 1)
 one_more p home k wanted kept known routines code j i told telling number routine row first before after is told_is telling_is number_is
     routine_is row_is start q =
-    let here : operation_at p home k (told_at wanted known code j) (told_at wanted known code (suc j)) (get_or known j None)
+    let here : operation_at p home k (told_at p wanted known code j) (told_at p wanted known code (suc j)) (get_or known j None)
     (get_or routines j None) (slice_index wanted j) (get_or kept j []) (slice_get code j)
     ≡ linked_code (routine_used number i routine) (λ l. called_code home l (slice_index wanted j) i)
     (operation_code p home k told telling number (slice_index wanted j) (need_in row) i) = rw
     (told_is, telling_is, is, row_is, number_is, routine_is) refl in
-    chain_more (λ j. operation_at p home k (told_at wanted known code j) (told_at wanted known code (suc j)) (get_or known j None)
+    chain_more (λ j. operation_at p home k (told_at p wanted known code j) (told_at p wanted known code (suc j)) (get_or known j None)
     (get_or routines j None) (slice_index wanted j) (get_or kept j []) (slice_get code j)) j first before after start
     (q ∙ ap (λ l. before ++ l) (sym here))
 
@@ -227,8 +228,9 @@ item_there (z ∷ xs) zero x l q = (let g : x ≡ z = q in ap Some (sym g))
 item_there (z ∷ xs) (suc k) x l q = item_there xs k x (omega arith) q
 
 -- what an operation tells the one behind it
-pub tells_here : (code : List PlainIr) (wanted : List ℕ) (known : List (Option RightNumber)) (k : ℕ) (told : Option Told) (i : PlainIr)
-    → slice_get code k ≡ Some i → told ≡ told_at wanted known code k
-    → tells (get_or known k None) told i (slice_get code (suc k)) (slice_get code (suc (suc k))) (slice_index wanted (suc k))
-    ≡ told_at wanted known code (suc k)
-tells_here code wanted known k told i p q = rw (p, q) refl
+pub tells_here : (x : PlainProgram) (code : List PlainIr) (wanted : List ℕ) (known : List (Option RightNumber)) (k : ℕ)
+    (told : Option Told) (i : PlainIr)
+    → slice_get code k ≡ Some i → told ≡ told_at x wanted known code k
+    → tells_any x (get_or known k None) told i (slice_get code (suc k)) (slice_get code (suc (suc k))) (slice_index wanted (suc k))
+    ≡ told_at x wanted known code (suc k)
+tells_here x code wanted known k told i p q = rw (p, q) refl

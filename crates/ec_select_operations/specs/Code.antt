@@ -1,7 +1,7 @@
 -- The code of operations.
 use Rattle.std.specs.Prelude.{◌≤◌, ⊤, ℕ, suc, ◌+◌, ◌-◌, ◌*◌, ◌/◌, ◌%◌, ◌==◌, nat_le, Bool, true, false, ◌&&◌, ◌||◌, not}
-use Rattle.std.specs.Prelude.{if◌then◌else◌}
-use Rattle.std.specs.Prelude.{min, List, [], ◌∷◌, ◌++◌, Option, Some, None, option_map, slice_get, slice_index}
+use Rattle.std.specs.Prelude.{if◌then◌else◌, ℤ, pos, int_lt, min, List, [], ◌∷◌, ◌++◌, Option, Some, None, option_map}
+use Rattle.std.specs.Prelude.{slice_get, slice_index}
 use Rattle.ec_fx.specs.declared.numbers.Mode.{Mode}
 use Rattle.ec_fx.specs.Formats.{format_of}
 use Rattle.ec_space.specs.declared.Core.{Core}
@@ -12,9 +12,9 @@ use Rattle.ec_space.specs.declared.space.Home.{Home}
 use Rattle.ec_space.specs.declared.space.Home.TheVariants.{Flash as FlashHome, Far as FarHome, Data as DataHome}
 use Rattle.ec_space.specs.declared.space.SpaceId.{SpaceId}
 use Rattle.ec_space.specs.declared.space.SpaceId.TheVariants.{Flash, FarFlash, Data, Generic}
-use Rattle.ec_isa.specs.declared.instructions.Instr.TheVariants.{Movw, Ret}
+use Rattle.ec_isa.specs.declared.instructions.Instr.TheVariants.{Andi, Mov, Movw, Ret}
 use Rattle.ec_asm.specs.declared.items.AsmItem.{AsmItem}
-use Rattle.ec_asm.specs.declared.items.AsmItem.TheVariants.{Plain, Label, JumpTo, CallTo, BranchTo}
+use Rattle.ec_asm.specs.declared.items.AsmItem.TheVariants.{Plain, Label, JumpTo, CallTo, BranchTo, LoadObj}
 use Rattle.ec_asm.specs.Items.{chain}
 use Rattle.ec_asm.specs.declared.pieces.Location.{Location}
 use Rattle.ec_asm.specs.declared.pieces.Location.TheVariants.{InRegisters, InMemory}
@@ -44,13 +44,15 @@ use Rattle.ec_select_places.specs.Conversions.{embed_code}
 use Rattle.ec_select_places.specs.Distances.{elements_code}
 use Rattle.ec_select_places.specs.Far.{advance_far_code}
 use Rattle.ec_select_places.specs.FarLaws.{extended}
+use Rattle.ec_select_places.specs.Indexes.{can_add, add_index_code}
 use Rattle.ec_select_places.specs.StepLaws.{index_of}
 use Rattle.ec_select_places.specs.Steps.{scale_index_code, advance_code, compared_bytes}
 use Rattle.ec_select_pointers.specs.Accesses.{load_data_code, load_flash_code, load_any_code, load_table_code}
-use Rattle.ec_select_pointers.specs.Accesses.{store_data_code}
+use Rattle.ec_select_pointers.specs.Accesses.{point_code, store_data_code}
 use Rattle.ec_select_pointers.specs.Addresses.{address_code, field_code}
 use Rattle.ec_select_pointers.specs.Far.{load_far_code, load_far_table_code, load_any_far_code, far_address_code}
 use Rattle.ec_select_pointers.specs.Far.{field_far_code}
+use Rattle.ec_select_pointers.specs.Fetched.{fetch_code, load_member_code}
 use Rattle.ec_select_products.specs.Products.{product_code}
 use Rattle.ec_select_quotients.specs.Signs.{quotient_code}
 use Rattle.ec_select_shifts.specs.declared.shifts.Direction.{Direction}
@@ -62,6 +64,7 @@ use Rattle.ec_select_operations.specs.declared.families.Family.{Family}
 use Rattle.ec_select_operations.specs.declared.families.Family.TheVariants.{Combined, Compared, Multiplied, Shifted}
 use Rattle.ec_select_operations.specs.declared.families.Family.TheVariants.{Divided}
 use Rattle.ec_select_operations.specs.declared.families.Told.{Told}
+use Rattle.ec_select_operations.specs.declared.families.Told.TheVariants.{Operands, InZ}
 use Rattle.ec_select_operations.specs.declared.homes.Homes.{Homes}
 use Rattle.ec_select_operations.specs.Homes.{home, result_location}
 use Rattle.ec_fxcode_formats.specs.Brought.{can_bring, bring_code}
@@ -72,12 +75,13 @@ use Rattle.ec_select_fixed.specs.Codes.{fixed_binary_code, fixed_unary_code, fix
 use Rattle.ec_select_fixed.specs.Types.{format_in}
 use Rattle.ec_select_routines.specs.Codes.{call_with_one, call_with_two}
 use Rattle.ec_ir_known.specs.declared.known.RightNumber.{RightNumber}
-use Rattle.ec_select_operations.specs.Needs.{is_fixed, is_whole, number_taken, compared_bytes as bytes_compared}
+use Rattle.ec_select_operations.specs.Needs.{is_fixed, number_taken, compared_bytes as bytes_compared, number_known}
 use Rattle.ec_select_operations.specs.Needs.{Need, nothing, wanted, wanted_result, without_result, either}
 use Rattle.ec_select_operations.specs.Needs.{Facts, facts_of, needs, takes_count}
 pub use Rattle.ec_select_operations.specs.Needs.{has_one_format, takes_place, is_placed}
+pub use Rattle.ec_select_operations.specs.Needs.{family_of, is_as_exact, is_on_integers, is_apart}
 use Rattle.ec_select_operations.specs.Places.{object_location}
-use Rattle.ec_select_operations.specs.Pointers.{is_pointer, is_into_data, home_of, kept_in, tag_in, has_tables}
+use Rattle.ec_select_operations.specs.Pointers.{is_pointer, is_into_data, home_of, kept_in, tag_in, is_table, has_tables}
 use Rattle.ec_select_operations.specs.Ports.{in_code, out_code, cell_place, cell_in_code, cell_out_code}
 
 abbrev pub same_location : Location → Location → Bool
@@ -110,24 +114,6 @@ move_code p q n = if same_location p q then [] else transfer_code p q n
 
 -- ---- families
 
-abbrev pub family_of : BinOp → Family
-family_of Add = Combined Sum
-family_of Sub = Combined Difference
-family_of And = Combined BitAnd
-family_of Or = Combined BitOr
-family_of Xor = Combined BitXor
-family_of Lt = Compared Less false
-family_of Gt = Compared Less true
-family_of Le = Compared NotLess true
-family_of Ge = Compared NotLess false
-family_of Eq = Compared Equal false
-family_of Ne = Compared NotEqual false
-family_of Mul = Multiplied
-family_of Div = Divided false
-family_of Rem = Divided true
-family_of Shl = Shifted true
-family_of Shr = Shifted false
-
 abbrev pub is_signed : PlainType → Bool
 is_signed (integer signed bytes) = signed
 is_signed (fixed kind saturates) = (format_of kind).signed
@@ -137,16 +123,6 @@ is_signed ty = false
 abbrev pub has_one_fraction : (ty aty : PlainType) → Bool
 has_one_fraction (fixed k s) (fixed j t) = (format_of k).frac == (format_of j).frac
 has_one_fraction ty aty = false
-
--- an operator that gives for numbers of one format what it gives for the integers that their bytes stand for: a
--- comparison, and where it does not saturate, a sum or a difference in that format
-abbrev pub is_as_exact : Family → Mode → (in_format : Bool) → Bool
-is_as_exact (Combined op) mode in_format = in_format && not mode.saturate
-is_as_exact (Compared r exchanged) mode in_format = true
-is_as_exact f mode in_format = false
-
-abbrev pub is_on_integers : Family → Mode → (ty aty bty : PlainType) → Bool
-is_on_integers f mode ty aty bty = has_one_format aty bty && is_as_exact f mode (has_one_format ty aty)
 
 -- the low bytes, and where more are needed the sign or 0
 abbrev pub conversion_code : Bool → (from to : Location) → (bytes n : ℕ) → List AsmItem
@@ -216,17 +192,13 @@ branch_code p bytes l = test_code p bytes ++ BranchTo true 1 l ∷ []
 
 -- how operands stand, where the operator is a comparison
 abbrev pub told_of : Family → (signed : Bool) → Option Told
-told_of (Compared r exchanged) signed = Some (record { relation = r; signed = signed })
+told_of (Compared r exchanged) signed = Some (Operands r signed)
 told_of f signed = None
 
--- a comparison with a fixed-point operand or a pointer leaves none
+-- an operator apart leaves none
 abbrev pub told_by : (is_apart : Bool) → Family → (signed : Bool) → Option Told
 told_by true f signed = None
 told_by false f signed = told_of f signed
-
--- but for one that is a comparison of integers
-abbrev pub is_apart : Family → Mode → (ty aty bty : PlainType) → Bool
-is_apart f mode ty aty bty = (is_whole aty || is_whole bty) && not (is_on_integers f mode ty aty bty)
 
 -- the next operation branches on the result, of which nothing is needed afterwards
 abbrev pub is_only_tested : (to : Temp) → (next : Option PlainIr) → (needed : ℕ) → Bool
@@ -237,6 +209,22 @@ is_only_tested to next needed = false
 abbrev pub compared_signed : (taken : Option RightNumber) → (signed : Bool) → Bool
 compared_signed None signed = signed
 compared_signed (Some n) signed = if n.in_byte then false else signed
+
+-- an AND with a known number below 255
+abbrev pub is_mask : Option ℤ → Bool
+is_mask None = false
+is_mask (Some n) = not (int_lt n (pos 0)) && int_lt n (pos 255)
+
+abbrev pub is_masked : (taken : Option RightNumber) → BinOp → Bool
+is_masked None op = false
+is_masked (Some k) And = is_mask k.number
+is_masked (Some k) op = false
+
+-- what an operator leaves that takes so much: an AND with such a number tells whether its result is not 0
+abbrev pub told_taking : (taken : Option RightNumber) → (is_apart : Bool) → BinOp → (signed : Bool) → Option Told
+told_taking taken apart op signed =
+    if is_masked taken op then Some (Operands NotEqual false)
+    else told_by apart (family_of op) (compared_signed taken signed)
 
 -- the next operation is a jump, and the one behind it is the label of a branch that stands over it
 abbrev pub is_over_jump : (l : ℕ) → (next behind : Option PlainIr) → Bool
@@ -253,17 +241,17 @@ opposite NotEqual = Equal
 -- what a branch over a jump, which has been told so much or tests a number, tells the jump: like a branch, the jump is made
 -- where operands do not stand so
 abbrev pub turned : Option Told → Told
-turned None = record { relation = Equal; signed = false }
-turned (Some told) = record { relation = opposite told.relation; signed = told.signed }
+turned (Some (Operands r signed)) = Operands (opposite r) signed
+turned told = Operands Equal false
 
 -- what an operation, whose second operand may be known to hold a number, and which has been told so much, tells the next one
--- by a flag: a comparison in place of its result, and a branch over a jump in place of the branch
+-- by a flag: a comparison or an AND in place of its result, and a branch over a jump in place of the branch
 abbrev pub tells : (known : Option RightNumber) → (told : Option Told) → PlainIr → (next behind : Option PlainIr) → (needed : ℕ)
     → Option Told
 tells known told (binary_op op ty mode to a aty b bty) next behind needed =
     if is_only_tested to next needed
-    then told_by (is_apart (family_of op) mode ty aty bty) (family_of op)
-    (compared_signed (number_taken known (is_whole aty || is_whole bty) op) (is_signed aty)) else None
+    then told_taking (number_taken known (is_apart (family_of op) mode ty aty bty) op) (is_apart (family_of op) mode ty aty bty) op
+    (is_signed aty) else None
 tells known told (branch_zero t l) next behind needed = if is_over_jump l next behind then Some (turned told) else None
 tells known told i next behind needed = None
 
@@ -297,28 +285,56 @@ abbrev pub counted_by_code : (left signed : Bool) → (a to : Location) → (byt
 counted_by_code true signed a to bytes n k = counted_code Left a to n k
 counted_by_code false signed a to bytes n k = counted_code (Right signed) a to bytes k ++ extend_code false to bytes n
 
--- the first operand is brought to the result's place, and changed or shifted there. A truth value needs the number at the
--- place of the second operand, and all its bytes are put there first; so many of them are compared, or shifted to the
--- right, with signs or without
-abbrev pub by_number_code : Family → (left signed : Bool) → (a b to : Location) → (bytes compared number n : ℕ) → List AsmItem
-by_number_code (Combined op) left signed a b to bytes compared number n =
+-- the first operand is brought to the result's place, and changed or shifted there. So many of its bytes are compared, with
+-- signs or without, before a truth value is told, for which no more bytes are compared; or so many are shifted to the right
+abbrev pub by_number_code : Family → (left signed : Bool) → (a b to : Location) → (compared number n : ℕ) → List AsmItem
+by_number_code (Combined op) left signed a b to compared number n =
     move_code a to n ++ changed_by_code op to number n
-by_number_code (Compared r exchanged) left signed a b to bytes compared number n =
-    if n == 0 then [] else constant_code b number bytes ++ compared_code r signed a b to compared n
-by_number_code (Shifted up) left signed a b to bytes compared number n =
+by_number_code (Compared r exchanged) left signed a b to compared number n =
+    if n == 0 then [] else compared_with_code a number compared ++ compared_code r signed a b to 0 n
+by_number_code (Shifted up) left signed a b to compared number n =
     if n == 0 then [] else counted_by_code up signed a to compared n (number % 256)
-by_number_code f left signed a b to bytes compared number n = []
+by_number_code f left signed a b to compared number n = []
 
--- where the second operand is taken as a number, in two's complement of 16 bytes
+-- a byte and a number: where the byte stands if this is the result's place and an immediate reaches it, and else in R30
+abbrev pub masked_at : (here : Bool) → (r k : ℕ) → List AsmItem
+masked_at true r k = Plain (Andi r k) ∷ []
+masked_at false r k = Plain (Mov 30 r) ∷ Plain (Andi 30 k) ∷ []
+
+abbrev pub masked_code : (a to : Location) → (k : ℕ) → List AsmItem
+masked_code (InRegisters r) to k = masked_at (nat_le 16 r && same_location (InRegisters r) to) r k
+masked_code (InMemory o j) to k = LoadObj 30 o j ∷ Plain (Andi 30 k) ∷ []
+
+-- what leaves a flag alone: of AND the lowest byte, and else so many bytes of a comparison
+abbrev pub told_number_code : Family → (a to : Location) → (number compared : ℕ) → List AsmItem
+told_number_code (Combined op) a to number compared = masked_code a to (number % 256)
+told_number_code f a to number compared = compared_with_code a number compared
+
+-- so many low bytes of two numbers below 256 are compared, which have no signs. There is no such code for other operators
+abbrev pub low_code : (telling : Option Told) → Relation → (left right to : Location) → (bytes n : ℕ) → List AsmItem
+low_code None r left right to bytes n = compared_code r false left right to bytes n
+low_code (Some told) r left right to bytes n = compare_code right left bytes
+
+abbrev pub bytes_code : (telling : Option Told) → Family → (a b to : Location) → (bytes n : ℕ) → List AsmItem
+bytes_code telling (Compared r false) a b to bytes n = low_code telling r a b to bytes n
+bytes_code telling (Compared r true) a b to bytes n = low_code telling r b a to bytes n
+bytes_code telling f a b to bytes n = []
+
+-- where a number, in two's complement of 16 bytes, is taken in place of the second operand, or so many bytes are compared
+abbrev pub known_code : (number : Option ℤ) → (telling : Option Told) → Family → (left signed : Bool) → (a b to : Location)
+    → (compared n : ℕ) → List AsmItem
+known_code None telling f left signed a b to compared n = bytes_code telling f a b to compared n
+known_code (Some k) None f left signed a b to compared n = by_number_code f left signed a b to compared (low_bytes 16 k) n
+known_code (Some k) (Some told) f left signed a b to compared n = told_number_code f a to (low_bytes 16 k) compared
+
+-- where what is known of the second operand is taken
 abbrev pub taking_code : (taken : Option RightNumber) → (telling : Option Told) → Family → (left right : Bool) → (a b to : Location)
     → (bytes n : ℕ) → List AsmItem
 taking_code None telling f left right a b to bytes n = operator_code telling f left right a b to bytes n
-taking_code (Some k) None f left right a b to bytes n =
-    by_number_code f left (compared_signed (Some k) left) a b to bytes (bytes_compared (Some k) bytes) (low_bytes 16 k.number) n
-taking_code (Some k) (Some told) f left right a b to bytes n =
-    compared_with_code a (low_bytes 16 k.number) (bytes_compared (Some k) bytes)
+taking_code (Some k) telling f left right a b to bytes n =
+    known_code k.number telling f left (compared_signed (Some k) left) a b to (bytes_compared (Some k) bytes) n
 
--- operands that are integers, of which the second one may be known to hold a number
+-- operands that are integers, of which something may be known
 abbrev pub integer_binary : (known : Option RightNumber) → (telling : Option Told) → BinOp → (left right : Bool) → (a b to : Location)
     → (bytes n : ℕ) → List AsmItem
 integer_binary known telling op left right a b to bytes n =
@@ -327,15 +343,15 @@ integer_binary known telling op left right a b to bytes n =
 -- it branches where the operands of the comparison before it do not stand so, or where a number of so many bytes is 0. Where
 -- it tells a jump of this, it does not branch
 abbrev pub tested_code : (told telling : Option Told) → Location → (bytes l : ℕ) → List AsmItem
-tested_code None None p bytes l = branch_code p bytes l
-tested_code None (Some behind) p bytes l = test_code p bytes
-tested_code (Some told) None p bytes l = unless_code told.relation told.signed l
-tested_code (Some told) (Some behind) p bytes l = []
+tested_code (Some (Operands r signed)) None p bytes l = unless_code r signed l
+tested_code (Some (Operands r signed)) (Some behind) p bytes l = []
+tested_code told None p bytes l = branch_code p bytes l
+tested_code told (Some behind) p bytes l = test_code p bytes
 
 -- it jumps, or where the branch before it told it something, only where operands do not stand so
 abbrev pub jump_code : Option Told → (l : ℕ) → List AsmItem
-jump_code None l = JumpTo l ∷ []
-jump_code (Some told) l = unless_code told.relation told.signed l
+jump_code (Some (Operands r signed)) l = unless_code r signed l
+jump_code told l = JumpTo l ∷ []
 
 -- ---- calls
 
@@ -436,15 +452,15 @@ stopped_code minus signed a b to top = move_code a to (suc top) ++ limited_code 
 
 -- or the lowest byte of the second one is brought to R30, and they are shifted there by it, or by the number that the
 -- second one is known to hold
-abbrev pub placed_shift : (known : Option RightNumber) → (left signed : Bool) → (a b to : Location) → (top : ℕ) → List AsmItem
+abbrev pub placed_shift : (known : Option ℤ) → (left signed : Bool) → (a b to : Location) → (top : ℕ) → List AsmItem
 placed_shift None left signed a b to top =
     move_code b (InRegisters 30) 1 ++ (move_code a to (suc top) ++ placed_code left signed to (suc top))
 placed_shift (Some k) left signed a b to top =
-    move_code a to (suc top) ++ placed_by_code left signed to (suc top) (low_bytes 16 k.number % 256)
+    move_code a to (suc top) ++ placed_by_code left signed to (suc top) (low_bytes 16 k % 256)
 
 abbrev pub placed_whole : (known : Option RightNumber) → BinOp → (signed : Bool) → (a b to : Location) → (top : ℕ) → List AsmItem
-placed_whole known Shl signed a b to top = placed_shift known true signed a b to top
-placed_whole known Shr signed a b to top = placed_shift known false signed a b to top
+placed_whole known Shl signed a b to top = placed_shift (number_known known) true signed a b to top
+placed_whole known Shr signed a b to top = placed_shift (number_known known) false signed a b to top
 placed_whole known op signed a b to top = stopped_code (is_difference op) signed a b to top
 
 abbrev pub placed_binary : (known : Option RightNumber) → BinOp → (signed : Bool) → (a b to : Location) → (bytes n : ℕ) → List AsmItem
@@ -455,7 +471,7 @@ abbrev pub fixed_binary : (known : Option RightNumber) → (telling : Option Tol
     → (a b to : Location) → (bytes n : ℕ) → List AsmItem
 fixed_binary known telling op ty aty bty mode a b to bytes n =
     if is_on_integers (family_of op) mode ty aty bty
-    then operator_code telling (family_of op) (is_signed aty) (is_signed bty) a b to bytes n
+    then integer_binary known telling op (is_signed aty) (is_signed bty) a b to bytes n
     else (if is_placed op mode ty aty bty && not (same_location b to)
     then placed_binary known op (is_signed aty) a b to bytes n
     else answer_code (fixed_binary_code op ty aty bty mode a b answer_location work_location) to n)
@@ -554,18 +570,105 @@ banked_code core FarHome objects o offset to n =
     by_core core (load_table_code o offset to n) (load_far_table_code o offset to n)
 banked_code core DataHome objects o offset to n = copy_code (object_location objects o offset) to n
 
+-- ---- a pointer that stays in Z for a load
+
+-- a load through a pointer into a space is one from the data bank, wherever it points
+abbrev pub is_from_data : (tables : Bool) → SpaceId → Bool
+is_from_data tables Data = true
+is_from_data tables Generic = not tables
+is_from_data tables space = false
+
+-- a displacement reaches so many bytes at an offset
+abbrev pub is_in_reach : (offset bytes : ℕ) → Bool
+is_in_reach offset bytes = nat_le (offset + bytes) 64
+
+-- the next operation loads from the data bank what stands at an offset from the pointer at a place, and puts it there
+abbrev pub is_load_by_z : (tables : Bool) → (place offset : ℕ) → (next : Option PlainIr) → Bool
+is_load_by_z tables place offset (Some (load_at to ptr space)) =
+    ptr.at == place && (to.at == place && (is_from_data tables space && is_in_reach offset to.bytes))
+is_load_by_z tables place offset next = false
+
+-- or the one behind it loads a member so
+abbrev pub is_used_by_z : (tables : Bool) → (place : ℕ) → (next behind : Option PlainIr) → Bool
+is_used_by_z tables place (Some (field ptr space offset)) behind = ptr.at == place && is_load_by_z tables place offset behind
+is_used_by_z tables place next behind = is_load_by_z tables place 0 next
+
+-- how far what is meant stands from Z, in bytes
+abbrev pub told_offset : Option Told → ℕ
+told_offset (Some (InZ offset)) = offset
+told_offset told = 0
+
+-- what an operation that has been told so much leaves in Z in place of its result: a pointer of the data bank that the next
+-- operations alone use
+abbrev pub tells_in_z : PlainProgram → (told : Option Told) → PlainIr → (next behind : Option PlainIr) → Option Told
+tells_in_z p told (load_object t o offset) next behind =
+    if not (is_table (kept_in p o)) && (nat_le 2 t.bytes && is_used_by_z (has_tables p.objects) t.at next behind)
+    then Some (InZ 0) else None
+tells_in_z p told (field ptr space offset) next behind =
+    if is_load_by_z (has_tables p.objects) ptr.at (told_offset told + offset) next
+    then Some (InZ (told_offset told + offset)) else None
+tells_in_z p told i next behind = None
+
+-- what an operation tells by Z, or else by a flag
+abbrev pub told_first : (in_z by_flag : Option Told) → Option Told
+told_first None by_flag = by_flag
+told_first (Some told) by_flag = Some told
+
+abbrev pub tells_any : PlainProgram → (known : Option RightNumber) → (told : Option Told) → PlainIr → (next behind : Option PlainIr)
+    → (needed : ℕ) → Option Told
+tells_any p known told i next behind needed =
+    told_first (tells_in_z p told i next behind) (tells known told i next behind needed)
+
+-- a pointer of so many bytes to a member: one in Z stays as it is, and one whose member is loaded next is brought there
+abbrev pub further_code : (told telling : Option Told) → Core → (bytes : ℕ) → Location → (offset : ℕ) → List AsmItem
+further_code (Some told) telling core bytes ptr offset = []
+further_code None (Some told) core bytes ptr offset = point_code ptr
+further_code None None core bytes ptr offset = member_code core bytes ptr offset
+
+-- the displacement from Z at which so many bytes are loaded, where the pointer stays there
+abbrev pub displacement : (told : Option Told) → (bytes : ℕ) → Option ℕ
+displacement (Some (InZ offset)) bytes = if is_in_reach offset bytes then Some offset else None
+displacement told bytes = None
+
+abbrev pub loaded_code : (from_z : Option ℕ) → Core → (tables : Bool) → SpaceId → (p to : Location) → ℕ → List AsmItem
+loaded_code None core tables space p to n = load_code core tables space p to n
+loaded_code (Some offset) core tables space p to n = load_member_code offset to n
+
+-- n bytes of an object with a home, from an offset on: those of a pointer that stays in Z are brought there
+abbrev pub object_code : (telling : Option Told) → Core → Home → List PlainObject → (o offset : ℕ) → (to : Location) → ℕ
+    → List AsmItem
+object_code None core kept objects o offset to n = banked_code core kept objects o offset to n
+object_code (Some told) core kept objects o offset to n = fetch_code (object_location objects o offset) n
+
+-- ---- pointers that are moved
+
 -- a pointer of so many bytes is moved by the bytes in R31:R30, further or back
 abbrev pub moved_code : Core → (bytes : ℕ) → (minus : Bool) → Location → List AsmItem
 moved_code core bytes minus to = if is_far core bytes then advance_far_code minus to else advance_code minus to
 
--- A pointer so many elements further, or back: the number of elements becomes one of bytes in R31:R30, then the pointer
--- is brought to the result's place and moved there
+-- the number of elements is added as it stands, to an address that is not whole
+abbrev pub takes_index : Core → (signed : Bool) → (index to : Location) → (bytes index_bytes size : ℕ) → Bool
+takes_index core signed index to bytes index_bytes size =
+    not (is_far core bytes) && can_add signed index to index_bytes size
+
+-- the pointer is brought to the result's place, and the number of elements is added there
+abbrev pub indexed_code : (minus : Bool) → (from index to : Location) → (bytes index_bytes size : ℕ) → List AsmItem
+indexed_code minus from index to bytes index_bytes size =
+    move_code from to bytes ++ add_index_code minus index to index_bytes size
+
+-- the number of elements becomes one of bytes in R31:R30, then the pointer is brought to the result's place and moved there
+abbrev pub scaled_code : Core → (minus signed : Bool) → (from index to : Location) → (bytes index_bytes size : ℕ) → List AsmItem
+scaled_code core minus signed from index to bytes index_bytes size =
+    scale_index_code index signed index_bytes size ++ (move_code from to bytes ++ moved_code core bytes minus to)
+
+-- a pointer so many elements further, or back
 abbrev pub offset_code : Core → (minus signed : Bool) → (from index to : Location) → (bytes index_bytes size n : ℕ)
     → List AsmItem
 offset_code core minus signed from index to bytes index_bytes size n =
     if n == 0 then []
-    else scale_index_code index signed index_bytes (size % 65536)
-    ++ (move_code from to bytes ++ moved_code core bytes minus to)
+    else (if takes_index core signed index to bytes index_bytes (size % 65536)
+    then indexed_code minus from index to bytes index_bytes (size % 65536)
+    else scaled_code core minus signed from index to bytes index_bytes (size % 65536))
 
 -- The bytes of so many elements, modulo 65,536: an index of so many bytes is known to hold a number
 abbrev pub known_index : (signed : Bool) → (index_bytes number : ℕ) → ℕ
@@ -588,12 +691,12 @@ known_offset_code core minus signed from to bytes index_bytes number size n =
     ++ member_code core bytes to (known_offset minus (known_bytes signed index_bytes number size))
 
 -- a pointer so many elements further, or back, where their number may be known
-abbrev pub offset_by : (known : Option RightNumber) → Core → (minus signed : Bool) → (from index to : Location)
+abbrev pub offset_by : (known : Option ℤ) → Core → (minus signed : Bool) → (from index to : Location)
     → (bytes index_bytes size n : ℕ) → List AsmItem
 offset_by None core minus signed from index to bytes index_bytes size n =
     offset_code core minus signed from index to bytes index_bytes size n
 offset_by (Some k) core minus signed from index to bytes index_bytes size n =
-    known_offset_code core minus signed from to bytes index_bytes (low_bytes 16 k.number) size n
+    known_offset_code core minus signed from to bytes index_bytes (low_bytes 16 k) size n
 
 -- the elements of so many bytes between two pointers
 abbrev pub difference_code : (a b to : Location) → (size n : ℕ) → List AsmItem
@@ -620,15 +723,16 @@ abbrev pub pointer_binary : (known : Option RightNumber) → Core → (left righ
 pointer_binary known core true true p op aty bty a b to m k n =
     pointers_code core (family_of op) a b to m (element_size p aty) n
 pointer_binary known core true false p op aty bty a b to m k n =
-    offset_by known core (is_difference op) (is_signed bty) a b to m k (element_size p aty) n
+    offset_by (number_known known) core (is_difference op) (is_signed bty) a b to m k (element_size p aty) n
 pointer_binary known core false true p op aty bty a b to m k n =
     offset_code core false (is_signed aty) b a to k m (element_size p bty) n
 pointer_binary known core false false p op aty bty a b to m k n = []
 
--- a pointer of two bytes gets a third one, which tells its bank, and one of three bytes loses it
-abbrev pub pointer_conversion : PlainType → (from to : Location) → (from_bytes to_bytes n : ℕ) → List AsmItem
-pointer_conversion aty from to m k n =
-    if m == 2 && k == 3 then (if n == 0 then [] else embed_code (is_into_data aty) from to) else move_code from to n
+-- a pointer of m bytes is brought to the result's place, and there one of two bytes gets a third one, which tells its bank,
+-- where it is needed
+abbrev pub pointer_conversion : PlainType → (from to : Location) → (m n : ℕ) → List AsmItem
+pointer_conversion aty from to m n =
+    move_code from to (min n m) ++ (if nat_le n m then [] else embed_code (is_into_data aty) to)
 
 -- ---- operations
 
@@ -642,13 +746,13 @@ operation_code p home k told telling known bytes kept (copy to from) = move_code
 operation_code p home k told telling known bytes kept (address t o offset) =
     addressed_code k.core p o offset (home t) t.bytes bytes
 operation_code p home k told telling known bytes kept (field ptr space offset) =
-    member_code k.core ptr.bytes (home ptr) offset
+    further_code told telling k.core ptr.bytes (home ptr) offset
 operation_code p home k told telling known bytes kept (load_at to ptr space) =
-    load_code k.core (has_tables p.objects) space (home ptr) (home to) to.bytes
+    loaded_code (displacement told to.bytes) k.core (has_tables p.objects) space (home ptr) (home to) to.bytes
 operation_code p home k told telling known bytes kept (store_at ptr space from) =
     store_data_code (home from) (home ptr) from.bytes
 operation_code p home k told telling known bytes kept (load_object t o offset) =
-    banked_code k.core (kept_in p o) p.objects o offset (home t) t.bytes
+    object_code telling k.core (kept_in p o) p.objects o offset (home t) t.bytes
 operation_code p home k told telling known bytes kept (store_object o offset t) =
     copy_code (home t) (object_location p.objects o offset) t.bytes
 operation_code p home k told telling known bytes kept (binary_op op ty mode to a aty b bty) =
@@ -662,7 +766,7 @@ operation_code p home k told telling known bytes kept (unary_op op ty mode to a)
     by_kind (is_fixed ty) (fixed_unary op ty mode (home a) (home to) bytes) (unary_code op (home a) (home to) bytes)
 operation_code p home k told telling known bytes kept (conversion to ty mode a aty) =
     by_kind (is_fixed ty || is_fixed aty) (fixed_conversion ty aty mode (home a) (home to) a.bytes bytes)
-    (by_kind (is_pointer aty) (pointer_conversion aty (home a) (home to) a.bytes to.bytes bytes)
+    (by_kind (is_pointer aty) (pointer_conversion aty (home a) (home to) a.bytes bytes)
     (conversion_code (is_signed aty) (home a) (home to) a.bytes bytes))
 operation_code p home k told telling known bytes kept (label l) = Label (k.label_of l) ∷ []
 operation_code p home k told telling known bytes kept (jump l) = jump_code told (k.label_of l)
@@ -741,16 +845,16 @@ op_code p home k told telling known need i =
     (own_code p home k told telling known need i)
 
 -- what an operation that has been told so much tells those behind it
-abbrev pub tells_next : Facts → (told : Option Told) → PlainIr → List PlainIr → Option Told
-tells_next at told i code =
-    tells (at.known (i ∷ code)) told i (slice_get code 0) (slice_get code 1) (slice_index (wanted_bytes at code) 0)
+abbrev pub tells_next : PlainProgram → Facts → (told : Option Told) → PlainIr → List PlainIr → Option Told
+tells_next p at told i code =
+    tells_any p (at.known (i ∷ code)) told i (slice_get code 0) (slice_get code 1) (slice_index (wanted_bytes at code) 0)
 
 abbrev pub ops_code : PlainProgram → (Temp → Location) → Linkage → Facts → (told : Option Told)
     → List PlainIr → List AsmItem
 ops_code p home k at told [] = []
 ops_code p home k at told (i ∷ code) =
-    op_code p home k told (tells_next at told i code) (at.known (i ∷ code)) (needs at code) i
-    ++ ops_code p home k at (tells_next at told i code) code
+    op_code p home k told (tells_next p at told i code) (at.known (i ∷ code)) (needs at code) i
+    ++ ops_code p home k at (tells_next p at told i code) code
 
 -- the code of a function, which begins with its label, where a table tells what is needed at its own labels
 abbrev pub function_code : PlainProgram → Linkage → (f : ℕ) → (ℕ → Need) → List PlainIr → List AsmItem

@@ -1,10 +1,13 @@
 -- How many low bytes of what each place of temporaries holds are still needed. Code computes only these bytes.
 use Rattle.std.specs.Prelude.{ℕ, zero, suc, ◌≤◌, ◌==◌, ⊤, Bool, true, false, ◌||◌, ◌&&◌, not, if◌then◌else◌, min, max, List, []}
 use Rattle.std.specs.Prelude.{◌∷◌}
-use Rattle.std.specs.Prelude.{Option, Some, None}
+use Rattle.std.specs.Prelude.{Option, Some, None, ℤ}
 use Rattle.ec_fx.specs.declared.numbers.Mode.{Mode}
 use Rattle.ec_core.specs.declared.expressions.BinOp.{BinOp}
-use Rattle.ec_core.specs.declared.expressions.BinOp.TheVariants.{Add, Sub, And, Or, Xor, Shl, Shr, Lt, Ge, Eq, Ne}
+use Rattle.ec_asm.specs.declared.pieces.Operator.TheVariants.{Sum, Difference, BitAnd, BitOr, BitXor}
+use Rattle.ec_core.specs.declared.expressions.BinOp.TheVariants.{Add, Sub, Mul, Div, Rem, And, Or, Xor, Lt, Gt, Le, Ge}
+use Rattle.ec_core.specs.declared.expressions.BinOp.TheVariants.{Eq, Ne, Shl, Shr}
+use Rattle.ec_core.specs.ArithmeticValues.{is_comparison}
 use Rattle.ec_core.specs.Operators.{same_kind}
 use Rattle.ec_core.specs.Plain.{PlainType, fixed, pointer}
 use Rattle.ec_ir.specs.declared.operations.Temp.{Temp}
@@ -13,6 +16,10 @@ use Rattle.ec_ir.specs.Operations.{store_object, binary_op, unary_op, conversion
 use Rattle.ec_ir.specs.Operations.{call_function, return_from, port_in, port_out, load_cell, store_cell, cell_port}
 use Rattle.ec_ir_known.specs.declared.known.RightNumber.{RightNumber}
 use Rattle.ec_ir_known.specs.Known.{known_at, right_number}
+use Rattle.ec_select_order.specs.declared.relations.Relation.TheVariants.{Less, NotLess, Equal, NotEqual}
+use Rattle.ec_select_operations.specs.declared.families.Family.{Family}
+use Rattle.ec_select_operations.specs.declared.families.Family.TheVariants.{Combined, Compared, Multiplied, Shifted}
+use Rattle.ec_select_operations.specs.declared.families.Family.TheVariants.{Divided}
 use Rattle.ec_select_operations.specs.Pointers.{is_pointer}
 
 -- for each place the number of its low bytes that are needed
@@ -80,7 +87,8 @@ abbrev pub index_needed : Option Temp → Need → Need
 index_needed None need = need
 index_needed (Some t) need = at_least t.at 1 need
 
--- ---- operations with a fixed-point type or a pointer take all bytes of their operands
+-- ---- operators apart, with a fixed-point type or a pointer, take all bytes of their operands, and so do conversions of
+-- fixed-point numbers
 
 abbrev pub is_fixed : PlainType → Bool
 is_fixed (fixed kind saturates) = true
@@ -91,11 +99,48 @@ is_whole (fixed kind saturates) = true
 is_whole (pointer space const to) = true
 is_whole ty = false
 
-abbrev pub first_wanted : (whole : Bool) → BinOp → (bytes n : ℕ) → ℕ
+-- two fixed-point types whose numbers have equal formats
+abbrev pub has_one_format : (aty bty : PlainType) → Bool
+has_one_format (fixed k s) (fixed j t) = same_kind k j
+has_one_format aty bty = false
+
+abbrev pub family_of : BinOp → Family
+family_of Add = Combined Sum
+family_of Sub = Combined Difference
+family_of And = Combined BitAnd
+family_of Or = Combined BitOr
+family_of Xor = Combined BitXor
+family_of Lt = Compared Less false
+family_of Gt = Compared Less true
+family_of Le = Compared NotLess true
+family_of Ge = Compared NotLess false
+family_of Eq = Compared Equal false
+family_of Ne = Compared NotEqual false
+family_of Mul = Multiplied
+family_of Div = Divided false
+family_of Rem = Divided true
+family_of Shl = Shifted true
+family_of Shr = Shifted false
+
+-- an operator that gives for numbers of one format what it gives for the integers that their bytes stand for: a
+-- comparison, and where it does not saturate, a sum or a difference in that format
+abbrev pub is_as_exact : Family → Mode → (in_format : Bool) → Bool
+is_as_exact (Combined op) mode in_format = in_format && not mode.saturate
+is_as_exact (Compared r exchanged) mode in_format = true
+is_as_exact f mode in_format = false
+
+abbrev pub is_on_integers : Family → Mode → (ty aty bty : PlainType) → Bool
+is_on_integers f mode ty aty bty = has_one_format aty bty && is_as_exact f mode (has_one_format ty aty)
+
+-- one with a fixed-point operand or a pointer, which does not do to it what it does to the integer of its bytes
+abbrev pub is_apart : Family → Mode → (ty aty bty : PlainType) → Bool
+is_apart f mode ty aty bty = (is_whole aty || is_whole bty) && not (is_on_integers f mode ty aty bty)
+
+abbrev pub first_wanted : (apart : Bool) → BinOp → (bytes n : ℕ) → ℕ
 first_wanted true op bytes n = all_or_none bytes n
 first_wanted false op bytes n = operand_wanted op bytes n
 
-abbrev pub second_wanted : (whole : Bool) → BinOp → (bytes n : ℕ) → ℕ
+abbrev pub second_wanted : (apart : Bool) → BinOp → (bytes n : ℕ) → ℕ
 second_wanted true op bytes n = all_or_none bytes n
 second_wanted false op bytes n = right_wanted op bytes n
 
@@ -120,11 +165,24 @@ takes_number Shl = true
 takes_number Shr = true
 takes_number op = false
 
--- the number that an operator on integers takes, where its second operand is known to hold one: none of operands that are
--- fixed-point numbers or pointers
-abbrev pub number_taken : (known : Option RightNumber) → (whole : Bool) → BinOp → Option RightNumber
-number_taken None whole op = None
-number_taken (Some n) whole op = if not whole && takes_number op then Some n else None
+-- the number that a second operand is known to hold
+abbrev pub number_known : (known : Option RightNumber) → Option ℤ
+number_known None = None
+number_known (Some n) = n.number
+
+abbrev pub is_number : Option ℤ → Bool
+is_number None = false
+is_number (Some n) = true
+
+-- operators of integers take a known number, and where only both operands are known to be below 256, comparisons take this
+abbrev pub takes_known : (number : Option ℤ) → BinOp → Bool
+takes_known None op = is_comparison op
+takes_known (Some n) op = takes_number op
+
+-- what an operator on integers takes of what is known of its second operand: nothing where it is apart
+abbrev pub number_taken : (known : Option RightNumber) → (apart : Bool) → BinOp → Option RightNumber
+number_taken None apart op = None
+number_taken (Some n) apart op = if not apart && takes_known n.number op then Some n else None
 
 -- a pointer plus or less a number of elements
 abbrev pub is_sum_or_difference : BinOp → Bool
@@ -135,20 +193,11 @@ is_sum_or_difference op = false
 abbrev pub moves_pointer : BinOp → (aty bty : PlainType) → Bool
 moves_pointer op aty bty = is_pointer aty && (not (is_whole bty) && is_sum_or_difference op)
 
--- how many bytes of the first operand, which has so many, are compared or shifted to the right: one where both operands
--- are below 256
+-- how many bytes of an operand, which has so many, are compared or shifted to the right: one where both operands are below
+-- 256
 abbrev pub compared_bytes : (taken : Option RightNumber) → (bytes : ℕ) → ℕ
 compared_bytes None bytes = bytes
 compared_bytes (Some n) bytes = if n.in_byte then min 1 bytes else bytes
-
--- and how many take part
-abbrev pub first_bytes : (taken : Option RightNumber) → BinOp → (bytes : ℕ) → ℕ
-first_bytes taken op bytes = compared_bytes taken bytes
-
--- two fixed-point types whose numbers have equal formats
-abbrev pub has_one_format : (aty bty : PlainType) → Bool
-has_one_format (fixed k s) (fixed j t) = same_kind k j
-has_one_format aty bty = false
 
 -- an operator whose result has the format of the first operand, and is computed in its place: a sum or a difference in the
 -- one format of both operands that saturates, a shift to the left that does not, and any shift to the right
@@ -174,7 +223,7 @@ is_counted op mode ty aty bty to b = (is_shift op && is_placed op mode ty aty bt
 -- it takes a count that is known
 abbrev pub count_taken : (known : Option RightNumber) → (counted : Bool) → Bool
 count_taken None counted = false
-count_taken (Some n) counted = counted
+count_taken (Some n) counted = is_number n.number && counted
 
 -- whether an operation, whose second operand may be known to hold a number, does so
 abbrev pub takes_count : (known : Option RightNumber) → PlainIr → Bool
@@ -185,10 +234,15 @@ takes_count known i = false
 abbrev pub takes_whole : BinOp → Mode → (ty aty bty : PlainType) → (to b : Temp) → Bool
 takes_whole op mode ty aty bty to b = moves_pointer op aty bty || is_counted op mode ty aty bty to b
 
+-- what is known, where that is a number
+abbrev pub numbered : (known : Option RightNumber) → Option RightNumber
+numbered None = None
+numbered (Some n) = if is_number n.number then Some n else None
+
 -- the number that any operator takes in place of its second operand
-abbrev pub right_taken : (known : Option RightNumber) → (takes whole : Bool) → BinOp → Option RightNumber
-right_taken None takes whole op = None
-right_taken (Some n) takes whole op = if takes then Some n else number_taken (Some n) whole op
+abbrev pub right_taken : (known : Option RightNumber) → (takes apart : Bool) → BinOp → Option RightNumber
+right_taken None takes apart op = None
+right_taken (Some n) takes apart op = numbered (if takes then Some n else number_taken (Some n) apart op)
 
 -- of a second operand that is taken as a number nothing is needed
 abbrev pub right_needed : Option RightNumber → (at bytes : ℕ) → Need → Need
@@ -210,14 +264,15 @@ before at n (load_object t o offset) need = without t.at need
 before at n (store_object o offset t) need = at_least t.at t.bytes need
 before at n (binary_op op ty mode to a aty b bty) need =
     at_least a.at
-    (first_wanted (is_whole aty || is_whole bty) op
-    (first_bytes (number_taken n (is_whole aty || is_whole bty) op) op a.bytes) (wanted need to))
-    (right_needed (right_taken n (takes_whole op mode ty aty bty to b) (is_whole aty || is_whole bty) op) b.at
-    (second_wanted (is_whole aty || is_whole bty) op b.bytes (wanted need to)) (without to.at need))
+    (first_wanted (is_apart (family_of op) mode ty aty bty) op
+    (compared_bytes (number_taken n (is_apart (family_of op) mode ty aty bty) op) a.bytes) (wanted need to))
+    (right_needed (right_taken n (takes_whole op mode ty aty bty to b) (is_apart (family_of op) mode ty aty bty) op) b.at
+    (second_wanted (is_apart (family_of op) mode ty aty bty) op
+    (compared_bytes (number_taken n (is_apart (family_of op) mode ty aty bty) op) b.bytes) (wanted need to)) (without to.at need))
 before at n (unary_op op ty mode to a) need =
     at_least a.at (only_wanted (is_whole ty) a.bytes (wanted need to)) (without to.at need)
 before at n (conversion to ty mode a aty) need =
-    at_least a.at (only_wanted (is_whole ty || is_whole aty) a.bytes (wanted need to)) (without to.at need)
+    at_least a.at (only_wanted (is_fixed ty || is_fixed aty) a.bytes (wanted need to)) (without to.at need)
 before at n (label l) need = at l
 before at n (jump l) need = at l
 before at n (branch_zero t l) need = at_least t.at (compared_bytes n t.bytes) (either need (at l))

@@ -12,7 +12,7 @@ use Rattle.ec_ir_known.specs.declared.known.RightNumber.{RightNumber}
 use Rattle.ec_ir_known.specs.Known.{right_numbers}
 use Rattle.ec_select_operations.specs.declared.calls.Linking.{Linking}
 use Rattle.ec_select_operations.specs.declared.families.Told.{Told}
-use Rattle.ec_select_operations.specs.Code.{Linkage, register_places, operation_code, tells, wanted_bytes, ops_code}
+use Rattle.ec_select_operations.specs.Code.{Linkage, register_places, operation_code, tells_any, wanted_bytes, ops_code}
 use Rattle.ec_select_operations.specs.Code.{function_code, called_code, linked_code, routine_used}
 use Rattle.ec_select_operations.specs.Emitted.{CanBeLinked}
 use Rattle.ec_select_operations.specs.Homes.{home}
@@ -23,18 +23,18 @@ abbrev pub need_in : List ℕ → Need
 need_in row place = get_or row place 0
 
 -- what operation j has been told, where the first one has been told so much
-abbrev pub told_from : (first : Option Told) → (wanted : List ℕ) → (known : List (Option RightNumber)) → List PlainIr
-    → ℕ → Option Told
-told_from first wanted known code zero = first
-told_from first wanted known code (suc j) =
+abbrev pub told_from : PlainProgram → (first : Option Told) → (wanted : List ℕ) → (known : List (Option RightNumber))
+    → List PlainIr → ℕ → Option Told
+told_from p first wanted known code zero = first
+told_from p first wanted known code (suc j) =
     option_and_then
-    (λ i. tells (get_or known j None) (told_from first wanted known code j) i (slice_get code (suc j)) (slice_get code (suc (suc j)))
-    (slice_index wanted (suc j)))
+    (λ i. tells_any p (get_or known j None) (told_from p first wanted known code j) i (slice_get code (suc j))
+    (slice_get code (suc (suc j))) (slice_index wanted (suc j)))
     (slice_get code j)
 
 -- no operation stands before the first one
-abbrev pub told_at : (wanted : List ℕ) → (known : List (Option RightNumber)) → List PlainIr → ℕ → Option Told
-told_at wanted known code j = told_from None wanted known code j
+abbrev pub told_at : PlainProgram → (wanted : List ℕ) → (known : List (Option RightNumber)) → List PlainIr → ℕ → Option Told
+told_at p wanted known code j = told_from p None wanted known code j
 
 -- an operation, or the call of its routine
 abbrev pub operation_at : PlainProgram → (Temp → Location) → Linkage → (told telling : Option Told)
@@ -50,7 +50,7 @@ operation_at p home k told telling known routine wanted row (Some i) =
 abbrev pub written_code : PlainProgram → (Temp → Location) → Linkage → (wanted : List ℕ) → (kept : List (List ℕ))
     → (known : List (Option RightNumber)) → (routines : List (Option ℕ)) → List PlainIr → ℕ → List AsmItem
 written_code p home k wanted kept known routines code n =
-    chain (λ j. operation_at p home k (told_at wanted known code j) (told_at wanted known code (suc j)) (get_or known j None)
+    chain (λ j. operation_at p home k (told_at p wanted known code j) (told_at p wanted known code (suc j)) (get_or known j None)
     (get_or routines j None) (slice_index wanted j) (get_or kept j []) (slice_get code j)) n
 
 -- that of a function, which begins with its label

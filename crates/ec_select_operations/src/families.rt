@@ -75,7 +75,8 @@ pub enum Family {
     Divided { remainder: bool },
 }
 
-pub(crate) fn family_of(op: BinOp) -> Family
+/// How the result of an operator is computed.
+pub fn family_of(op: BinOp) -> Family
     ensures { result ≡ family_of op }
 {
     let (relation, exchanged) = match op {
@@ -449,11 +450,13 @@ pub fn branch(out: &mut Seq<AsmItem>, at: Location, bytes: u8, label: u64) -> Re
     }])
 }
 
-/// What a comparison tells by a flag: how its operands stand, in two's complement or without signs.
+/// What an operation tells the next one in place of its result.
 #[derive(Clone, Copy)]
-pub struct Told {
-    pub relation: Relation,
-    pub signed: bool,
+pub enum Told {
+    /// By a flag: how the operands of a comparison stand, in two's complement or without signs.
+    Operands { relation: Relation, signed: bool },
+    /// The address in a pointer: it is so far from Z, in bytes. The place of the pointer does not hold it.
+    InZ { offset: u16 },
 }
 
 /// What an operator tells by a flag, where it is a comparison.
@@ -461,7 +464,7 @@ fn told_of(family: Family, signed: bool) -> Option<Told>
     ensures { result ≡ told_of family signed }
 {
     match family {
-        Family::Compared { relation, .. } => Some(Told { relation, signed }),
+        Family::Compared { relation, .. } => Some(Told::Operands { relation, signed }),
         _ => None,
     }
 }
@@ -541,11 +544,11 @@ pub(crate) fn turned(told: Option<Told>) -> Told
     ensures { result ≡ turned told }
 {
     match told {
-        Some(t) => Told {
-            relation: opposite(t.relation),
-            signed: t.signed,
+        Some(Told::Operands { relation, signed }) => Told::Operands {
+            relation: opposite(relation),
+            signed,
         },
-        None => Told {
+        _ => Told::Operands {
             relation: Relation::Equal,
             signed: false,
         },
@@ -568,10 +571,12 @@ pub fn branch_on(
     ensures err { OnErr result (BeginWith out.old.items out.new.items) }
 {
     match (told, telling) {
-        (None, None) => branch(out, at, bytes, label),
-        (None, Some(_)) => test(out, at, bytes),
-        (Some(t), None) => branch_unless(out, t.relation, t.signed, label),
-        (Some(_), Some(_)) => Ok(()),
+        (Some(Told::Operands { relation, signed }), None) => {
+            branch_unless(out, relation, signed, label)
+        }
+        (Some(Told::Operands { .. }), Some(_)) => Ok(()),
+        (_, None) => branch(out, at, bytes, label),
+        (_, Some(_)) => test(out, at, bytes),
     }
 }
 
@@ -582,7 +587,7 @@ pub fn jump_on(out: &mut Seq<AsmItem>, told: Option<Told>, label: u64) -> Result
     ensures err { OnErr result (BeginWith out.old.items out.new.items) }
 {
     match told {
-        None => jump(out, label),
-        Some(t) => branch_unless(out, t.relation, t.signed, label),
+        Some(Told::Operands { relation, signed }) => branch_unless(out, relation, signed, label),
+        _ => jump(out, label),
     }
 }

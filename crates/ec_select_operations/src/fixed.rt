@@ -23,10 +23,10 @@ ghost use Rattle.ec_select_operations.specs.Emitted.{FixedHasBytes, FixedOperand
 ghost use Rattle.ec_select_operations.specs.Homes.{home};
 
 use crate::families::{
-    BinaryOperation, Family, Told, convert, family_of, is_same, move_number, operator, unary,
+    BinaryOperation, Family, Told, convert, family_of, is_same, move_number, unary,
 };
 use crate::homes::{Homes, home};
-use crate::numbers::bits_of;
+use crate::numbers::{bits_of, integer_binary, number_known};
 use crate::pointers::is_difference;
 use crate::types::{has_one_format, has_one_fraction, is_fixed, is_signed, is_whole};
 use ec_asm::{AsmItem, Location, Operator, copy, operate};
@@ -81,8 +81,9 @@ fn is_on_integers(family: Family, mode: Mode, ty: &CType, aty: &CType, bty: &CTy
     has_one_format(aty, bty) && is_as_exact(family, mode, has_one_format(ty, aty))
 }
 
-/// Whether an operator has a fixed-point operand or a pointer, and is none on integers.
-pub(crate) fn is_apart(family: Family, mode: Mode, ty: &CType, aty: &CType, bty: &CType) -> bool
+/// Whether an operator has a fixed-point operand or a pointer, and does not do to it what it does to the integer of its
+/// bytes.
+pub fn is_apart(family: Family, mode: Mode, ty: &CType, aty: &CType, bty: &CType) -> bool
     ensures { result ≡ is_apart family mode (plain_type ty.now) (plain_type aty.now) (plain_type bty.now) }
 {
     (is_whole(aty) || is_whole(bty)) && !is_on_integers(family, mode, ty, aty, bty)
@@ -142,7 +143,7 @@ pub fn takes_count(known: Option<RightNumber>, i: &Ir) -> bool
             b,
             bty,
             ..
-        } => known.is_some() && is_counted(*op, *mode, ty, aty, bty, *to, *b),
+        } => number_known(known).is_some() && is_counted(*op, *mode, ty, aty, bty, *to, *b),
         _ => false,
     }
 }
@@ -280,7 +281,7 @@ fn shift_by_count(
 /// The same, where the other number is known.
 fn shift_by_number(
     out: &mut Seq<AsmItem>,
-    number: RightNumber,
+    number: i128,
     left: bool,
     of: Operands,
     to: Location,
@@ -293,14 +294,14 @@ fn shift_by_number(
         ++ placed_shift (Some number) left of.signed of.left of.right to top) }
     ensures err { OnErr result (BeginWith out.old.items out.new.items) }
 {
-    let count = (bits_of(number.number) % 256) as u8;
+    let count = (bits_of(number) % 256) as u8;
     shifted_by(out, left, of, to, top + 1, count)
 }
 
 /// Either of them.
 fn shift(
     out: &mut Seq<AsmItem>,
-    known: Option<RightNumber>,
+    known: Option<i128>,
     left: bool,
     of: Operands,
     to: Location,
@@ -339,8 +340,8 @@ fn placed_whole(
     ensures err { OnErr result (BeginWith out.old.items out.new.items) }
 {
     match op {
-        BinOp::Shl => shift(out, known, true, of, to, top),
-        BinOp::Shr => shift(out, known, false, of, to, top),
+        BinOp::Shl => shift(out, number_known(known), true, of, to, top),
+        BinOp::Shr => shift(out, number_known(known), false, of, to, top),
         _ => stopped(out, is_difference(op), of, to, top),
     }
 }
@@ -372,7 +373,7 @@ fn placed(
 /// Appends the code of a binary operator on operands of which one is fixed-point at least, of whose result so many
 /// bytes are wanted, or where it tells something by a flag, of the comparison alone. Where memory runs out, a part of
 /// the code is appended.
-#[tactic(auto, using(crate::proofs::Emits::fewer_bytes, crate::proofs::OneFormat::integer_bytes, crate::proofs::OneFormat::placed_bytes))]
+#[tactic(auto, using(crate::proofs::Emits::fewer_bytes, crate::proofs::OneFormat::integer_bytes, crate::proofs::OneFormat::integer_numbers, crate::proofs::OneFormat::placed_bytes))]
 pub fn fixed_binary(
     out: &mut Seq<AsmItem>,
     homes: Homes,
@@ -402,7 +403,7 @@ pub fn fixed_binary(
             left_signed: is_signed(aty),
             right_signed: is_signed(bty),
         };
-        return operator(out, homes, telling, op, of, wanted);
+        return integer_binary(out, homes, known, telling, op, of, wanted);
     }
     let (left, right, place) = (home(homes, a), home(homes, b), home(homes, to));
     if is_placed(op, mode, ty, aty, bty) && !is_same(right, place) {

@@ -14,6 +14,7 @@ mod calls;
 mod families;
 mod fixed;
 mod homes;
+mod in_z;
 mod laws;
 mod numbers;
 mod operations;
@@ -29,10 +30,12 @@ pub use ec_select_bytes::{
 };
 pub use families::{
     BinaryOperation, Family, Operands, Told, binary, branch, branch_on, combine, convert,
-    divide_numbers, jump_on, move_number, multiply_bytes, operator, shift_by_count, tell, unary,
+    divide_numbers, family_of, jump_on, move_number, multiply_bytes, operator, shift_by_count,
+    tell, unary,
 };
-pub use fixed::{fixed_binary, fixed_conversion, fixed_unary, is_counted, takes_count};
+pub use fixed::{fixed_binary, fixed_conversion, fixed_unary, is_apart, is_counted, takes_count};
 pub use homes::{Homes, home, index_place};
+pub use in_z::{go_to_member, load_by, load_or_fetch};
 pub use laws::{needed_code_is_written, needed_functions_are_written, one_shape_has_one_routine};
 pub use numbers::{
     compared_bytes, integer_binary, number_at, number_taken, right_taken, takes_whole,

@@ -1,30 +1,34 @@
 //! Operators whose second operand is a known number.
-ghost use Rattle.std.specs.Prelude.{◌≡◌, ◌≤◌, ◌++◌, get_or, max, None, OnOk, OnErr};
+ghost use Rattle.std.specs.Prelude.{◌≡◌, ◌≤◌, ◌++◌, true, false, get_or, max, Some, None, OnOk, OnErr};
 ghost use Rattle.ec_runs.specs.Behaviours.{BeginWith};
 ghost use Rattle.ec_asm.specs.Pieces.{HasBytes};
 ghost use Rattle.ec_core.specs.Plain.{plain_type};
 ghost use Rattle.ec_ir.specs.Temporaries.{low_bytes};
 ghost use Rattle.ec_select_operations.specs.Code.{family_of, changed_by_code, counted_by_code, by_number_code, integer_binary};
-ghost use Rattle.ec_select_operations.specs.Code.{compared_signed};
+ghost use Rattle.ec_select_operations.specs.Code.{compared_signed, is_mask, is_masked, told_taking, masked_code};
+ghost use Rattle.ec_select_operations.specs.Code.{told_number_code, low_code, bytes_code, known_code};
 ghost use Rattle.ec_select_operations.specs.Emitted.{BinaryHasBytes, TakesNumbers};
 ghost use Rattle.ec_select_operations.specs.Homes.{home};
+ghost use Rattle.ec_ir_known.specs.declared.known.RightNumber.{RightNumber};
 ghost use Rattle.ec_select_operations.specs.Needs.{takes_number, number_taken, right_taken, compared_bytes};
-ghost use Rattle.ec_select_operations.specs.Needs.{moves_pointer, takes_whole};
+ghost use Rattle.ec_select_operations.specs.Needs.{moves_pointer, takes_whole, number_known, takes_known, numbered};
 
 use crate::families::{
-    BinaryOperation, Family, Operands, Told, family_of, move_number, operator, shift_of, tell,
-    turn_by_number,
+    BinaryOperation, Family, Operands, Told, family_of, is_same, move_number, operator, shift_of,
+    tell, told_by, turn_by_number,
 };
 use crate::fixed::is_counted;
 use crate::homes::{Homes, home};
 use crate::types::{is_pointer, is_whole};
-use ec_asm::{AsmItem, Location, Operator};
-use ec_core::{BinOp, CType};
+use ec_asm::{AsmItem, Location, Operator, compare};
+use ec_core::{BinOp, CType, is_comparison};
 use ec_fx::Mode;
 use ec_ir::Temp;
 use ec_ir_known::RightNumber;
-use ec_select_bytes::{constant, extend};
+use ec_isa::Instr;
+use ec_select_bytes::extend;
 use ec_select_numbers::{ByNumber, add_number, change_by, compare_with};
+use ec_select_order::Relation;
 use ec_space::{NoMemory, Seq};
 
 /// A number in two's complement of 16 bytes.
@@ -54,13 +58,43 @@ fn takes_number(op: BinOp) -> bool
     )
 }
 
-/// The number that an operator on integers takes in place of its second operand, which is known to hold it: none where an
-/// operand is a fixed-point number or a pointer.
-pub fn number_taken(known: Option<RightNumber>, whole: bool, op: BinOp) -> Option<RightNumber>
-    ensures { result ≡ number_taken known whole op }
+/// The number that a second operand is known to hold.
+pub(crate) fn number_known(known: Option<RightNumber>) -> Option<i128>
+    ensures { result ≡ number_known known }
 {
     match known {
-        Some(n) if !whole && takes_number(op) => Some(n),
+        Some(n) => n.number,
+        None => None,
+    }
+}
+
+/// Whether an operator of integers takes a known number, or where there is none, that both operands are below 256.
+fn takes_known(number: Option<i128>, op: BinOp) -> bool
+    ensures { result ≡ takes_known number op }
+{
+    match number {
+        Some(_) => takes_number(op),
+        None => is_comparison(op),
+    }
+}
+
+/// What an operator on integers takes of what is known of its second operand: nothing where it is apart.
+pub fn number_taken(known: Option<RightNumber>, apart: bool, op: BinOp) -> Option<RightNumber>
+    ensures value { result ≡ number_taken known apart op }
+    ensures taken { (n : RightNumber) → result ≡ Some n → takes_known n.number op ≡ true }
+{
+    match known {
+        Some(n) if !apart && takes_known(n.number, op) => Some(n),
+        _ => None,
+    }
+}
+
+/// What is known of a second operand, where that is a number.
+fn numbered(known: Option<RightNumber>) -> Option<RightNumber>
+    ensures { result ≡ numbered known }
+{
+    match known {
+        Some(n) if n.number.is_some() => Some(n),
         _ => None,
     }
 }
@@ -93,19 +127,19 @@ pub fn takes_whole(
 pub fn right_taken(
     known: Option<RightNumber>,
     takes: bool,
-    whole: bool,
+    apart: bool,
     op: BinOp,
 ) -> Option<RightNumber>
-    ensures { result ≡ right_taken known takes whole op }
+    ensures { result ≡ right_taken known takes apart op }
 {
     match known {
-        Some(n) if takes => Some(n),
-        _ => number_taken(known, whole, op),
+        Some(n) if takes => numbered(Some(n)),
+        _ => numbered(number_taken(known, apart, op)),
     }
 }
 
-/// How many bytes of the first operand are compared or shifted to the right, which has so many: one where both operands
-/// are below 256.
+/// How many bytes of an operand are compared or shifted to the right, which has so many: one where both operands are below
+/// 256.
 pub fn compared_bytes(taken: Option<RightNumber>, bytes: u8) -> u8
     ensures value { result ≡ compared_bytes taken bytes }
     ensures few { result ≤ bytes }
@@ -124,6 +158,45 @@ pub(crate) fn compared_signed(taken: Option<RightNumber>, signed: bool) -> bool
     match taken {
         Some(k) if k.in_byte => false,
         _ => signed,
+    }
+}
+
+/// Whether a number is known, and below 255.
+fn is_mask(number: Option<i128>) -> bool
+    ensures { result ≡ is_mask number }
+{
+    match number {
+        Some(n) => !(n < 0) && n < 255,
+        None => false,
+    }
+}
+
+/// Whether an operator is an AND with a known number below 255.
+fn is_masked(taken: Option<RightNumber>, op: BinOp) -> bool
+    ensures { result ≡ is_masked taken op }
+{
+    match (taken, op) {
+        (Some(k), BinOp::And) => is_mask(k.number),
+        _ => false,
+    }
+}
+
+/// What an operator leaves in a flag that takes so much: an AND with such a number tells whether its result is not 0.
+pub(crate) fn told_taking(
+    taken: Option<RightNumber>,
+    apart: bool,
+    op: BinOp,
+    signed: bool,
+) -> Option<Told>
+    ensures { result ≡ told_taking taken apart op signed }
+{
+    if is_masked(taken, op) {
+        Some(Told::Operands {
+            relation: Relation::NotEqual,
+            signed: false,
+        })
+    } else {
+        told_by(apart, family_of(op), compared_signed(taken, signed))
     }
 }
 
@@ -208,7 +281,7 @@ fn by_number(
     requires some { 1 ≤ of.a.bytes → 1 ≤ compared }
     ensures ok { OnOk result (out.new.items ≡ out.old.items
         ++ by_number_code (family_of op) of.left_signed signed (home homes of.a) (home homes of.b) (home homes of.to)
-        of.a.bytes compared number wanted) }
+        compared number wanted) }
     ensures err { OnErr result (BeginWith out.old.items out.new.items) }
 {
     let to = home(homes, of.to);
@@ -221,13 +294,14 @@ fn by_number(
             if wanted == 0 {
                 return Ok(());
             }
+            // The flags are those of the number, so no more bytes are compared.
             let operands = Operands {
                 signed,
-                bytes: compared,
+                bytes: 0,
                 left: home(homes, of.a),
                 right: home(homes, of.b),
             };
-            constant(out, number, operands.right, of.a.bytes)?;
+            compare_with(out, operands.left, number, compared)?;
             tell(out, relation, operands, to, wanted)
         }
         Family::Shifted { left } => {
@@ -250,9 +324,149 @@ fn by_number(
     }
 }
 
-/// Appends the code of an operator of integers, which may take the number that its second operand is known to hold in
-/// place of it, or where it tells something by a flag, of the comparison alone. Where memory runs out, a part of the code
-/// is appended.
+/// Appends code that tells by the flag of zero whether a byte has some of the bits of a number. Where memory runs out,
+/// nothing is appended.
+fn mask(out: &mut Seq<AsmItem>, from: Location, to: Location, k: u8) -> Result<(), NoMemory>
+    ensures ok { OnOk result (out.new.items ≡ out.old.items ++ masked_code from to k) }
+    ensures err { OnErr result (out.new.items ≡ out.old.items) }
+{
+    match from {
+        Location::InRegisters(r) if r >= 16 && is_same(from, to) => {
+            out.extend_from_slice(&[AsmItem::Plain(Instr::Andi { d: r, k })])
+        }
+        Location::InRegisters(r) => out.extend_from_slice(&[
+            AsmItem::Plain(Instr::Mov { d: 30, r }),
+            AsmItem::Plain(Instr::Andi { d: 30, k }),
+        ]),
+        Location::InMemory { object, offset } => out.extend_from_slice(&[
+            AsmItem::LoadObj {
+                d: 30,
+                object,
+                offset,
+            },
+            AsmItem::Plain(Instr::Andi { d: 30, k }),
+        ]),
+    }
+}
+
+/// Appends code that leaves in a flag what an operator with a known number tells; a comparison is of so many bytes. Where
+/// memory runs out, a part of the code is appended.
+fn tell_by_number(
+    out: &mut Seq<AsmItem>,
+    op: BinOp,
+    from: Location,
+    to: Location,
+    number: u128,
+    compared: u8,
+) -> Result<(), NoMemory>
+    requires from { HasBytes from compared }
+    requires most { compared ≤ 16 }
+    ensures ok { OnOk result (out.new.items
+        ≡ out.old.items ++ told_number_code (family_of op) from to number compared) }
+    ensures err { OnErr result (BeginWith out.old.items out.new.items) }
+{
+    match family_of(op) {
+        Family::Combined(_) => mask(out, from, to, (number % 256) as u8),
+        _ => compare_with(out, from, number, compared),
+    }
+}
+
+/// Appends code that compares so many low bytes of two numbers: their truth value stands at `to`, or where this is told by
+/// a flag, in the flag alone. Where memory runs out, a part of the code is appended.
+fn compare_low(
+    out: &mut Seq<AsmItem>,
+    telling: Option<Told>,
+    relation: Relation,
+    operands: Operands,
+    to: Location,
+    wanted: u8,
+) -> Result<(), NoMemory>
+    requires left { HasBytes operands.left operands.bytes }
+    requires right { HasBytes operands.right operands.bytes }
+    requires to { HasBytes to wanted }
+    requires unsigned { operands.signed ≡ false }
+    ensures ok { OnOk result (out.new.items ≡ out.old.items
+        ++ low_code telling relation operands.left operands.right to operands.bytes wanted) }
+    ensures err { OnErr result (BeginWith out.old.items out.new.items) }
+{
+    match telling {
+        None => tell(out, relation, operands, to, wanted),
+        Some(_) => compare(out, operands.right, operands.left, operands.bytes),
+    }
+}
+
+/// The same, where the operator is a comparison.
+#[tactic(auto, using(crate::proofs::Emits::fewer_bytes))]
+fn by_bytes(
+    out: &mut Seq<AsmItem>,
+    homes: Homes,
+    telling: Option<Told>,
+    op: BinOp,
+    of: BinaryOperation,
+    bytes: u8,
+    wanted: u8,
+) -> Result<(), NoMemory>
+    requires bytes { BinaryHasBytes (family_of op) wanted of.to of.a of.b }
+    requires few { bytes ≤ of.a.bytes }
+    ensures ok { OnOk result (out.new.items ≡ out.old.items
+        ++ bytes_code telling (family_of op) (home homes of.a) (home homes of.b) (home homes of.to) bytes wanted) }
+    ensures err { OnErr result (BeginWith out.old.items out.new.items) }
+{
+    let (a, b, to) = (home(homes, of.a), home(homes, of.b), home(homes, of.to));
+    match family_of(op) {
+        Family::Compared {
+            relation,
+            exchanged,
+        } => {
+            let (left, right) = if exchanged { (b, a) } else { (a, b) };
+            let operands = Operands {
+                signed: false,
+                bytes,
+                left,
+                right,
+            };
+            compare_low(out, telling, relation, operands, to, wanted)
+        }
+        _ => Ok(()),
+    }
+}
+
+/// Appends the code of an operator of integers that takes what is known of its second operand. Where memory runs out, a part
+/// of the code is appended.
+#[tactic(auto, using(crate::proofs::Emits::fewer_bytes))]
+fn by_known(
+    out: &mut Seq<AsmItem>,
+    homes: Homes,
+    known: RightNumber,
+    telling: Option<Told>,
+    op: BinOp,
+    of: BinaryOperation,
+    wanted: u8,
+) -> Result<(), NoMemory>
+    requires bytes { BinaryHasBytes (family_of op) wanted of.to of.a of.b }
+    requires numbers { TakesNumbers op of.a of.b }
+    requires taken { takes_known known.number op ≡ true }
+    ensures ok { OnOk result (out.new.items ≡ out.old.items
+        ++ known_code known.number telling (family_of op) of.left_signed (compared_signed (Some known) of.left_signed)
+        (home homes of.a) (home homes of.b) (home homes of.to) (compared_bytes (Some known) of.a.bytes) wanted) }
+    ensures err { OnErr result (BeginWith out.old.items out.new.items) }
+{
+    let bytes = compared_bytes(Some(known), of.a.bytes);
+    match (known.number, telling) {
+        (None, _) => by_bytes(out, homes, telling, op, of, bytes, wanted),
+        (Some(n), None) => {
+            let signed = compared_signed(Some(known), of.left_signed);
+            by_number(out, homes, op, of, signed, bytes, bits_of(n), wanted)
+        }
+        (Some(n), Some(_)) => {
+            let (from, to) = (home(homes, of.a), home(homes, of.to));
+            tell_by_number(out, op, from, to, bits_of(n), bytes)
+        }
+    }
+}
+
+/// Appends the code of an operator of integers, which may take what is known of its second operand, or where it tells
+/// something by a flag, of the comparison alone. Where memory runs out, a part of the code is appended.
 #[tactic(auto, using(crate::proofs::Emits::fewer_bytes))]
 pub fn integer_binary(
     out: &mut Seq<AsmItem>,
@@ -270,18 +484,8 @@ pub fn integer_binary(
         (home homes of.to) of.a.bytes wanted) }
     ensures err { OnErr result (BeginWith out.old.items out.new.items) }
 {
-    match known {
-        Some(k) if takes_number(op) => {
-            let number = bits_of(k.number);
-            let bytes = compared_bytes(known, of.a.bytes);
-            match telling {
-                None => {
-                    let signed = compared_signed(known, of.left_signed);
-                    by_number(out, homes, op, of, signed, bytes, number, wanted)
-                }
-                Some(_) => compare_with(out, home(homes, of.a), number, bytes),
-            }
-        }
-        _ => operator(out, homes, telling, op, of, wanted),
+    match number_taken(known, false, op) {
+        Some(k) => by_known(out, homes, k, telling, op, of, wanted),
+        None => operator(out, homes, telling, op, of, wanted),
     }
 }

@@ -5,7 +5,7 @@ ghost use Rattle.std.specs.Option.{option_copied};
 ghost use Rattle.ec_runs.specs.Behaviours.{BeginWith};
 ghost use Rattle.ec_ir.specs.Operations.{plain_ir};
 ghost use Rattle.ec_select_operations.specs.Code.{operation_code, is_only_tested, is_over_jump, tells, called_code};
-ghost use Rattle.ec_select_operations.specs.Code.{linked_code, routine_used};
+ghost use Rattle.ec_select_operations.specs.Code.{linked_code, routine_used, tells_any};
 ghost use Rattle.ec_select_operations.specs.Emitted.{declarations, linkage, IsLabel, CanBeEmitted, CanBeLinked};
 ghost use Rattle.ec_select_operations.specs.Homes.{home};
 ghost use Rattle.ec_select_operations.specs.Written.{need_in, CanBeWritten, told_at, written_code};
@@ -13,20 +13,17 @@ ghost use Rattle.ec_select_operations.specs.Written.{written_function};
 
 use crate::calls::{Linking, call, finish};
 use crate::families::{
-    BinaryOperation, Told, branch_on, convert, family_of, jump_on, move_number, told_by, turned,
-    unary,
+    BinaryOperation, Told, branch_on, convert, family_of, jump_on, move_number, turned, unary,
 };
 use crate::fixed::{fixed_binary, fixed_conversion, fixed_unary, is_apart, takes_count};
 use crate::homes::{home, index_place};
+use crate::in_z::{go_to_member, load_by, load_or_fetch, tells_in_z};
 use crate::numbers::{
-    bits_of, compared_bytes, compared_signed, integer_binary, number_at, number_taken,
+    bits_of, compared_bytes, integer_binary, number_at, number_taken, told_taking,
 };
-use crate::pointers::{
-    load_object, load_through, move_to_member, object_location, pointer_binary, pointer_conversion,
-    put_address,
-};
+use crate::pointers::{object_location, pointer_binary, pointer_conversion, put_address};
 use crate::routines::called;
-use crate::types::{is_fixed, is_pointer, is_signed, is_whole};
+use crate::types::{is_fixed, is_pointer, is_signed};
 use ec_asm::{AsmItem, Location, copy};
 use ec_ir::{Ir, IrProgram, Temp};
 use ec_ir_known::RightNumber;
@@ -66,7 +63,7 @@ fn is_over_jump(label: u64, next: Option<&Ir>, behind: Option<&Ir>) -> bool
 }
 
 /// What an operation, whose second operand may be known to hold a number, and which has been told so much, tells the next
-/// one by a flag: a comparison in place of its result, and a branch over a jump in place of the branch.
+/// one by a flag: a comparison or an AND in place of its result, and a branch over a jump in place of the branch.
 fn tells(
     known: Option<RightNumber>,
     told: Option<Told>,
@@ -89,19 +86,34 @@ fn tells(
             ..
         } => {
             if is_only_tested(*to, next, needed) {
-                let family = family_of(*op);
-                let taken = number_taken(known, is_whole(aty) || is_whole(bty), *op);
-                told_by(
-                    is_apart(family, *mode, ty, aty, bty),
-                    family,
-                    compared_signed(taken, is_signed(aty)),
-                )
+                let apart = is_apart(family_of(*op), *mode, ty, aty, bty);
+                let taken = number_taken(known, apart, *op);
+                told_taking(taken, apart, *op, is_signed(aty))
             } else {
                 None
             }
         }
         Ir::BranchZero(_, l) if is_over_jump(*l, next, behind) => Some(turned(told)),
         _ => None,
+    }
+}
+
+/// What an operation tells the next one by Z, or else by a flag.
+fn tells_any(
+    program: &IrProgram,
+    known: Option<RightNumber>,
+    told: Option<Told>,
+    i: &Ir,
+    next: Option<&Ir>,
+    behind: Option<&Ir>,
+    needed: u8,
+) -> Option<Told>
+    ensures { result ≡ tells_any (declarations program.now) known told (plain_ir i.now)
+        (option_map plain_ir (option_copied next.entry)) (option_map plain_ir (option_copied behind.entry)) needed }
+{
+    match tells_in_z(program, told, i, next, behind) {
+        None => tells(known, told, i, next, behind, needed),
+        in_z => in_z,
     }
 }
 
@@ -131,6 +143,7 @@ fn wanted_at(wanted: &[u8], k: usize) -> u8
 
 /// What the operation at a place, which has been told so much, tells the next one.
 fn told_behind(
+    program: &IrProgram,
     wanted: &[u8],
     known: &[Option<RightNumber>],
     code: &[Ir],
@@ -138,10 +151,11 @@ fn told_behind(
     k: usize,
 ) -> Option<Told>
     requires inside { k < length code.now }
-    requires told { told ≡ told_at wanted.now known.now (map plain_ir code.now) k }
-    ensures { result ≡ told_at wanted.now known.now (map plain_ir code.now) (suc k) }
+    requires told { told ≡ told_at (declarations program.now) wanted.now known.now (map plain_ir code.now) k }
+    ensures { result ≡ told_at (declarations program.now) wanted.now known.now (map plain_ir code.now) (suc k) }
 {
-    tells(
+    tells_any(
+        program,
         number_at(known, k),
         told,
         &code[k],
@@ -189,12 +203,22 @@ pub fn operation(
             )
         }
         Ir::Field { ptr, offset, .. } => {
-            move_to_member(out, core, home(homes, *ptr), ptr.bytes, *offset)
-        }
-        Ir::Load { to, ptr, space } => {
-            load_through(
+            let (told, telling) = (flags.told, flags.telling);
+            go_to_member(
                 out,
                 core,
+                told,
+                telling,
+                home(homes, *ptr),
+                ptr.bytes,
+                *offset,
+            )
+        }
+        Ir::Load { to, ptr, space } => {
+            load_by(
+                out,
+                core,
+                flags.told,
                 program,
                 *space,
                 home(homes, *ptr),
@@ -206,7 +230,16 @@ pub fn operation(
             store_data(out, home(homes, *from), home(homes, *ptr), from.bytes)
         }
         Ir::LoadObj(t, o, offset) => {
-            load_object(out, core, program, *o, *offset, home(homes, *t), t.bytes)
+            load_or_fetch(
+                out,
+                core,
+                flags.telling,
+                program,
+                *o,
+                *offset,
+                home(homes, *t),
+                t.bytes,
+            )
         }
         Ir::StoreObj(o, offset, t) => copy(
             out,
@@ -415,7 +448,7 @@ pub fn all_operations(
 {
     let mut told = None;
     for k in 0..code.len() {
-        let telling = told_behind(wanted, known, code, told, k);
+        let telling = told_behind(program, wanted, known, code, told, k);
         let flags = Flags { told, telling };
         let number = number_at(known, k);
         linked_operation(

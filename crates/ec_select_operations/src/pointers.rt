@@ -13,7 +13,7 @@ ghost use Rattle.ec_select_pointers.specs.Accesses.{load_flash_code, load_table_
 ghost use Rattle.ec_select_pointers.specs.Far.{load_far_code, load_far_table_code};
 ghost use Rattle.ec_select_operations.specs.Code.{family_of, is_signed, by_core, is_far, is_whole_address};
 ghost use Rattle.ec_select_operations.specs.Code.{addressed_code, member_code, load_either_code, load_code, banked_code};
-ghost use Rattle.ec_select_operations.specs.Code.{moved_code};
+ghost use Rattle.ec_select_operations.specs.Code.{moved_code, takes_index, indexed_code, scaled_code};
 ghost use Rattle.ec_select_operations.specs.Code.{offset_code, is_difference, related_bytes};
 ghost use Rattle.ec_select_operations.specs.Code.{known_index, known_bytes, known_offset, known_offset_code, offset_by};
 ghost use Rattle.ec_select_operations.specs.Code.{difference_code, pointers_code, pointer_binary, pointer_conversion};
@@ -25,14 +25,14 @@ ghost use Rattle.ec_select_operations.specs.Pointers.{IsPointerSize};
 
 use crate::families::{Family, Operands, family_of, move_number, tell};
 use crate::homes::{Homes, home};
-use crate::numbers::bits_of;
+use crate::numbers::{bits_of, number_known};
 use crate::types::{is_into_data, is_pointer, is_signed};
 use ec_asm::{AsmItem, Location, copy};
 use ec_core::{BinOp, CType, Obj, Storage, size_of};
 use ec_ir::{IrProgram, Temp};
 use ec_ir_known::RightNumber;
 use ec_select_order::Relation;
-use ec_select_places::{advance, advance_far, elements, embed, scale_index};
+use ec_select_places::{add_index, advance, advance_far, can_add, elements, embed, scale_index};
 use ec_select_pointers::{
     address, far_address, far_field, field, load_any, load_any_far, load_data, load_far,
     load_far_table, load_flash, load_table,
@@ -40,7 +40,7 @@ use ec_select_pointers::{
 use ec_space::{Bank, Core, Home, NoMemory, Seq, SpaceId};
 
 /// The home of an object.
-fn kept_in(program: &IrProgram, o: u16) -> Home
+pub(crate) fn kept_in(program: &IrProgram, o: u16) -> Home
     ensures { result ≡ kept_in (declarations program.now) o }
 {
     match program.objs.get(usize::from(o)) {
@@ -168,7 +168,7 @@ fn load_through_far(
 }
 
 /// Whether an object of a home stands in the flash bank.
-fn is_table(home: Home) -> bool
+pub(crate) fn is_table(home: Home) -> bool
     ensures { result ≡ is_table home }
 {
     match home {
@@ -186,7 +186,7 @@ fn include_table(objects: &[Obj]) -> bool
 
 /// Whether some object of a program stands in the flash bank.
 #[tactic(auto, using(crate::proofs::Emits::tables_are))]
-fn has_tables(program: &IrProgram) -> bool
+pub(crate) fn has_tables(program: &IrProgram) -> bool
     ensures { result ≡ has_tables (declarations program.now).objects }
 {
     include_table(program.objs.as_slice())
@@ -348,9 +348,61 @@ pub struct Offset {
     pub index_bytes: u8,
 }
 
+/// Whether the number of elements is added as it stands, to an address that is not whole.
+fn takes_index(core: Core, of: Offset, to: Location, size: u16) -> bool
+    ensures { result ≡ takes_index core of.signed of.index to of.bytes of.index_bytes size }
+{
+    !is_far(core, of.bytes) && can_add(of.signed, of.index, to, of.index_bytes, size)
+}
+
+/// Appends code that brings a pointer to `to`, and adds the number of elements there as it stands.
+#[tactic(auto, using(crate::proofs::Emits::fewer_bytes))]
+fn move_by_index(
+    out: &mut Seq<AsmItem>,
+    of: Offset,
+    to: Location,
+    size: u16,
+) -> Result<(), NoMemory>
+    requires from { HasBytes of.from of.bytes }
+    requires index { HasBytes of.index of.index_bytes }
+    requires to { HasBytes to of.bytes }
+    requires two { 2 ≤ of.bytes }
+    requires some { 1 ≤ of.index_bytes }
+    requires few { size < 256 }
+    ensures ok { OnOk result (out.new.items ≡ out.old.items
+        ++ indexed_code of.minus of.from of.index to of.bytes of.index_bytes size) }
+    ensures err { OnErr result (BeginWith out.old.items out.new.items) }
+{
+    move_number(out, of.from, to, of.bytes)?;
+    add_index(out, of.minus, of.index, to, of.index_bytes, size)
+}
+
+/// Appends code that turns the number of elements into one of bytes in R31:R30, brings a pointer to `to`, and moves it there.
+#[tactic(auto, using(crate::proofs::Emits::fewer_bytes))]
+fn move_by_bytes(
+    out: &mut Seq<AsmItem>,
+    core: Core,
+    of: Offset,
+    to: Location,
+    size: u16,
+) -> Result<(), NoMemory>
+    requires from { HasBytes of.from of.bytes }
+    requires index { HasBytes of.index of.index_bytes }
+    requires to { HasBytes to of.bytes }
+    requires two { 2 ≤ of.bytes }
+    requires some { 1 ≤ of.index_bytes }
+    ensures ok { OnOk result (out.new.items ≡ out.old.items
+        ++ scaled_code core of.minus of.signed of.from of.index to of.bytes of.index_bytes size) }
+    ensures err { OnErr result (BeginWith out.old.items out.new.items) }
+{
+    scale_index(out, of.index, of.signed, of.index_bytes, size)?;
+    move_number(out, of.from, to, of.bytes)?;
+    advance_by(out, core, of.bytes, of.minus, to)
+}
+
 /// Appends code that puts the pointer at `of.from` so many elements further, or back, to `to`. Where memory runs out, a
 /// part of the code is appended.
-#[tactic(auto, using(crate::proofs::Emits::fewer_bytes))]
+#[tactic(auto, using(crate::proofs::Emits::few_elements))]
 pub fn move_pointer(
     out: &mut Seq<AsmItem>,
     core: Core,
@@ -371,15 +423,11 @@ pub fn move_pointer(
     if wanted == 0 {
         return Ok(());
     }
-    scale_index(
-        out,
-        of.index,
-        of.signed,
-        of.index_bytes,
-        (size % 65536) as u16,
-    )?;
-    move_number(out, of.from, to, of.bytes)?;
-    advance_by(out, core, of.bytes, of.minus, to)
+    let size = (size % 65536) as u16;
+    if takes_index(core, of, to, size) {
+        return move_by_index(out, of, to, size);
+    }
+    move_by_bytes(out, core, of, to, size)
 }
 
 /// A number modulo 65,536, which an index of so many bytes is known to hold.
@@ -454,7 +502,7 @@ fn move_by_known(
 /// known. Where memory runs out, a part of the code is appended.
 fn move_by(
     out: &mut Seq<AsmItem>,
-    known: Option<RightNumber>,
+    known: Option<i128>,
     core: Core,
     of: Offset,
     to: Location,
@@ -472,7 +520,7 @@ fn move_by(
 {
     match known {
         None => move_pointer(out, core, of, to, size, wanted),
-        Some(k) => move_by_known(out, core, of, bits_of(k.number), to, size, wanted),
+        Some(k) => move_by_known(out, core, of, bits_of(k), to, size, wanted),
     }
 }
 
@@ -628,7 +676,7 @@ fn two_pointers(
 #[tactic(auto, using(crate::proofs::Emits::fewer_bytes))]
 fn pointer_and_number(
     out: &mut Seq<AsmItem>,
-    known: Option<RightNumber>,
+    known: Option<i128>,
     core: Core,
     homes: Homes,
     program: &IrProgram,
@@ -683,14 +731,14 @@ pub fn pointer_binary(
         (plain_type bty.now) }
     ensures ok { OnOk result (out.new.items ≡ out.old.items
         ++ pointer_binary known core (is_pointer (plain_type aty.now)) (is_pointer (plain_type bty.now))
-        (declarations program.now) op (plain_type aty.now) (plain_type bty.now) (home homes a) (home homes b) (home homes to) a.bytes b.bytes
-        wanted) }
+        (declarations program.now) op (plain_type aty.now) (plain_type bty.now) (home homes a) (home homes b) (home homes to)
+        a.bytes b.bytes wanted) }
     ensures err { OnErr result (BeginWith out.old.items out.new.items) }
 {
     match (is_pointer(aty), is_pointer(bty)) {
         (true, true) => two_pointers(out, core, homes, program, op, to, a, aty, b, wanted),
         (true, false) => {
-            let minus = is_difference(op);
+            let (known, minus) = (number_known(known), is_difference(op));
             pointer_and_number(
                 out, known, core, homes, program, minus, to, a, aty, b, bty, wanted,
             )
@@ -719,14 +767,12 @@ pub fn pointer_conversion(
     requires pointer { is_pointer (plain_type aty.now) ≡ true }
     requires bytes { PointerHasBytes wanted to a (plain_type ty.now) (plain_type aty.now) }
     ensures ok { OnOk result (out.new.items ≡ out.old.items
-        ++ pointer_conversion (plain_type aty.now) (home homes a) (home homes to) a.bytes to.bytes wanted) }
+        ++ pointer_conversion (plain_type aty.now) (home homes a) (home homes to) a.bytes wanted) }
     ensures err { OnErr result (BeginWith out.old.items out.new.items) }
 {
-    if a.bytes == 2 && to.bytes == 3 {
-        if wanted == 0 {
-            return Ok(());
-        }
-        return embed(out, is_into_data(aty), home(homes, a), home(homes, to));
+    move_number(out, home(homes, a), home(homes, to), wanted.min(a.bytes))?;
+    if wanted <= a.bytes {
+        return Ok(());
     }
-    move_number(out, home(homes, a), home(homes, to), wanted)
+    embed(out, is_into_data(aty), home(homes, to))
 }

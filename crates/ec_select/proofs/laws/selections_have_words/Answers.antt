@@ -16,6 +16,7 @@ returns c = selections_have_words (record {
     tables = c.tables_are_formed.ensures.short;
     far_pointers = c.far_pointers_are_straight.ensures.words;
     steps = c.places_are_short.ensures.steps;
+    indexes = c.indexes_are_formed.ensures.short;
     far_steps = c.far_places_are_formed.ensures.steps;
     conversions = c.places_are_short.ensures.conversions;
     elements = c.elements_are_formed.ensures.short;

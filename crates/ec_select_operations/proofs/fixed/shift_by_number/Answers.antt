@@ -11,9 +11,9 @@ use Rattle.ec_select_operations.proofs.fixed.shift_by_number.Goals as goal
 pub returns-clause-ok : goal.returns-clause-ok
 returns-clause-ok c =
     let of = c.args.of in
-    let fits : SFits w128 c.args.number.number = search rules in
-    let number : c.bits_of.result ≡ low_bytes 16 c.args.number.number =
-    c.bits_of.ensures ∙ ap (low_bytes 16) (to_z-of_z w128 c.args.number.number fits) in
+    let fits : SFits w128 c.args.number = search rules in
+    let number : c.bits_of.result ≡ low_bytes 16 c.args.number =
+    c.bits_of.ensures ∙ ap (low_bytes 16) (to_z-of_z w128 c.args.number fits) in
     let one_more : c.args.top + 1 ≡ suc c.args.top = omega arith in
     let code = λ (n k : ℕ). move_code of.left c.args.to n ++ placed_by_code c.args.left of.signed c.args.to n (k % 256) in
     subst (λ (k : ℕ). OnOk c.shifted_by.result (c.shifted_by.new.out.items ≡ c.args.out.now.items ++ code (suc c.args.top) k)) number

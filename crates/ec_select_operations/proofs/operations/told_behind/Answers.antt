@@ -3,7 +3,8 @@ use Rattle.std.specs.Prelude.{get_or, option_map, slice_get, slice_index}
 use Rattle.std.specs.Option.{option_copied}
 use Rattle.std.proofs.lemmas.Option.{slice_get-map}
 use Rattle.ec_ir.specs.Operations.{plain_ir}
-use Rattle.ec_select_operations.specs.Code.{tells}
+use Rattle.ec_select_operations.specs.Code.{tells_any}
+use Rattle.ec_select_operations.specs.Emitted.{declarations}
 use Rattle.ec_select_operations.proofs.Written.{tells_here, item_there}
 use Rattle.ec_select_operations.proofs.operations.told_behind.Goals as goal
 
@@ -22,14 +23,15 @@ returns c =
     c.operation_at-2.ensures ∙ ap (slice_get (map plain_ir c.args.code.now)) two in
     let needed : c.wanted_at.result ≡ slice_index c.args.wanted.now (suc c.args.k) =
     c.wanted_at.ensures ∙ ap (slice_index c.args.wanted.now) one in
-    c.tells.ensures
-    ∙ ap (λ n. tells n c.args.told (plain_ir c.index-code-k.result) (option_map plain_ir (option_copied c.operation_at.result))
+    let tell = tells_any (declarations c.args.program.now) in
+    let number = get_or c.args.known.now c.args.k None in
+    let code = map plain_ir c.args.code.now in
+    let here_is = plain_ir c.index-code-k.result in
+    c.tells_any.ensures
+    ∙ ap (λ n. tell n c.args.told here_is (option_map plain_ir (option_copied c.operation_at.result))
     (option_map plain_ir (option_copied c.operation_at-2.result)) c.wanted_at.result) c.number_at.ensures
-    ∙ ap (λ x. tells (get_or c.args.known.now c.args.k None) c.args.told (plain_ir c.index-code-k.result) x
-    (option_map plain_ir (option_copied c.operation_at-2.result)) c.wanted_at.result) next
-    ∙ ap (λ x. tells (get_or c.args.known.now c.args.k None) c.args.told (plain_ir c.index-code-k.result)
-    (slice_get (map plain_ir c.args.code.now) (suc c.args.k)) x c.wanted_at.result) behind
-    ∙ ap (tells (get_or c.args.known.now c.args.k None) c.args.told (plain_ir c.index-code-k.result)
-    (slice_get (map plain_ir c.args.code.now) (suc c.args.k)) (slice_get (map plain_ir c.args.code.now) (suc (suc c.args.k)))) needed
-    ∙ tells_here (map plain_ir c.args.code.now) c.args.wanted.now c.args.known.now c.args.k c.args.told
-    (plain_ir c.index-code-k.result) here c.requires.told
+    ∙ ap (λ x. tell number c.args.told here_is x (option_map plain_ir (option_copied c.operation_at-2.result)) c.wanted_at.result) next
+    ∙ ap (λ x. tell number c.args.told here_is (slice_get code (suc c.args.k)) x c.wanted_at.result) behind
+    ∙ ap (tell number c.args.told here_is (slice_get code (suc c.args.k)) (slice_get code (suc (suc c.args.k)))) needed
+    ∙ tells_here (declarations c.args.program.now) code c.args.wanted.now c.args.known.now c.args.k c.args.told here_is here
+    c.requires.told
