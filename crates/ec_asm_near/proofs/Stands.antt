@@ -1,6 +1,6 @@
 -- Where the items stand shortened, the items stand.
-use Rattle.std.proofs.Common.{◌≡◌, ℕ, ◌+◌, ◌-◌, ◌<◌, ◌≤◌, ⊎_elim, Bool, true, false, cond, List, [], ◌∷◌, Option, Some, None, refl, sym, ap}
-use Rattle.std.proofs.Common.{◌∙◌, subst, arith}
+use Rattle.std.proofs.Common.{◌≡◌, ℕ, ◌+◌, ◌-◌, ◌<◌, ◌≤◌, ⊎_elim, inl, Bool, true, false, cond, List, [], ◌∷◌, ◌++◌, Option, Some, None}
+use Rattle.std.proofs.Common.{refl, sym, ap, ◌∙◌, subst, arith}
 use Rattle.std.specs.Prelude.{◌==◌, nat_lt, if◌then◌else◌, ℤ, pos, negsuc}
 use Rattle.std.proofs.lemmas.Bool.{lt-ltb, le-ltb, cases_lt, eqb-true}
 use Rattle.ec_isa.specs.declared.instructions.Instr.TheVariants.{Rjmp, Rcall}
@@ -10,11 +10,13 @@ use Rattle.ec_asm.specs.Change.{Env}
 use Rattle.ec_asm.specs.Items.{At, Stands, HasAt, JumpsAt, distance, branch_if, branch_unless, item_words, code_words}
 use Rattle.ec_asm.specs.Laws.{NearJumpsStand, NearCallsStand, NearBranchesStand}
 use Rattle.ec_asm.specs.Valid.{used_label, stands_once}
-use Rattle.ec_asm_near.specs.Near.{label_word, word_of, reached, is_near, drafted, by_distance, near_item, near_from, near_items}
+use Rattle.ec_asm.proofs.Hoare.{has_parts}
+use Rattle.ec_asm_near.specs.Near.{label_word, word_of, reached, reached_over, is_near, is_over, drafted, by_distance, over_jump, near_row}
+use Rattle.ec_asm_near.specs.Near.{near_from, near_items}
 use Rattle.ec_asm_near.specs.Laws.{HasWord, HaveWords, NearCodeStands}
 use Rattle.ec_asm_near.proofs.Noted.{count_of, count_cons}
-use Rattle.ec_asm_near.proofs.Shortened.{words_cons}
-use Rattle.ec_asm_near.proofs.Valid.{IsFound, found_where}
+use Rattle.ec_asm_near.proofs.Shortened.{words_cons, words_append}
+use Rattle.ec_asm_near.proofs.Valid.{IsFound, found_by}
 use Rattle.ec_asm_near.proofs.Words.{places_are_drafted}
 
 pub record NearLaws : Type 0 where
@@ -69,6 +71,14 @@ ends_at e i is pc mid end q s h =
     let a = item_within e i pc mid s in
     let b = has_within e is mid end h in
     let c = words_cons i is in
+    (omega arith, omega arith)
+
+rows_end : (e : Env) (row is : List AsmItem) (pc mid end : ℕ) → end ≡ pc + code_words (row ++ is) → HasAt e row pc mid
+    → HasAt e is mid end → (mid ≡ pc + code_words row) × (end ≡ mid + code_words is)
+rows_end e row is pc mid end q s h =
+    let a = has_within e row pc mid s in
+    let b = has_within e is mid end h in
+    let c = words_append row is in
     (omega arith, omega arith)
 
 -- ---- a label that stands has the word where it stands
@@ -157,24 +167,85 @@ branch_stands laws e set flag l pc end (Some k) w h s =
     let r = a.room in
     laws.branch e set flag l pc end a (omega arith) w
 
-item_stands : NearLaws → (e : Env) (base : ℕ) (long short : ℕ → Option ℕ) → LabelsAt e base short → (i : AsmItem)
-    (lp at pc end : ℕ) → pc ≡ base + at → HasWord e (used_label i) → Stands e (near_item long short lp at i) pc end
+-- ---- what stands for an item
+
+alone : (e : Env) (i : AsmItem) (pc end : ℕ) → HasAt e (i ∷ []) pc end → Stands e i pc end
+alone e i pc end h = subst (λ n. Stands e i pc n) (sym h.2) h.1
+
+chosen_stands : (e : Env) (i : AsmItem) (pc end : ℕ) (b : Bool) (is js : List AsmItem) → (HasAt e is pc end → Stands e i pc end)
+    → (HasAt e js pc end → Stands e i pc end) → (let row : List AsmItem = if b then is else js in HasAt e row pc end)
     → Stands e i pc end
-item_stands laws e base long short labels (Plain i) lp at pc end q w s = s
-item_stands laws e base long short labels (Label l) lp at pc end q w s = s
-item_stands laws e base long short labels (JumpTo l) lp at pc end q w s =
-    jump_stands laws e l pc end (if is_near long lp (JumpTo l) then reached short at (JumpTo l) else None) w
-    (λ k f. found_at e base 2048 at pc l short k labels q w (found_where (is_near long lp (JumpTo l)) 2048 at (short l) k f)) s
-item_stands laws e base long short labels (CallTo l) lp at pc end q w s =
-    call_stands laws e l pc end (if is_near long lp (CallTo l) then reached short at (CallTo l) else None) w
-    (λ k f. found_at e base 2048 at pc l short k labels q w (found_where (is_near long lp (CallTo l)) 2048 at (short l) k f)) s
-item_stands laws e base long short labels (BranchTo set flag l) lp at pc end q w s =
+chosen_stands e i pc end true is js f g h = f h
+chosen_stands e i pc end false is js f g h = g h
+
+-- the first of some items, and the others behind it
+record First (e : Env) (i : AsmItem) (is : List AsmItem) (pc end : ℕ) : Type 0 where
+  mid : ℕ
+  here : Stands e i pc mid
+  rest : HasAt e is mid end
+
+first : (e : Env) (i : AsmItem) (is : List AsmItem) (pc end : ℕ) → HasAt e (i ∷ is) pc end → First e i is pc end
+first e i is pc end h = record { mid = h.0; here = h.1; rest = h.2 }
+
+over_stands : NearLaws → (e : Env) (set : Bool) (flag l pc end : ℕ) (d : Option ℤ) → e.word_of l < 65536
+    → ((k : ℤ) → d ≡ Some k → k ≡ distance (pc + 1) (e.word_of l)) → HasAt e (over_jump (BranchTo set flag l) d) pc end
+    → Stands e (BranchTo set flag l) pc end
+over_stands laws e set flag l pc end None w h s = alone e (BranchTo set flag l) pc end s
+over_stands laws e set flag l pc end (Some k) w h s =
+    let a = first e (Plain (branch_unless set flag (pos 1))) (Plain (Rjmp k) ∷ []) pc end s in
+    let one = unless_word set flag (pos 1) e pc a.mid a.here in
+    let jump : At e (Rjmp k) a.mid end = alone e (Plain (Rjmp k)) a.mid end a.rest in
+    let ends = jump.ends in
+    let room = jump.room in
+    let far = h k refl ∙ ap (λ n. distance n (e.word_of l)) (sym one) in
+    inl (
+      a.mid,
+      pos 1,
+      a.here,
+      laws.jump e l a.mid end (subst (λ x. At e (Rjmp x) a.mid end) far jump) w,
+      omega (arith, one, ends, room),
+    )
+
+row_stands : NearLaws → (e : Env) (base : ℕ) (long short : ℕ → Option ℕ) → LabelsAt e base short → (i : AsmItem)
+    (lp at pc end : ℕ) → pc ≡ base + at → HasWord e (used_label i) → HasAt e (near_row long short lp at i) pc end
+    → Stands e i pc end
+row_stands laws e base long short labels (Plain i) lp at pc end q w s = alone e (Plain i) pc end s
+row_stands laws e base long short labels (Label l) lp at pc end q w s = alone e (Label l) pc end s
+row_stands laws e base long short labels (JumpTo l) lp at pc end q w s =
+    let i = JumpTo l in
+    let by = by_distance i (reached short at i) in
+    chosen_stands e i pc end (is_near long lp i) (by ∷ []) (i ∷ [])
+    (λ near.
+    jump_stands laws e l pc end (reached short at i) w
+    (λ k f. found_at e base 2048 at pc l short k labels q w (found_by 2048 at (short l) k f)) (alone e by pc end near))
+    (λ far. alone e i pc end far) s
+row_stands laws e base long short labels (CallTo l) lp at pc end q w s =
+    let i = CallTo l in
+    let by = by_distance i (reached short at i) in
+    chosen_stands e i pc end (is_near long lp i) (by ∷ []) (i ∷ [])
+    (λ near.
+    call_stands laws e l pc end (reached short at i) w
+    (λ k f. found_at e base 2048 at pc l short k labels q w (found_by 2048 at (short l) k f)) (alone e by pc end near))
+    (λ far. alone e i pc end far) s
+row_stands laws e base long short labels (BranchTo set flag l) lp at pc end q w s =
     let i = BranchTo set flag l in
-    branch_stands laws e set flag l pc end (if is_near long lp i then reached short at i else None) w
-    (λ k f. found_at e base 64 at pc l short k labels q w (found_where (is_near long lp i) 64 at (short l) k f)) s
-item_stands laws e base long short labels (LoadPart d o k part) lp at pc end q w s = s
-item_stands laws e base long short labels (LoadObj d o k) lp at pc end q w s = s
-item_stands laws e base long short labels (StoreObj o k r) lp at pc end q w s = s
+    let by = by_distance i (reached short at i) in
+    let over = over_jump i (reached_over short at i) in
+    let next : pc + 1 ≡ base + (at + 1) = omega arith in
+    chosen_stands e i pc end (is_near long lp i) (by ∷ []) (if is_over long lp i then over else i ∷ [])
+    (λ near.
+    branch_stands laws e set flag l pc end (reached short at i) w
+    (λ k f. found_at e base 64 at pc l short k labels q w (found_by 64 at (short l) k f)) (alone e by pc end near))
+    (λ far.
+    chosen_stands e i pc end (is_over long lp i) over (i ∷ [])
+    (λ jumps.
+    over_stands laws e set flag l pc end (reached_over short at i) w
+    (λ k f. found_at e base 2048 (at + 1) (pc + 1) l short k labels next w (found_by 2048 (at + 1) (short l) k f)) jumps)
+    (λ long. alone e i pc end long) far)
+    s
+row_stands laws e base long short labels (LoadPart d o k part) lp at pc end q w s = alone e (LoadPart d o k part) pc end s
+row_stands laws e base long short labels (LoadObj d o k) lp at pc end q w s = alone e (LoadObj d o k) pc end s
+row_stands laws e base long short labels (StoreObj o k r) lp at pc end q w s = alone e (StoreObj o k r) pc end s
 
 -- ---- the whole
 
@@ -183,14 +254,15 @@ all_stand : NearLaws → (e : Env) (base : ℕ) (long short : ℕ → Option ℕ
     → HasAt e (near_from long short lp at is) pc end → HasAt e is pc end
 all_stand laws e base long short labels [] lp at pc end q r w h = h
 all_stand laws e base long short labels (i ∷ is) lp at pc end q r w h =
-    let n = near_item long short lp at i in
-    let ns = near_from long short (lp + item_words i) (at + item_words n) is in
-    let ends = ends_at e n ns pc h.0 end r h.1 h.2 in
+    let row = near_row long short lp at i in
+    let rest = near_from long short (lp + item_words i) (at + code_words row) is in
+    let p = has_parts e row rest pc end h in
+    let ends = rows_end e row rest pc p.0 end r p.1 p.2 in
     let here = ends.0 in
-    let next : h.0 ≡ base + (at + item_words n) = omega arith in (
-      h.0,
-      item_stands laws e base long short labels i lp at pc h.0 q w.0 h.1,
-      all_stand laws e base long short labels is (lp + item_words i) (at + item_words n) h.0 end next ends.1 w.1 h.2,
+    let next : p.0 ≡ base + (at + code_words row) = omega arith in (
+      p.0,
+      row_stands laws e base long short labels i lp at pc p.0 q w.0 p.1,
+      all_stand laws e base long short labels is (lp + item_words i) (at + code_words row) p.0 end next ends.1 w.1 p.2,
     )
 
 where_once : (b : Bool) (w to : ℕ) → (let o : Option ℕ = if b then Some w else None in o) ≡ Some to

@@ -1,6 +1,6 @@
--- Each item that is near takes one word.
-use Rattle.std.proofs.Common.{◌≡◌, ℕ, ◌+◌, ◌-◌, ◌<◌, ◌≤◌, ◌⊎◌, ⊎_elim, inl, inr, Bool, true, false, List, [], ◌∷◌, Option, Some, None, refl}
-use Rattle.std.proofs.Common.{sym, ap, ◌∙◌, subst, arith}
+-- Each item that is near takes one word, and each branch over RJMP two.
+use Rattle.std.proofs.Common.{◌≡◌, ℕ, ◌+◌, ◌-◌, ◌<◌, ◌≤◌, ◌⊎◌, ⊎_elim, inl, inr, Bool, true, false, List, [], ◌∷◌, ◌++◌, Option, Some, None}
+use Rattle.std.proofs.Common.{refl, sym, ap, ◌∙◌, subst, arith}
 use Rattle.std.specs.Prelude.{◌==◌, nat_lt, if◌then◌else◌, ℤ, pos, negsuc, is_some, option_and_then, map}
 use Rattle.std.proofs.lemmas.Bool.{lt-ltb, ltb-true, ltb-false}
 use Rattle.ec_isa.specs.Formats.{is_signed}
@@ -9,11 +9,11 @@ use Rattle.ec_asm.specs.declared.items.AsmItem.{AsmItem}
 use Rattle.ec_asm.specs.declared.items.AsmItem.TheVariants.{Plain, Label, JumpTo, CallTo, BranchTo, LoadPart, LoadObj, StoreObj}
 use Rattle.ec_asm.specs.Items.{distance, item_words, code_words}
 use Rattle.ec_asm.specs.Valid.{is_label, stands_once}
-use Rattle.ec_asm_near.specs.Near.{label_word, word_of, distance_within, reached, is_near, drafted, by_distance, near_item, near_from}
-use Rattle.ec_asm_near.specs.Near.{near_items}
+use Rattle.ec_asm_near.specs.Near.{label_word, word_of, distance_within, reached, reached_over, is_near, is_over, draft_row, drafted}
+use Rattle.ec_asm_near.specs.Near.{by_distance, over_jump, near_row, near_from, near_items}
 use Rattle.ec_asm_near.specs.Laws.{OneWordEach, DistancesAreOwn, NoMoreWords, LabelsStay}
-use Rattle.ec_asm_near.proofs.Shortened.{ForItem, ForItems, same_item, same_count, no_more_words, no_later, label_cons, draft_for}
-use Rattle.ec_asm_near.proofs.Shortened.{draft_for_items}
+use Rattle.ec_asm_near.proofs.Shortened.{ForItem, ForItems, ForRow, ForRows, same_item, rows_of, same_count, no_more_words, no_later}
+use Rattle.ec_asm_near.proofs.Shortened.{label_cons, draft_for, draft_rows}
 
 -- ---- distances within reach
 
@@ -87,25 +87,26 @@ seen_past false pc at long short m n a a' h s =
     ⊎_elim (λ p. let p0 = p.0 in let p1 = p.1 in let p2 = p.2 in inl (omega arith, omega arith, omega arith))
     (λ p. let p0 = p.0 in let p1 = p.1 in inr (omega arith, omega arith)) s
 
-seen_next : (pc at long short l : ℕ) (i s : AsmItem) (is ss : List AsmItem) → ForItem i s
-    → Seen pc at long short (label_word (i ∷ is) l) (label_word (s ∷ ss) l)
-    → Seen (pc + item_words i) (at + item_words s) long short (label_word is l) (label_word ss l)
-seen_next pc at long short l i s is ss f h =
+seen_next : (pc at long short l : ℕ) (i : AsmItem) (row is ss : List AsmItem) → ForRow i row
+    → Seen pc at long short (label_word (i ∷ is) l) (label_word (row ++ ss) l)
+    → Seen (pc + item_words i) (at + code_words row) long short (label_word is l) (label_word ss l)
+seen_next pc at long short l i row is ss f h =
     let a = label_cons i is l in
-    let b = label_cons s ss l ∙ ap (λ t. if t then 0 else item_words s + label_word ss l) (f.label l) in
-    let h' = subst (λ x. Seen pc at long short x (label_word (s ∷ ss) l)) a h in
+    let b = f.place l ss in
+    let h' = subst (λ x. Seen pc at long short x (label_word (row ++ ss) l)) a h in
     let h'' = subst (λ x. Seen pc at long short (if is_label l i then 0 else item_words i + label_word is l) x) b h' in
-    seen_past (is_label l i) pc at long short (item_words i) (item_words s) (label_word is l) (label_word ss l) f.words h''
+    seen_past (is_label l i) pc at long short (item_words i) (code_words row) (label_word is l) (label_word ss l) f.words h''
 
-close_stays : (n pc at long short a a' : ℕ) → 0 < a' → a' ≤ a → Seen pc at long short a a' → IsClose n pc long
-    → IsClose n at short
-close_stays n pc at long short a a' some less s c =
+-- from the word that is `j` words further
+close_stays : (n j pc at long short a a' : ℕ) → j < a' → a' ≤ a → Seen pc at long short a a' → IsClose n (pc + j) long
+    → IsClose n (at + j) short
+close_stays n j pc at long short a a' some less s c =
     ⊎_elim
     (λ p.
     let p0 = p.0 in
     let p1 = p.1 in
     let p2 = p.2 in
-    let m = c.behind p0 in
+    let m = c.behind (omega arith) in
     record { ahead = λ k. omega arith; behind = λ k. omega arith })
     (λ p.
     let p0 = p.0 in
@@ -116,22 +117,25 @@ close_stays n pc at long short a a' some less s c =
 
 -- ---- what is near stays near
 
-stays_near : (all draft : List AsmItem) (n pc at l : ℕ) (i s : AsmItem) (is ss : List AsmItem) → ForItem i s
-    → is_label l i ≡ false → 0 < item_words s → ForItems is ss → stands_once draft l ≡ stands_once all l
-    → Seen pc at (label_word all l) (label_word draft l) (label_word (i ∷ is) l) (label_word (s ∷ ss) l)
-    → is_some (option_and_then (distance_within n pc) (word_of all l)) ≡ true
-    → is_some (option_and_then (distance_within n at) (word_of draft l)) ≡ true
-stays_near all draft n pc at l i s is ss f other some rest same seen near =
-    let p = found_parts n pc (stands_once all l) (label_word all l) near in
-    let a : label_word (i ∷ is) l ≡ item_words i + label_word is l =
+-- from a word of the items that stand for one
+stays_near : (all draft : List AsmItem) (n j pc at from to l : ℕ) (i : AsmItem) (row is ss : List AsmItem) → from ≡ pc + j
+    → to ≡ at + j → ForRow i row → is_label l i ≡ false → j < code_words row → ForRows is ss
+    → stands_once draft l ≡ stands_once all l
+    → Seen pc at (label_word all l) (label_word draft l) (label_word (i ∷ is) l) (label_word (row ++ ss) l)
+    → is_some (option_and_then (distance_within n from) (word_of all l)) ≡ true
+    → is_some (option_and_then (distance_within n to) (word_of draft l)) ≡ true
+stays_near all draft n j pc at from to l i row is ss a b f other some rest same seen near =
+    let p = found_parts n from (stands_once all l) (label_word all l) near in
+    let d : label_word (i ∷ is) l ≡ item_words i + label_word is l =
     label_cons i is l ∙ ap (λ t. if t then 0 else item_words i + label_word is l) other in
-    let b : label_word (s ∷ ss) l ≡ item_words s + label_word ss l =
-    label_cons s ss l ∙ ap (λ t. if t then 0 else item_words s + label_word ss l) (f.label l ∙ other) in
+    let e : label_word (row ++ ss) l ≡ code_words row + label_word ss l =
+    f.place l ss ∙ ap (λ t. if t then 0 else code_words row + label_word ss l) other in
     let less = no_later is ss l rest in
     let words = f.words in
-    let c = close_stays n pc at (label_word all l) (label_word draft l) (label_word (i ∷ is) l) (label_word (s ∷ ss) l)
-    (omega arith) (omega arith) seen p.1 in
-    found_from n at (stands_once draft l) (label_word draft l) (same ∙ p.0) c
+    let c = close_stays n j pc at (label_word all l) (label_word draft l) (label_word (i ∷ is) l) (label_word (row ++ ss) l)
+    (omega arith) (omega arith) seen (subst (λ x. IsClose n x (label_word all l)) a p.1) in
+    found_from n to (stands_once draft l) (label_word draft l) (same ∙ p.0)
+    (subst (λ x. IsClose n x (label_word draft l)) (sym b) c)
 
 record Alike (s n : AsmItem) : Type 0 where
   there : ForItem s n
@@ -162,23 +166,61 @@ short_branch false flag l k = record {
   back = record { label = λ x. refl; words = omega arith };
 }
 
--- an item that is near, and another one
-one_word : (i : AsmItem) (b : Bool) (r : Option ℤ) → by_distance i None ≡ i
-    → ((k : ℤ) → Alike (Plain Nop) (by_distance i (Some k))) → (b ≡ true → is_some r ≡ true)
-    → Alike (if b then Plain Nop else i) (by_distance i (if b then r else None))
-one_word i true (Some k) q short h = short k
-one_word i true None q short h = absurd (clash (h refl))
+record AlikeAll (ss ns : List AsmItem) : Type 0 where
+  there : ForItems ss ns
+  back : ForItems ns ss
+
+alike_one : (s n : AsmItem) → Alike s n → AlikeAll (s ∷ []) (n ∷ [])
+alike_one s n h = record { there = (h.there, tt); back = (h.back, tt) }
+
+alike_more : (s n : AsmItem) (ss ns : List AsmItem) → Alike s n → AlikeAll ss ns → AlikeAll (s ∷ ss) (n ∷ ns)
+alike_more s n ss ns h rest = record { there = (h.there, rest.there); back = (h.back, rest.back) }
+
+same_row : (i : AsmItem) → AlikeAll (i ∷ []) (i ∷ [])
+same_row i = alike_one i i (alike i)
+
+over_branch : (set : Bool) (flag l : ℕ) (k : ℤ) → AlikeAll (Plain Nop ∷ Plain Nop ∷ []) (over_jump (BranchTo set flag l) (Some k))
+over_branch true flag l k =
+    alike_more (Plain Nop) _ (Plain Nop ∷ []) _ (short_branch false flag l (pos 1)) (alike_one (Plain Nop) _ (short_jump l k))
+over_branch false flag l k =
+    alike_more (Plain Nop) _ (Plain Nop ∷ []) _ (short_branch true flag l (pos 1)) (alike_one (Plain Nop) _ (short_jump l k))
+
+none_given : {X : Type 0} (b : Bool) → b ≡ true → (b ≡ true → (let o : Option ℤ = None in is_some o) ≡ true) → X
+none_given b q h = absurd (clash (h q))
   where
     clash : false ≡ true → ⊥
     clash z = cc
-one_word i false r q short h = subst (λ x. Alike i x) (sym q) (alike i)
 
-some_words : (b : Bool) (i : AsmItem) → 0 < item_words i → (let s : AsmItem = if b then Plain Nop else i in 0 < item_words s)
-some_words true i h = omega arith
-some_words false i h = h
+-- an item that is near, and another one
+one_word : (i : AsmItem) (b : Bool) (r : Option ℤ) (ss ns : List AsmItem) → ((k : ℤ) → Alike (Plain Nop) (by_distance i (Some k)))
+    → (b ≡ true → is_some r ≡ true) → (b ≡ false → AlikeAll ss ns)
+    → AlikeAll (if b then Plain Nop ∷ [] else ss) (if b then by_distance i r ∷ [] else ns)
+one_word i true (Some k) ss ns short h rest = alike_one (Plain Nop) (by_distance i (Some k)) (short k)
+one_word i true None ss ns short h rest = none_given true refl h
+one_word i false r ss ns short h rest = rest refl
 
-abbrev draft_item : (words : ℕ → Option ℕ) (pc : ℕ) → AsmItem → AsmItem
-draft_item words pc i = if is_near words pc i then Plain Nop else i
+-- a branch over RJMP, and another one
+two_words : (i : AsmItem) (b : Bool) (r : Option ℤ)
+    → ((k : ℤ) → AlikeAll (Plain Nop ∷ Plain Nop ∷ []) (over_jump i (Some k))) → (b ≡ true → is_some r ≡ true)
+    → AlikeAll (if b then Plain Nop ∷ Plain Nop ∷ [] else i ∷ []) (if b then over_jump i r else i ∷ [])
+two_words i true (Some k) short h = short k
+two_words i true None short h = none_given true refl h
+two_words i false r short h = same_row i
+
+some_words : (b : Bool) (i : AsmItem) (ss : List AsmItem) → 0 < code_words ss
+    → (let row : List AsmItem = if b then Plain Nop ∷ [] else ss in 0 < code_words row)
+some_words true i ss h = omega arith
+some_words false i ss h = h
+
+branch_words : (set : Bool) (flag l : ℕ) (b : Bool)
+    → (let row : List AsmItem = if b then Plain Nop ∷ Plain Nop ∷ [] else BranchTo set flag l ∷ [] in 1 < code_words row)
+branch_words set flag l true = omega arith
+branch_words set flag l false = omega arith
+
+more_words : (b : Bool) (ss : List AsmItem) → b ≡ false → 1 < code_words ss
+    → (let row : List AsmItem = if b then Plain Nop ∷ [] else ss in 1 < code_words row)
+more_words true ss h some = cc
+more_words false ss h some = some
 
 -- what is known where the items are gone over: the same labels stand once, and where each label is seen
 record At (all draft : List AsmItem) (is : List AsmItem) (pc at : ℕ) : Type 0 where
@@ -186,52 +228,71 @@ record At (all draft : List AsmItem) (is : List AsmItem) (pc at : ℕ) : Type 0 
   seen : (l : ℕ) → Seen pc at (label_word all l) (label_word draft l) (label_word is l) (label_word (drafted (word_of all) pc is) l)
 
 item_alike : (all draft : List AsmItem) (i : AsmItem) (is : List AsmItem) (pc at : ℕ) → At all draft (i ∷ is) pc at
-    → Alike (draft_item (word_of all) pc i) (near_item (word_of all) (word_of draft) pc at i)
-item_alike all draft (Plain i) is pc at h = alike (Plain i)
-item_alike all draft (Label l) is pc at h = alike (Label l)
+    → AlikeAll (draft_row (word_of all) pc i) (near_row (word_of all) (word_of draft) pc at i)
+item_alike all draft (Plain i) is pc at h = same_row (Plain i)
+item_alike all draft (Label l) is pc at h = same_row (Label l)
 item_alike all draft (JumpTo l) is pc at h =
-    one_word (JumpTo l) (is_near (word_of all) pc (JumpTo l)) (reached (word_of draft) at (JumpTo l)) refl (short_jump l)
-    (stays_near all draft 2048 pc at l (JumpTo l) (draft_item (word_of all) pc (JumpTo l)) is (drafted (word_of all) (pc + 2) is)
-    (draft_for (word_of all) pc (JumpTo l)) refl (some_words (is_near (word_of all) pc (JumpTo l)) (JumpTo l) (omega arith))
-    (draft_for_items (word_of all) (pc + 2) is) (h.same l) (h.seen l))
+    let i = JumpTo l in
+    let W = word_of all in
+    one_word i (is_near W pc i) (reached (word_of draft) at i) (i ∷ []) (i ∷ []) (short_jump l)
+    (stays_near all draft 2048 0 pc at pc at l i (draft_row W pc i) is (drafted W (pc + 2) is) (omega arith) (omega arith)
+    (draft_for W pc i) refl (some_words (is_near W pc i) i (i ∷ []) (omega arith)) (draft_rows W (pc + 2) is) (h.same l) (h.seen l))
+    (λ far. same_row i)
 item_alike all draft (CallTo l) is pc at h =
-    one_word (CallTo l) (is_near (word_of all) pc (CallTo l)) (reached (word_of draft) at (CallTo l)) refl (short_call l)
-    (stays_near all draft 2048 pc at l (CallTo l) (draft_item (word_of all) pc (CallTo l)) is (drafted (word_of all) (pc + 2) is)
-    (draft_for (word_of all) pc (CallTo l)) refl (some_words (is_near (word_of all) pc (CallTo l)) (CallTo l) (omega arith))
-    (draft_for_items (word_of all) (pc + 2) is) (h.same l) (h.seen l))
+    let i = CallTo l in
+    let W = word_of all in
+    one_word i (is_near W pc i) (reached (word_of draft) at i) (i ∷ []) (i ∷ []) (short_call l)
+    (stays_near all draft 2048 0 pc at pc at l i (draft_row W pc i) is (drafted W (pc + 2) is) (omega arith) (omega arith)
+    (draft_for W pc i) refl (some_words (is_near W pc i) i (i ∷ []) (omega arith)) (draft_rows W (pc + 2) is) (h.same l) (h.seen l))
+    (λ far. same_row i)
 item_alike all draft (BranchTo set flag l) is pc at h =
     let i = BranchTo set flag l in
-    one_word i (is_near (word_of all) pc i) (reached (word_of draft) at i) refl (short_branch set flag l)
-    (stays_near all draft 64 pc at l i (draft_item (word_of all) pc i) is (drafted (word_of all) (pc + 3) is)
-    (draft_for (word_of all) pc i) refl (some_words (is_near (word_of all) pc i) i (omega arith))
-    (draft_for_items (word_of all) (pc + 3) is) (h.same l) (h.seen l))
-item_alike all draft (LoadPart d o k part) is pc at h = alike (LoadPart d o k part)
-item_alike all draft (LoadObj d o k) is pc at h = alike (LoadObj d o k)
-item_alike all draft (StoreObj o k r) is pc at h = alike (StoreObj o k r)
+    let W = word_of all in
+    let over = is_over W pc i in
+    let free = if over then Plain Nop ∷ Plain Nop ∷ [] else i ∷ [] in
+    let some = branch_words set flag l over in
+    one_word i (is_near W pc i) (reached (word_of draft) at i) free
+    (if over then over_jump i (reached_over (word_of draft) at i) else i ∷ []) (short_branch set flag l)
+    (stays_near all draft 64 0 pc at pc at l i (draft_row W pc i) is (drafted W (pc + 3) is) (omega arith) (omega arith)
+    (draft_for W pc i) refl (some_words (is_near W pc i) i free (omega (arith, some))) (draft_rows W (pc + 3) is) (h.same l) (h.seen l))
+    (λ far.
+    two_words i over (reached_over (word_of draft) at i) (over_branch set flag l)
+    (stays_near all draft 2048 1 pc at (pc + 1) (at + 1) l i (draft_row W pc i) is (drafted W (pc + 3) is) refl refl
+    (draft_for W pc i) refl (more_words (is_near W pc i) free far some) (draft_rows W (pc + 3) is) (h.same l) (h.seen l)))
+item_alike all draft (LoadPart d o k part) is pc at h = same_row (LoadPart d o k part)
+item_alike all draft (LoadObj d o k) is pc at h = same_row (LoadObj d o k)
+item_alike all draft (StoreObj o k r) is pc at h = same_row (StoreObj o k r)
 
-record AlikeAll (ss ns : List AsmItem) : Type 0 where
-  there : ForItems ss ns
-  back : ForItems ns ss
+for_append : (is ss js ts : List AsmItem) → ForItems is ss → ForItems js ts → ForItems (is ++ js) (ss ++ ts)
+for_append [] [] js ts h rest = rest
+for_append [] (s ∷ ss) js ts h rest = absurd h
+for_append (i ∷ is) [] js ts h rest = absurd h
+for_append (i ∷ is) (s ∷ ss) js ts h rest = (h.0, for_append is ss js ts h.1 rest)
+
+same_words : (ss ns : List AsmItem) → AlikeAll ss ns → code_words ns ≡ code_words ss
+same_words ss ns h =
+    let a = no_more_words ss ns (rows_of ss ns h.there) in
+    let b = no_more_words ns ss (rows_of ns ss h.back) in
+    omega arith
 
 items_alike : (all draft : List AsmItem) (is : List AsmItem) (pc at : ℕ) → At all draft is pc at
     → AlikeAll (drafted (word_of all) pc is) (near_from (word_of all) (word_of draft) pc at is)
 items_alike all draft [] pc at h = record { there = tt; back = tt }
 items_alike all draft (i ∷ is) pc at h =
     let W = word_of all in
-    let s = draft_item W pc i in
-    let n = near_item W (word_of draft) pc at i in
+    let s = draft_row W pc i in
+    let n = near_row W (word_of draft) pc at i in
+    let ss = drafted W (pc + item_words i) is in
+    let ns = near_from W (word_of draft) (pc + item_words i) (at + code_words n) is in
     let a = item_alike all draft i is pc at h in
-    let w0 = a.there.words in
-    let w1 = a.back.words in
-    let q : item_words s ≡ item_words n = omega arith in
-    let next : At all draft is (pc + item_words i) (at + item_words s) = record {
+    let q : code_words s ≡ code_words n = sym (same_words s n a) in
+    let next : At all draft is (pc + item_words i) (at + code_words s) = record {
       same = h.same;
-      seen = λ l.
-          seen_next pc at (label_word all l) (label_word draft l) l i s is (drafted W (pc + item_words i) is) (draft_for W pc i) (h.seen l);
+      seen = λ l. seen_next pc at (label_word all l) (label_word draft l) l i s is ss (draft_for W pc i) (h.seen l);
     } in
     let rest =
-    items_alike all draft is (pc + item_words i) (at + item_words n) (subst (λ x. At all draft is (pc + item_words i) (at + x)) q next) in
-    record { there = (a.there, rest.there); back = (a.back, rest.back) }
+    items_alike all draft is (pc + item_words i) (at + code_words n) (subst (λ x. At all draft is (pc + item_words i) (at + x)) q next) in
+    record { there = for_append s n ss ns a.there rest.there; back = for_append n s ns ss a.back rest.back }
 
 -- ---- the whole
 
@@ -240,25 +301,19 @@ draft_of items = drafted (word_of items) 0 items
 
 at_first : (items : List AsmItem) → At items (draft_of items) items 0 0
 at_first items = record {
-  same = λ l. ap (λ n. n == 1) (same_count items (draft_of items) l (draft_for_items (word_of items) 0 items));
+  same = λ l. ap (λ n. n == 1) (same_count items (draft_of items) l (draft_rows (word_of items) 0 items));
   seen = λ l. inr (omega arith, omega arith);
 }
 
 whole_alike : (items : List AsmItem) → AlikeAll (draft_of items) (near_items items)
 whole_alike items = items_alike items (draft_of items) items 0 0 (at_first items)
 
-same_words : (ss ns : List AsmItem) → AlikeAll ss ns → code_words ns ≡ code_words ss
-same_words ss ns h =
-    let a = no_more_words ss ns h.there in
-    let b = no_more_words ns ss h.back in
-    omega arith
-
 same_place : (ss ns : List AsmItem) (l : ℕ) → AlikeAll ss ns → word_of ns l ≡ word_of ss l
 same_place ss ns l h =
-    let a = no_later ss ns l h.there in
-    let b = no_later ns ss l h.back in
+    let a = no_later ss ns l (rows_of ss ns h.there) in
+    let b = no_later ns ss l (rows_of ns ss h.back) in
     let q : label_word ns l ≡ label_word ss l = omega arith in
-    let c = same_count ss ns l h.there in
+    let c = same_count ss ns l (rows_of ss ns h.there) in
     ap (λ n. if n == 1 then Some (label_word ns l) else None) c ∙ ap (λ w. if stands_once ss l then Some w else None) q
 
 pub words_are_drafted : (items : List AsmItem) → code_words (near_items items) ≡ code_words (draft_of items)
@@ -289,10 +344,10 @@ distances_are_own items =
 pub no_more : NoMoreWords
 no_more items =
     let a = words_are_drafted items in
-    let b = no_more_words items (draft_of items) (draft_for_items (word_of items) 0 items) in
+    let b = no_more_words items (draft_of items) (draft_rows (word_of items) 0 items) in
     omega arith
 
 pub labels_stay : LabelsStay
 labels_stay items l =
-    same_count (draft_of items) (near_items items) l (whole_alike items).there
-    ∙ same_count items (draft_of items) l (draft_for_items (word_of items) 0 items)
+    same_count (draft_of items) (near_items items) l (rows_of (draft_of items) (near_items items) (whole_alike items).there)
+    ∙ same_count items (draft_of items) l (draft_rows (word_of items) 0 items)

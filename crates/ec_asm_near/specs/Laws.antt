@@ -31,7 +31,8 @@ UsedLabelsHaveWords =
     (e : Env) (items : List AsmItem) → IsTrue (list_all (λ item. is_placed items (used_label item)) items)
     → ((l : ℕ) → IsTrue (stands_once (near_items items) l) → e.word_of l < 65536) → HaveWords e items
 
--- each item that is near takes one word, and each other one as many as before
+-- each item that is near takes one word, each other branch that is within reach of RJMP two, and each other item as many
+-- as before
 abbrev pub OneWordEach : Type 0
 OneWordEach =
     (items : List AsmItem) → map item_words (near_items items) ≡ map item_words (drafted (word_of items) 0 items)

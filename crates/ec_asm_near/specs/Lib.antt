@@ -1,3 +1,4 @@
 pub mod Near
 pub mod Labels
+pub mod Rows
 pub mod Laws

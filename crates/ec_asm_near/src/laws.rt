@@ -12,7 +12,8 @@ pub fn near_code_stands()
     near_jumps_stand();
 }
 
-/// Each item that is near takes one word and each other one as many as before, so there are no more words than before.
+/// Each item that is near takes one word, each other branch that is within reach of RJMP two, and each other item as many
+/// as before, so there are no more words than before.
 /// The distances are those between the items as they come out.
 pub fn near_items_are_short()
     ensures one { law.OneWordEach }

@@ -50,8 +50,8 @@ pub(crate) fn outline_of(alloc: Global, asm: &AsmProgram) -> Result<AsmProgram, 
     })
 }
 
-/// Code with bytes that stand near the base by Y, and with near jumps, calls and branches in one word. `NoMemory` also
-/// for code of more than 4,294,967,295 items.
+/// Code with bytes that stand near the base by Y, with near jumps, calls and branches in one word, and with branches to
+/// other labels that RJMP reaches in two. `NoMemory` also for code of more than 4,294,967,295 items.
 pub(crate) fn shortened(
     alloc: Global,
     reaches: &[Reach],

@@ -45,7 +45,7 @@ reaches_of p places = reaches_from p.structs places 0 p.objects
 -- ---- the code
 
 -- Code is other code in which bytes near the base go by Y, and jumps, calls and branches to labels that are near are in
--- one word
+-- one word, and branches to others that RJMP reaches in two
 pub record IsShortened (reaches : List Reach) (long short : AsmProgram) : Type 0 where
   pub items : short.items.items ≡ near_items (based_items reaches long.items.items)
   pub frames : short.frames.items ≡ long.frames.items
