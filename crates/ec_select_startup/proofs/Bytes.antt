@@ -1,5 +1,5 @@
 -- One byte of a span.
-use Rattle.std.proofs.Common.{◌≡◌, ◌≢◌, ℕ, suc, ◌+◌, ◌*◌, ◌/◌, ◌%◌, ◌<◌, ◌≤◌, true, List, [], ◌∷◌, ◌++◌, refl, sym, ap}
+use Rattle.std.proofs.Common.{◌≡◌, ◌≢◌, ℕ, suc, ◌+◌, ◌*◌, ◌/◌, ◌%◌, ◌<◌, ◌≤◌, Bool, true, false, List, [], ◌∷◌, ◌++◌, refl, sym, ap}
 use Rattle.std.proofs.Common.{◌∙◌, arith, ⊎_elim, subst, append-nil, append_assoc}
 use Rattle.std.specs.Prelude.{slice_index}
 use Rattle.std.proofs.lemmas.Bool.{cases_eq}
@@ -19,7 +19,7 @@ use Rattle.ec_asm.proofs.Hoare.{block-append}
 use Rattle.ec_select_startup.specs.declared.spans.Filling.{Filling}
 use Rattle.ec_select_startup.specs.declared.spans.Filling.TheVariants.{Copied, Cleared}
 use Rattle.ec_select_startup.specs.declared.spans.Span.{Span}
-use Rattle.ec_select_startup.specs.Startup.{byte_code, store_code, next_code}
+use Rattle.ec_select_startup.specs.Startup.{byte_code, store_code, next_code, is_cleared}
 use Rattle.ec_select_startup.specs.Laws.{source, target, CanBeSet, byte_of, initial_byte, reads, byte_accesses, accesses}
 
 pub pair_is : (n : ℕ) → n % 256 + 256 * (n / 256) ≡ n
@@ -67,6 +67,16 @@ noted-append e (x ∷ a) b =
 abbrev pub IsReady : (from : ℕ) → Filling → (i : ℕ) → View → Type 0
 IsReady f Copied i v = pair v.at 30 ≡ f + i
 IsReady f Cleared i v = v.at 0 ≡ 0
+
+-- what is known of R0 before the code of a span
+abbrev pub IsClear : (clear : Bool) → View → Type 0
+IsClear true v = v.at 0 ≡ 0
+IsClear false v = Unit {0}
+
+-- and behind it
+pub clear_behind : (f : ℕ) (filling : Filling) (i : ℕ) (v : View) → IsReady f filling i v → IsClear (is_cleared filling) v
+clear_behind f Copied i v p = tt
+clear_behind f Cleared i v p = p
 
 record Loaded (e : Env) (f : ℕ) (filling : Filling) (i : ℕ) (v w : View) : Type 0 where
   byte : w.at 0 ≡ byte_of e f filling i

@@ -1,5 +1,6 @@
 mod Bytes
 mod Turns
+mod PerTurn
 mod OneSpan
 mod Whole
 mod Words

@@ -1,7 +1,7 @@
 -- The code of one span.
 use Rattle.std.proofs.Common.{◌≡◌, ◌≢◌, ℕ, ◌+◌, ◌*◌, ◌/◌, ◌%◌, ◌<◌, ◌≤◌, Bool, true, false, refl, sym, ap}
 use Rattle.std.proofs.Common.{◌∙◌, subst, arith, append-nil, leb-true, leb-false}
-use Rattle.std.specs.Prelude.{nat_le, if◌then◌else◌, bit_xor}
+use Rattle.std.specs.Prelude.{nat_le, bit_xor}
 use Rattle.std.specs.Int.Bits.{xor_self}
 use Rattle.ec_asm.specs.View.{View, put}
 use Rattle.ec_asm.specs.Change.{Env}
@@ -13,13 +13,13 @@ use Rattle.ec_asm.proofs.ItemWords.{all_far}
 use Rattle.ec_select_startup.specs.declared.spans.Filling.{Filling}
 use Rattle.ec_select_startup.specs.declared.spans.Filling.TheVariants.{Copied, Cleared}
 use Rattle.ec_select_startup.specs.declared.spans.Span.{Span}
-use Rattle.ec_select_startup.specs.Startup.{address_code, source_code, store_code, next_code, byte_words, bytes_a_turn, row_code}
-use Rattle.ec_select_startup.specs.Startup.{turns_code, row_or_turns, pointed_code, stores_code, most_stores, bytes_by, bytes_code}
-use Rattle.ec_select_startup.specs.Startup.{span_code}
-use Rattle.ec_select_startup.specs.Laws.{source, target, CanBeSet, turns_steps, row_or_turns_steps, bytes_steps, source_steps}
-use Rattle.ec_select_startup.specs.Laws.{span_steps}
-use Rattle.ec_select_startup.proofs.Bytes.{IsReady, Filled, Pointed, store_fills, next_points, next_low, next_high, outside_ne, pair_is}
-use Rattle.ec_select_startup.proofs.Turns.{IsCounted, IsByte, Reaches, most_turns, row_reaches, turns_reach}
+use Rattle.ec_select_startup.specs.Startup.{address_code, source_code, store_code, next_code, byte_words, bytes_a_turn}
+use Rattle.ec_select_startup.specs.Startup.{turns_code, pointed_code, stores_code, most_stores, bytes_by, bytes_code, span_code}
+use Rattle.ec_select_startup.specs.Laws.{source, target, CanBeSet, turns_steps, bytes_steps, source_steps, span_steps}
+use Rattle.ec_select_startup.proofs.Bytes.{IsReady, IsClear, Filled, Pointed, store_fills, next_points}
+use Rattle.ec_select_startup.proofs.Bytes.{next_low, next_high, outside_ne, pair_is}
+use Rattle.ec_select_startup.proofs.PerTurn.{is_turn, divided}
+use Rattle.ec_select_startup.proofs.Turns.{IsCounted, IsByte, Reaches, most_turns, turns_reach}
 
 -- an address that is loaded in two parts
 pub address_is : (n : ℕ) → n < 65536 → part_of n 0 + 256 * part_of n 1 ≡ n
@@ -57,13 +57,16 @@ store_steps : (filling : Filling) (to k : ℕ) → code_steps (store_code fillin
 store_steps Copied to k = refl
 store_steps Cleared to k = refl
 
-source_straight : (filling : Filling) (from : ℕ) → all_straight (source_code filling from) ≡ true
-source_straight Copied from = refl
-source_straight Cleared from = refl
+source_straight : (clear : Bool) (filling : Filling) (from : ℕ) → all_straight (source_code clear filling from) ≡ true
+source_straight clear Copied from = refl
+source_straight true Cleared from = refl
+source_straight false Cleared from = refl
 
-source_has_steps : (filling : Filling) (from : ℕ) → code_steps (source_code filling from) ≡ source_steps filling
-source_has_steps Copied from = refl
-source_has_steps Cleared from = refl
+source_has_steps : (clear : Bool) (filling : Filling) (from : ℕ)
+    → code_steps (source_code clear filling from) ≡ source_steps clear filling
+source_has_steps clear Copied from = refl
+source_has_steps true Cleared from = refl
+source_has_steps false Cleared from = refl
 
 -- ---- before the bytes
 
@@ -74,9 +77,9 @@ record Begun (f : ℕ) (filling : Filling) (v w : View) : Type 0 where
   safe : w.safe ≡ v.safe
   seen : w.seen ≡ v.seen
 
-begun : (e : Env) (from : ℕ) (filling : Filling) (v : View) → e.address_of from 0 < 65536
-    → Begun (e.address_of from 0) filling v (block e (source_code filling from) v)
-begun e from Copied v l =
+begun : (e : Env) (from : ℕ) (clear : Bool) (filling : Filling) (v : View) → e.address_of from 0 < 65536 → IsClear clear v
+    → Begun (e.address_of from 0) filling v (block e (source_code clear filling from) v)
+begun e from clear Copied v l known =
     let f = e.address_of from 0 in
     let g = put v.at 30 (part_of f 0) in
     let none : f ≡ f + 0 = omega arith in
@@ -87,7 +90,14 @@ begun e from Copied v l =
       safe = refl;
       seen = refl;
     }
-begun e from Cleared v l = record {
+begun e from true Cleared v l known = record {
+  ready = known;
+  same = λ a n0 n30 n31. refl;
+  inputs = refl;
+  safe = refl;
+  seen = refl;
+}
+begun e from false Cleared v l known = record {
   ready = xor_self (v.at 0);
   same = λ a n0 n30 n31. put_other v.at 0 (bit_xor (v.at 0) (v.at 0)) a n0;
   inputs = refl;
@@ -109,15 +119,11 @@ pointer_ready : (f : ℕ) (filling : Filling) (v : View) (x y : ℕ) → IsReady
 pointer_ready f Copied v x y p = p
 pointer_ready f Cleared v x y p = p
 
--- whole turns, at least one, and what is left over
-abbrev Divided : (n d : ℕ) → Type 0
-Divided n d = (1 ≤ n / d) × (d * (n / d) + n % d ≡ n) × (n / d ≤ 65535)
-
 module _ (e : Env) (s : Span) (can : CanBeSet e s) where
-  source_set : (v : View) → Filled e s 0 v (block e (source_code s.filling s.from) v)
-  source_set v =
+  source_set : (clear : Bool) (v : View) → IsClear clear v → Filled e s 0 v (block e (source_code clear s.filling s.from) v)
+  source_set clear v known =
       let room = can.source_room in
-      let b = begun e s.from s.filling v (omega (arith, room)) in
+      let b = begun e s.from clear s.filling v (omega (arith, room)) known in
       record {
         ready = b.ready;
         here = λ k less. absurd (omega arith);
@@ -186,15 +192,6 @@ module _ (e : Env) (s : Span) (can : CanBeSet e s) where
   abbrev PointedSets : (steps pc : ℕ) (v0 v : View) (end : ℕ) → Type 0
   PointedSets steps pc v0 v end = Reaches e (λ w. Pointed e s can s.bytes v0 w) steps pc v end
 
-  row_set : (v v1 : View) (pc end : ℕ) → Pointed e s can 0 v v1 → HasAt e (row_code s.filling s.bytes) pc end
-      → PointedSets (byte_words s.filling * s.bytes) pc v v1 end
-  row_set v v1 pc end m at =
-      let n = s.bytes in
-      let none : 0 + n ≡ n = omega arith in
-      let P = λ (i : ℕ) (w : View). Pointed e s can i v w in
-      let r = row_reaches e (next_code s.filling) (byte_words s.filling) n P (nexts v) 0 n pc end v1 (omega arith) m at in
-      record { last = r.last; goes = r.goes; holds = subst (λ i. P i r.last) none r.holds }
-
   turns_set : (bytes : ℕ) (v v1 : View) (pc end : ℕ) → 1 ≤ s.bytes / bytes
       → bytes * (s.bytes / bytes) + s.bytes % bytes ≡ s.bytes → s.bytes / bytes ≤ 65535 → Pointed e s can 0 v v1
       → HasAt e (turns_code s.filling bytes s.bytes) pc end
@@ -212,32 +209,18 @@ module _ (e : Env) (s : Span) (can : CanBeSet e s) where
       within : (turns : ℕ) → turns ≤ 65535 → turns ≤ most_turns (nat_le turns 255)
       within turns l = by_size (nat_le turns 255) turns refl l
 
-  many_set : (v v1 : View) (pc end : ℕ) → 9 ≤ s.bytes → Pointed e s can 0 v v1
+  many_set : (v v1 : View) (pc end : ℕ) → most_stores s.filling ≤ s.bytes → Pointed e s can 0 v v1
       → HasAt e (turns_code s.filling (bytes_a_turn s.filling s.bytes) s.bytes) pc end
       → PointedSets (turns_steps (byte_words s.filling) (bytes_a_turn s.filling s.bytes) s.bytes) pc v v1 end
   many_set v v1 pc end l m at =
       let room = can.target_room in
-      let d = divided s.filling s.bytes l (omega (arith, room)) in
-      turns_set (bytes_a_turn s.filling s.bytes) v v1 pc end d.0 d.1 d.2 m at
-    where
-      by_four : (few : Bool) (n : ℕ) → 9 ≤ n → n < 65536 → Divided n (if few then 4 else 3)
-      by_four true n l r = (omega (arith, l), omega arith, omega (arith, r))
-      by_four false n l r = (omega (arith, l), omega arith, omega (arith, r))
-
-      by_eight : (few : Bool) (n : ℕ) → 9 ≤ n → n < 65536 → Divided n (if few then 8 else 7)
-      by_eight true n l r = (omega (arith, l), omega arith, omega (arith, r))
-      by_eight false n l r = (omega (arith, l), omega arith, omega (arith, r))
-
-      divided : (filling : Filling) (n : ℕ) → 9 ≤ n → n < 65536 → Divided n (bytes_a_turn filling n)
-      divided Copied n l r = by_four (nat_le (n % 4) 2) n l r
-      divided Cleared n l r = by_eight (nat_le (n % 8) 5) n l r
-
-  few_or_many : (few : Bool) → nat_le s.bytes 8 ≡ few → (v v1 : View) (pc end : ℕ) → Pointed e s can 0 v v1
-      → HasAt e (row_or_turns s.filling few s.bytes) pc end
-      → PointedSets (row_or_turns_steps s.filling few s.bytes) pc v v1 end
-  few_or_many true q v v1 pc end m at = row_set v v1 pc end m at
-  few_or_many false q v v1 pc end m at =
-      let l = leb-false s.bytes 8 q in many_set v v1 pc end (omega (arith, l)) m at
+      let t = is_turn s.filling s.bytes in
+      let some = t.some in
+      let below = t.below in
+      let bytes = bytes_a_turn s.filling s.bytes in
+      let d = divided s.bytes bytes (omega (arith, some)) (omega (arith, below, l)) in
+      let most = d.2 in
+      turns_set bytes v v1 pc end d.0 d.1 (omega (arith, most, room)) m at
 
   -- X is set
   pointer_set : (v v1 : View) → Filled e s 0 v v1 → Pointed e s can 0 v (block e (address_code 26 s.to) v1)
@@ -261,38 +244,41 @@ module _ (e : Env) (s : Span) (can : CanBeSet e s) where
         x = address_is t (omega (arith, room)) ∙ none;
       }
 
-  pointed_set : (v v1 : View) (pc end : ℕ) → Filled e s 0 v v1 → HasAt e (pointed_code s.filling s.to s.bytes) pc end
-      → Sets (2 + row_or_turns_steps s.filling (nat_le s.bytes 8) s.bytes) pc v v1 end
-  pointed_set v v1 pc end m at =
-      let few = nat_le s.bytes 8 in
-      let parts = has_parts e (address_code 26 s.to) (row_or_turns s.filling few s.bytes) pc end at in
+  pointed_set : (v v1 : View) (pc end : ℕ) → most_stores s.filling ≤ s.bytes → Filled e s 0 v v1
+      → HasAt e (pointed_code s.filling s.to s.bytes) pc end
+      → Sets (2 + turns_steps (byte_words s.filling) (bytes_a_turn s.filling s.bytes) s.bytes) pc v v1 end
+  pointed_set v v1 pc end l m at =
+      let bytes = bytes_a_turn s.filling s.bytes in
+      let parts = has_parts e (address_code 26 s.to) (turns_code s.filling bytes s.bytes) pc end at in
       let v2 = block e (address_code 26 s.to) v1 in
       let g = block_goes e (address_code 26 s.to) pc parts.0 v1 refl parts.1 in
-      let r = few_or_many few refl v v2 parts.0 end (pointer_set v v1 m) parts.2 in
+      let r = many_set v v2 parts.0 end l (pointer_set v v1 m) parts.2 in
       record {
         last = r.last;
-        goes = goes_on_to e 2 (row_or_turns_steps s.filling few s.bytes) pc parts.0 end v1 v2 r.last g r.goes;
+        goes = goes_on_to e 2 (turns_steps (byte_words s.filling) bytes s.bytes) pc parts.0 end v1 v2 r.last g r.goes;
         holds = r.holds.filled;
       }
 
   -- ---- the whole
 
-  bytes_set : (few : Bool) (v v1 : View) (pc end : ℕ) → Filled e s 0 v v1
+  bytes_set : (few : Bool) → nat_le s.bytes (most_stores s.filling) ≡ few → (v v1 : View) (pc end : ℕ) → Filled e s 0 v v1
       → HasAt e (bytes_by s.filling few s.to s.bytes) pc end → Sets (bytes_steps s.filling few s.bytes) pc v v1 end
-  bytes_set true v v1 pc end m at = stores_set v v1 pc end m at
-  bytes_set false v v1 pc end m at = pointed_set v v1 pc end m at
+  bytes_set true q v v1 pc end m at = stores_set v v1 pc end m at
+  bytes_set false q v v1 pc end m at =
+      let l = leb-false s.bytes (most_stores s.filling) q in pointed_set v v1 pc end (omega (arith, l)) m at
 
-  pub span_sets : (v : View) (pc end : ℕ) → HasAt e (span_code s) pc end → Sets (span_steps s) pc v v end
-  span_sets v pc end at =
-      let code = source_code s.filling s.from in
+  pub span_sets : (clear : Bool) (v : View) (pc end : ℕ) → IsClear clear v → HasAt e (span_code clear s) pc end
+      → Sets (span_steps clear s) pc v v end
+  span_sets clear v pc end known at =
+      let code = source_code clear s.filling s.from in
       let few = nat_le s.bytes (most_stores s.filling) in
       let parts = has_parts e code (bytes_code s.filling s.to s.bytes) pc end at in
       let v1 = block e code v in
-      let g = subst (λ j. Goes e j pc v parts.0 v1) (source_has_steps s.filling s.from)
-      (block_goes e code pc parts.0 v (source_straight s.filling s.from) parts.1) in
-      let r = bytes_set few v v1 parts.0 end (source_set v) parts.2 in
+      let g = subst (λ j. Goes e j pc v parts.0 v1) (source_has_steps clear s.filling s.from)
+      (block_goes e code pc parts.0 v (source_straight clear s.filling s.from) parts.1) in
+      let r = bytes_set few refl v v1 parts.0 end (source_set clear v known) parts.2 in
       record {
         last = r.last;
-        goes = goes_on_to e (source_steps s.filling) (bytes_steps s.filling few s.bytes) pc parts.0 end v v1 r.last g r.goes;
+        goes = goes_on_to e (source_steps clear s.filling) (bytes_steps s.filling few s.bytes) pc parts.0 end v v1 r.last g r.goes;
         holds = r.holds;
       }

@@ -1,7 +1,7 @@
 -- The items of the code before `main` are valid.
 use Rattle.std.proofs.Common.{◌≡◌, ℕ, zero, suc, ◌+◌, ◌*◌, ◌/◌, ◌%◌, ◌<◌, ◌==◌, Bool, true, false, List, []}
 use Rattle.std.proofs.Common.{◌≤◌, negsuc, ◌∷◌, ◌++◌, refl, ◌∙◌, arith, leb-true, get_or}
-use Rattle.std.specs.Prelude.{nat_le, All, count_by, cond, if◌then◌else◌}
+use Rattle.std.specs.Prelude.{nat_le, All, count_by, cond}
 use Rattle.std.proofs.Math.Nat.{div-le_self}
 use Rattle.std.specs.List.{list_all}
 use Rattle.std.proofs.lemmas.Bool.{lt-ltb, eqb-true}
@@ -15,9 +15,11 @@ use Rattle.ec_select_startup.specs.declared.spans.Filling.{Filling}
 use Rattle.ec_select_startup.specs.declared.spans.Filling.TheVariants.{Copied, Cleared}
 use Rattle.ec_select_startup.specs.declared.spans.Span.{Span}
 use Rattle.ec_select_startup.specs.Startup.{address_code, stack_code, source_code, store_code, next_code, row_code, count_code}
-use Rattle.ec_select_startup.specs.Startup.{end_code, byte_words, loop_code, bytes_a_turn, turns_code, row_or_turns, stores_code}
-use Rattle.ec_select_startup.specs.Startup.{most_stores, bytes_by, bytes_code, span_code, spans_code, main_code, startup_code}
+use Rattle.ec_select_startup.specs.Startup.{end_code, byte_words, loop_code, bytes_a_turn, turns_code, stores_code}
+use Rattle.ec_select_startup.specs.Startup.{most_stores, bytes_by, bytes_code, span_code, is_cleared, spans_code, main_code}
+use Rattle.ec_select_startup.specs.Startup.{startup_code}
 use Rattle.ec_select_startup.specs.Laws.{StartupIsValid, StartupUsesMain, StartupPlacesNoLabel}
+use Rattle.ec_select_startup.proofs.PerTurn.{is_turn}
 
 both : (p : AsmItem → Bool) (a b : List AsmItem) → list_all p a ≡ true → list_all p b ≡ true
     → list_all p (a ++ b) ≡ true
@@ -28,12 +30,12 @@ both p a b h k = list_all-append p a b ∙ rw (h, k) refl
 record Passes (p : AsmItem → Bool) (N : (object offset : ℕ) → Type 0) (M : ℕ → Type 0) (main : ℕ) : Type 0 where
   stack : (o : ℕ) → N o 0 → list_all p (address_code 24 o) ≡ true
   x : (o : ℕ) → N o 0 → list_all p (address_code 26 o) ≡ true
-  source : (filling : Filling) (o : ℕ) → N o 0 → list_all p (source_code filling o) ≡ true
+  source : (clear : Bool) (filling : Filling) (o : ℕ) → N o 0 → list_all p (source_code clear filling o) ≡ true
   out : list_all p (Plain (OutInstr 0x3E 25) ∷ Plain (OutInstr 0x3D 24) ∷ []) ≡ true
   next : (filling : Filling) → list_all p (next_code filling) ≡ true
   store : (filling : Filling) (o k : ℕ) → N o k → list_all p (store_code filling o k) ≡ true
   count : (turns : ℕ) → M turns → list_all p (count_code (nat_le turns 255) turns) ≡ true
-  end : (small : Bool) (words : ℕ) → words ≤ 8 → list_all p (end_code small words) ≡ true
+  end : (small : Bool) (words : ℕ) → words ≤ 7 → list_all p (end_code small words) ≡ true
   finish : list_all p (main_code main) ≡ true
 
 record IsNamed (N : (object offset : ℕ) → Type 0) (M : ℕ → Type 0) (s : Span) : Type 0 where
@@ -41,16 +43,9 @@ record IsNamed (N : (object offset : ℕ) → Type 0) (M : ℕ → Type 0) (s : 
   to : (k : ℕ) → k ≤ s.bytes → N s.to k
   turns : M (s.bytes / bytes_a_turn s.filling s.bytes)
 
--- a turn has at most eight words of bytes
-turn_small : (filling : Filling) (n : ℕ) → byte_words filling * bytes_a_turn filling n ≤ 8
-turn_small Copied n = by_test (nat_le (n % 4) 2) where
-  by_test : (few : Bool) → 2 * (if few then 4 else 3) ≤ 8
-  by_test true = omega arith
-  by_test false = omega arith
-turn_small Cleared n = by_test (nat_le (n % 8) 5) where
-  by_test : (few : Bool) → 1 * (if few then 8 else 7) ≤ 8
-  by_test true = omega arith
-  by_test false = omega arith
+-- a turn has at most seven words of bytes
+turn_small : (filling : Filling) (n : ℕ) → byte_words filling * bytes_a_turn filling n ≤ 7
+turn_small filling n = let w = (is_turn filling n).words in omega (arith, w)
 
 module _ (p : AsmItem → Bool) (N : (object offset : ℕ) → Type 0) (M : ℕ → Type 0) (main : ℕ) (h : Passes p N M main) where
   row_passes : (filling : Filling) (n : ℕ) → list_all p (row_code filling n) ≡ true
@@ -76,33 +71,30 @@ module _ (p : AsmItem → Bool) (N : (object offset : ℕ) → Type 0) (M : ℕ 
       let loop = both p (count_code small turns) (row ++ back) (h.count turns m) turn in
       both p (loop_code filling small bytes turns) (row_code filling (n % bytes)) loop (row_passes filling (n % bytes))
 
-  row_or_turns_pass : (filling : Filling) (few : Bool) (n : ℕ) → M (n / bytes_a_turn filling n)
-      → list_all p (row_or_turns filling few n) ≡ true
-  row_or_turns_pass filling true n m = row_passes filling n
-  row_or_turns_pass filling false n m = turns_pass filling n m
-
   bytes_pass : (filling : Filling) (few : Bool) (to n : ℕ) → ((k : ℕ) → k ≤ n → N to k) → M (n / bytes_a_turn filling n)
       → list_all p (bytes_by filling few to n) ≡ true
   bytes_pass filling true to n named m = stores_pass filling to n named
   bytes_pass filling false to n named m =
-      both p (address_code 26 to) (row_or_turns filling (nat_le n 8) n) (h.x to (named 0 (omega arith)))
-      (row_or_turns_pass filling (nat_le n 8) n m)
+      both p (address_code 26 to) (turns_code filling (bytes_a_turn filling n) n) (h.x to (named 0 (omega arith)))
+      (turns_pass filling n m)
 
-  span_passes : (s : Span) → IsNamed N M s → list_all p (span_code s) ≡ true
-  span_passes s k =
-      both p (source_code s.filling s.from) (bytes_code s.filling s.to s.bytes) (h.source s.filling s.from k.from)
+  span_passes : (clear : Bool) (s : Span) → IsNamed N M s → list_all p (span_code clear s) ≡ true
+  span_passes clear s k =
+      both p (source_code clear s.filling s.from) (bytes_code s.filling s.to s.bytes) (h.source clear s.filling s.from k.from)
       (bytes_pass s.filling (nat_le s.bytes (most_stores s.filling)) s.to s.bytes k.to k.turns)
 
-  spans_pass : (spans : List Span) → All (IsNamed N M) spans → list_all p (spans_code spans) ≡ true
-  spans_pass [] k = refl
-  spans_pass (s ∷ ss) k =
-      both p (span_code s) (spans_code ss) (span_passes s (All-head (IsNamed N M) s ss k)) (spans_pass ss (All-tail (IsNamed N M) s ss k))
+  spans_pass : (clear : Bool) (spans : List Span) → All (IsNamed N M) spans → list_all p (spans_code clear spans) ≡ true
+  spans_pass clear [] k = refl
+  spans_pass clear (s ∷ ss) k =
+      both p (span_code clear s) (spans_code (is_cleared s.filling) ss) (span_passes clear s (All-head (IsNamed N M) s ss k))
+      (spans_pass (is_cleared s.filling) ss (All-tail (IsNamed N M) s ss k))
 
   startup_passes : (spans : List Span) → N 1281 0 → All (IsNamed N M) spans → list_all p (startup_code spans main) ≡ true
   startup_passes spans n k =
       let finish = main_code main in
       let stack = both p (address_code 24 1281) (Plain (OutInstr 0x3E 25) ∷ Plain (OutInstr 0x3D 24) ∷ []) (h.stack 1281 n) h.out in
-      both p stack_code (spans_code spans ++ finish) stack (both p (spans_code spans) finish (spans_pass spans k) h.finish)
+      both p stack_code (spans_code false spans ++ finish) stack
+      (both p (spans_code false spans) finish (spans_pass false spans k) h.finish)
 
 -- ---- fields
 
@@ -127,10 +119,11 @@ startup_is_valid sizes spans main valid =
     let few = div-le_self at.bytes (bytes_a_turn at.filling at.bytes) in
     record { from = s.from; to = s.to; turns = omega (arith, s.bytes, few) })
   where
-    source_valid : (filling : Filling) (o : ℕ) → is_offset sizes o 0 ≡ true
-        → list_all (is_valid_item sizes) (source_code filling o) ≡ true
-    source_valid Copied o q = rw q refl
-    source_valid Cleared o q = refl
+    source_valid : (clear : Bool) (filling : Filling) (o : ℕ) → is_offset sizes o 0 ≡ true
+        → list_all (is_valid_item sizes) (source_code clear filling o) ≡ true
+    source_valid clear Copied o q = rw q refl
+    source_valid true Cleared o q = refl
+    source_valid false Cleared o q = refl
 
     next_valid : (filling : Filling) → list_all (is_valid_item sizes) (next_code filling) ≡ true
     next_valid Copied = refl
@@ -147,10 +140,10 @@ startup_is_valid sizes spans main valid =
     count_valid false turns q l =
         rw (lt-ltb (turns % 256) 256 (omega arith), lt-ltb (turns / 256) 256 (omega (arith, l))) refl
 
-    branch_valid : (words : ℕ) → words ≤ 8 → is_valid_item sizes (Plain (Brbc 1 (negsuc (words + 1)))) ≡ true
+    branch_valid : (words : ℕ) → words ≤ 7 → is_valid_item sizes (Plain (Brbc 1 (negsuc (words + 1)))) ≡ true
     branch_valid words l = rw (lt-ltb (words + 1) 64 (omega (arith, l))) refl
 
-    end_valid : (small : Bool) (words : ℕ) → words ≤ 8 → list_all (is_valid_item sizes) (end_code small words) ≡ true
+    end_valid : (small : Bool) (words : ℕ) → words ≤ 7 → list_all (is_valid_item sizes) (end_code small words) ≡ true
     end_valid true words l = rw (branch_valid words l) refl
     end_valid false words l = rw (branch_valid words l) refl
 
@@ -178,9 +171,10 @@ startup_uses_main items spans main placed =
     is_used : AsmItem → Bool
     is_used item = is_placed items (used_label item)
 
-    source_used : (filling : Filling) (o : ℕ) → Unit {0} → list_all is_used (source_code filling o) ≡ true
-    source_used Copied o q = refl
-    source_used Cleared o q = refl
+    source_used : (clear : Bool) (filling : Filling) (o : ℕ) → Unit {0} → list_all is_used (source_code clear filling o) ≡ true
+    source_used clear Copied o q = refl
+    source_used true Cleared o q = refl
+    source_used false Cleared o q = refl
 
     next_used : (filling : Filling) → list_all is_used (next_code filling) ≡ true
     next_used Copied = refl
@@ -215,9 +209,10 @@ startup_places_no_label spans main l =
     is_none : AsmItem → Bool
     is_none item = cond (is_label l item) 1 0 == 0
 
-    source_places : (filling : Filling) (o : ℕ) → Unit {0} → list_all is_none (source_code filling o) ≡ true
-    source_places Copied o q = refl
-    source_places Cleared o q = refl
+    source_places : (clear : Bool) (filling : Filling) (o : ℕ) → Unit {0} → list_all is_none (source_code clear filling o) ≡ true
+    source_places clear Copied o q = refl
+    source_places true Cleared o q = refl
+    source_places false Cleared o q = refl
 
     next_places : (filling : Filling) → list_all is_none (next_code filling) ≡ true
     next_places Copied = refl

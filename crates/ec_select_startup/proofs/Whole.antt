@@ -1,8 +1,9 @@
 -- The code of all spans, and the whole code before `main`.
 use Rattle.std.proofs.Common.{◌≡◌, ◌≢◌, ℕ, suc, ◌+◌, ◌*◌, ◌/◌, ◌%◌, ◌<◌, ◌≤◌, List, [], ◌∷◌, ◌++◌, refl, sym, ap, ◌∙◌, arith, append-nil}
 use Rattle.std.proofs.Common.{append_assoc}
-use Rattle.std.specs.Prelude.{sum_by, All, Bool, true, false, nat_le, if◌then◌else◌}
+use Rattle.std.specs.Prelude.{sum_by, All, Bool, true, false, nat_le}
 use Rattle.std.specs.List.{AllPairs}
+use Rattle.std.proofs.Math.Nat.{div-le_self, div-add-mod}
 use Rattle.std.proofs.lemmas.List.Elements.{All-nil, All-cons, All-head, All-tail}
 use Rattle.std.proofs.lemmas.List.Sums.{sum_by-drop_more}
 use Rattle.ec_asm.specs.View.{View, put}
@@ -17,17 +18,18 @@ use Rattle.ec_asm.proofs.Hoare.{has_parts, block_goes, goes_on_to}
 use Rattle.ec_select_startup.specs.declared.spans.Filling.{Filling}
 use Rattle.ec_select_startup.specs.declared.spans.Filling.TheVariants.{Copied, Cleared}
 use Rattle.ec_select_startup.specs.declared.spans.Span.{Span}
-use Rattle.ec_select_startup.specs.Startup.{stack_code, byte_words, bytes_a_turn, most_stores, span_code, spans_code, main_code}
-use Rattle.ec_select_startup.specs.Laws.{target, CanBeSet, IsBeside, IsNoneOf, HasStack, IsSet, span_accesses}
-use Rattle.ec_select_startup.specs.Laws.{all_accesses, count_steps, turns_steps, row_or_turns_steps, bytes_steps, source_steps}
-use Rattle.ec_select_startup.specs.Laws.{span_steps, spans_steps, StartupIsRight}
-use Rattle.ec_select_startup.proofs.Bytes.{outside_ne, noted-append}
+use Rattle.ec_select_startup.specs.Startup.{stack_code, byte_words, bytes_a_turn, most_stores, span_code}
+use Rattle.ec_select_startup.specs.Startup.{is_cleared, spans_code, main_code}
+use Rattle.ec_select_startup.specs.Laws.{source, target, CanBeSet, IsBeside, IsNoneOf, HasStack, IsSet, span_accesses}
+use Rattle.ec_select_startup.specs.Laws.{all_accesses, count_steps, turns_steps, bytes_steps, source_steps, span_steps}
+use Rattle.ec_select_startup.specs.Laws.{spans_steps, StartupIsRight}
+use Rattle.ec_select_startup.proofs.Bytes.{IsClear, clear_behind, outside_ne, noted-append}
 use Rattle.ec_select_startup.proofs.OneSpan.{span_sets, address_is}
 
 -- a run that has set the bytes of all spans
-record SetsAll (e : Env) (spans : List Span) (pc : ℕ) (v : View) (end : ℕ) : Type 0 where
+record SetsAll (e : Env) (clear : Bool) (spans : List Span) (pc : ℕ) (v : View) (end : ℕ) : Type 0 where
   last : View
-  goes : Goes e (spans_steps spans) pc v end last
+  goes : Goes e (spans_steps clear spans) pc v end last
   are_set : All (IsSet e last) spans
   same : (a : ℕ) → a ≢ 0 → Outside 24 4 a → Outside 30 2 a → All (IsNoneOf e a) spans → last.at a ≡ v.at a
   inputs : last.inputs ≡ v.inputs
@@ -42,45 +44,42 @@ count_most : (small : Bool) → count_steps small ≤ 2
 count_most true = omega arith
 count_most false = omega arith
 
-four_most : (few : Bool) (n : ℕ) → turns_steps 2 (if few then 4 else 3) n ≤ 2 + 4 * n
-four_most true n = let c = count_most (nat_le (n / 4) 255) in omega (arith, c)
-four_most false n = let c = count_most (nat_le (n / 3) 255) in omega (arith, c)
-
-eight_most : (few : Bool) (n : ℕ) → turns_steps 1 (if few then 8 else 7) n ≤ 2 + 4 * n
-eight_most true n = let c = count_most (nat_le (n / 8) 255) in omega (arith, c)
-eight_most false n = let c = count_most (nat_le (n / 7) 255) in omega (arith, c)
+-- q turns of t bytes and r more are n bytes
+loop_most : (filling : Filling) (c t q r n : ℕ) → c ≤ 2 → t * q + r ≡ n → q ≤ n
+    → c + (byte_words filling * t + 2) * q + byte_words filling * r ≤ 2 + 4 * n
+loop_most Copied c t q r n few sum l = omega (arith, few, sum, l)
+loop_most Cleared c t q r n few sum l = omega (arith, few, sum, l)
 
 turns_most : (filling : Filling) (n : ℕ) → turns_steps (byte_words filling) (bytes_a_turn filling n) n ≤ 2 + 4 * n
-turns_most Copied n = four_most (nat_le (n % 4) 2) n
-turns_most Cleared n = eight_most (nat_le (n % 8) 5) n
+turns_most filling n =
+    let t = bytes_a_turn filling n in
+    loop_most filling (count_steps (nat_le (n / t) 255)) t (n / t) (n % t) n (count_most (nat_le (n / t) 255)) (div-add-mod n t)
+    (div-le_self n t)
 
 row_most : (filling : Filling) (n : ℕ) → byte_words filling * n ≤ 2 + 4 * n
 row_most Copied n = omega arith
 row_most Cleared n = omega arith
 
-row_or_turns_most : (filling : Filling) (few : Bool) (n : ℕ) → row_or_turns_steps filling few n ≤ 2 + 4 * n
-row_or_turns_most filling true n = row_most filling n
-row_or_turns_most filling false n = turns_most filling n
-
 bytes_most : (filling : Filling) (few : Bool) (n : ℕ) → bytes_steps filling few n ≤ 4 + 4 * n
 bytes_most filling true n = let r = row_most filling n in omega (arith, r)
-bytes_most filling false n = let r = row_or_turns_most filling (nat_le n 8) n in omega (arith, r)
+bytes_most filling false n = let r = turns_most filling n in omega (arith, r)
 
-source_most : (filling : Filling) → source_steps filling ≤ 2
-source_most Copied = omega arith
-source_most Cleared = omega arith
+source_most : (clear : Bool) (filling : Filling) → source_steps clear filling ≤ 2
+source_most clear Copied = omega arith
+source_most true Cleared = omega arith
+source_most false Cleared = omega arith
 
-spans_most : (spans : List Span) → spans_steps spans ≤ sum_by (λ s. 6 + 4 * s.bytes) spans
-spans_most [] = omega arith
-spans_most (s ∷ ss) =
+spans_most : (clear : Bool) (spans : List Span) → spans_steps clear spans ≤ sum_by (λ s. 6 + 4 * s.bytes) spans
+spans_most clear [] = omega arith
+spans_most clear (s ∷ ss) =
     let a = bytes_most s.filling (nat_le s.bytes (most_stores s.filling)) s.bytes in
-    let b = source_most s.filling in
-    let c = spans_most ss in
+    let b = source_most clear s.filling in
+    let c = spans_most (is_cleared s.filling) ss in
     omega (arith, a, b, c, steps-cons s ss)
 
-spans_set : (e : Env) (spans : List Span) (v : View) (pc end : ℕ) → All (CanBeSet e) spans
-    → AllPairs (IsBeside e) spans → HasAt e (spans_code spans) pc end → SetsAll e spans pc v end
-spans_set e [] v pc end can apart at = record {
+spans_set : (e : Env) (clear : Bool) (spans : List Span) (v : View) (pc end : ℕ) → IsClear clear v → All (CanBeSet e) spans
+    → AllPairs (IsBeside e) spans → HasAt e (spans_code clear spans) pc end → SetsAll e clear spans pc v end
+spans_set e clear [] v pc end known can apart at = record {
   last = v;
   goes = record { by = ap (λ n. Running n v) (sym at) };
   are_set = All-nil (IsSet e v);
@@ -89,21 +88,23 @@ spans_set e [] v pc end can apart at = record {
   safe = refl;
   seen = sym (append-nil v.seen);
 }
-spans_set e (s ∷ ss) v pc end can apart at =
-    let parts = has_parts e (span_code s) (spans_code ss) pc end at in
+spans_set e clear (s ∷ ss) v pc end known can apart at =
+    let more = is_cleared s.filling in
+    let parts = has_parts e (span_code clear s) (spans_code more ss) pc end at in
     let mine = All-head (CanBeSet e) s ss can in
-    let first = span_sets e s mine v pc parts.0 parts.1 in
+    let first = span_sets e s mine clear v pc parts.0 known parts.1 in
     let v1 = first.last in
     let m = first.holds in
     let beside : All (IsBeside e s) ss = λ j d l. apart 0 (suc j) d (omega arith) (omega arith) in
-    let rest = spans_set e ss v1 parts.0 end (All-tail (CanBeSet e) s ss can)
+    let rest = spans_set e more ss v1 parts.0 end (clear_behind (source e s) s.filling s.bytes v1 m.ready)
+    (All-tail (CanBeSet e) s ss can)
     (λ i j d l h. apart (suc i) (suc j) d (omega arith) (omega arith)) parts.2 in
     let above = mine.above in
     let kept = λ (k : ℕ) (l : k < s.bytes). rest.same (target e s + k) (omega arith) (λ h. omega arith) (λ h. omega arith)
     (λ j d less. beside j d less k l) in
     record {
       last = rest.last;
-      goes = goes_on_to e (span_steps s) (spans_steps ss) pc parts.0 end v v1 rest.last first.goes rest.goes;
+      goes = goes_on_to e (span_steps clear s) (spans_steps more ss) pc parts.0 end v v1 rest.last first.goes rest.goes;
       are_set = All-cons (IsSet e rest.last) s ss (λ k l. kept k l ∙ m.here k l) rest.are_set;
       same = λ a n0 o24 o30 o.
           rest.same a n0 o24 o30 (All-tail (IsNoneOf e a) s ss o) ∙ m.same a n0 o24 o30 (All-head (IsNoneOf e a) s ss o);
@@ -149,12 +150,12 @@ none_below e spans a l can k d less = let above = (can k d less).above in λ h. 
 pub startup_is_right : StartupIsRight
 startup_is_right e spans main pc end v st can apart at =
     let finish = main_code main in
-    let parts = has_parts e stack_code (spans_code spans ++ finish) pc end at in
-    let more = has_parts e (spans_code spans) finish parts.0 end parts.2 in
+    let parts = has_parts e stack_code (spans_code false spans ++ finish) pc end at in
+    let more = has_parts e (spans_code false spans) finish parts.0 end parts.2 in
     let v1 = block e stack_code v in
     let p = stack_set e v st in
     let g = block_goes e stack_code pc parts.0 v refl parts.1 in
-    let r = spans_set e spans v1 parts.0 more.0 can apart more.1 in
+    let r = spans_set e false spans v1 parts.0 more.0 tt can apart more.1 in
     let w = r.last in
     let tail = more.2 in
     let ends = tail.2 in
@@ -163,12 +164,12 @@ startup_is_right e spans main pc end v st can apart at =
     let low : w.at 0x5D ≡ v1.at 0x5D = kept 0x5D (omega arith) (omega arith) (λ h. omega arith) (λ h. omega arith) in
     let high : w.at 0x5E ≡ v1.at 0x5E = kept 0x5E (omega arith) (omega arith) (λ h. omega arith) (λ h. omega arith) in
     let pointer : sp w ≡ e.address_of 1281 0 = ap (λ x. x + 256 * w.at 0x5E) low ∙ ap (λ x. v1.at 0x5D + 256 * x) high ∙ p.pointer in
-    let most = spans_most spans in
+    let most = spans_most false spans in
     record {
       at_most = omega (arith, most);
       call = more.0;
       last = w;
-      goes = goes_on_to e 4 (spans_steps spans) pc parts.0 more.0 v v1 w g r.goes;
+      goes = goes_on_to e 4 (spans_steps false spans) pc parts.0 more.0 v v1 w g r.goes;
       pointer = pointer;
       are_set = r.are_set;
       same = λ a n0 o24 o30 o5d o. r.same a n0 o24 o30 o ∙ p.same a o24 o5d;

@@ -1,6 +1,6 @@
 -- The words of the code before `main`.
 use Rattle.std.proofs.Common.{◌≡◌, ℕ, ◌+◌, ◌*◌, ◌/◌, ◌%◌, ◌≤◌, Bool, true, false, List, [], ◌∷◌, ◌++◌, length, refl, arith, leb-true}
-use Rattle.std.specs.Prelude.{nat_le, if◌then◌else◌}
+use Rattle.std.specs.Prelude.{nat_le}
 use Rattle.std.proofs.lemmas.List.Sums.{sum_by-append}
 use Rattle.ec_asm.specs.declared.items.AsmItem.{AsmItem}
 use Rattle.ec_asm.specs.Items.{code_words, item_words}
@@ -9,9 +9,10 @@ use Rattle.ec_select_startup.specs.declared.spans.Filling.{Filling}
 use Rattle.ec_select_startup.specs.declared.spans.Filling.TheVariants.{Copied, Cleared}
 use Rattle.ec_select_startup.specs.declared.spans.Span.{Span}
 use Rattle.ec_select_startup.specs.Startup.{address_code, stack_code, source_code, store_code, next_code, row_code, count_code}
-use Rattle.ec_select_startup.specs.Startup.{end_code, byte_words, loop_code, bytes_a_turn, turns_code, row_or_turns, stores_code}
-use Rattle.ec_select_startup.specs.Startup.{most_stores, bytes_by, bytes_code, span_code, spans_code, main_code}
+use Rattle.ec_select_startup.specs.Startup.{end_code, byte_words, loop_code, bytes_a_turn, turns_code, stores_code}
+use Rattle.ec_select_startup.specs.Startup.{most_stores, bytes_by, bytes_code, span_code, is_cleared, spans_code, main_code}
 use Rattle.ec_select_startup.specs.Laws.{StartupHasWords}
+use Rattle.ec_select_startup.proofs.PerTurn.{is_turn}
 
 joined : (a b : List AsmItem) → code_words (a ++ b) ≡ code_words a + code_words b
 joined a b = sum_by-append item_words a b
@@ -53,35 +54,21 @@ whole_words filling bytes n =
     let a = loop_words filling small bytes (n / bytes) in
     omega (arith, a, joined (loop_code filling small bytes (n / bytes)) (row_code filling (n % bytes)), row_words filling (n % bytes))
 
-copied_words : (few : Bool) (n : ℕ) → nat_le (n % 4) 2 ≡ few → code_words (turns_code Copied (if few then 4 else 3) n) ≤ 16
-copied_words true n q = let l = leb-true (n % 4) 2 q in let a = whole_words Copied 4 n in omega (arith, l, a)
-copied_words false n q = let a = whole_words Copied 3 n in omega (arith, a)
-
-cleared_words : (few : Bool) (n : ℕ) → nat_le (n % 8) 5 ≡ few → code_words (turns_code Cleared (if few then 8 else 7) n) ≤ 17
-cleared_words true n q = let l = leb-true (n % 8) 5 q in let a = whole_words Cleared 8 n in omega (arith, l, a)
-cleared_words false n q = let a = whole_words Cleared 7 n in omega (arith, a)
-
 abbrev source_words : Filling → ℕ
 source_words Copied = 2
 source_words Cleared = 1
 
-source_has_words : (filling : Filling) (from : ℕ) → code_words (source_code filling from) ≡ source_words filling
-source_has_words Copied from = refl
-source_has_words Cleared from = refl
+source_has_words : (clear : Bool) (filling : Filling) (from : ℕ) → code_words (source_code clear filling from) ≤ source_words filling
+source_has_words clear Copied from = omega arith
+source_has_words true Cleared from = omega arith
+source_has_words false Cleared from = omega arith
 
 turns_words : (filling : Filling) (n : ℕ)
-    → source_words filling + code_words (turns_code filling (bytes_a_turn filling n) n) ≤ 18
-turns_words Copied n = let a = copied_words (nat_le (n % 4) 2) n refl in omega (arith, a)
-turns_words Cleared n = let a = cleared_words (nat_le (n % 8) 5) n refl in omega (arith, a)
-
-few_words : (filling : Filling) (n : ℕ) → n ≤ 8 → source_words filling + code_words (row_code filling n) ≤ 18
-few_words Copied n l = omega (arith, l, row_words Copied n)
-few_words Cleared n l = omega (arith, l, row_words Cleared n)
-
-row_or_turns_words : (filling : Filling) (few : Bool) (n : ℕ) → nat_le n 8 ≡ few
-    → source_words filling + code_words (row_or_turns filling few n) ≤ 18
-row_or_turns_words filling true n q = few_words filling n (leb-true n 8 q)
-row_or_turns_words filling false n q = turns_words filling n
+    → source_words filling + code_words (turns_code filling (bytes_a_turn filling n) n) ≤ 13
+turns_words Copied n =
+    let w = (is_turn Copied n).words in let a = whole_words Copied (bytes_a_turn Copied n) n in omega (arith, w, a)
+turns_words Cleared n =
+    let w = (is_turn Cleared n).words in let a = whole_words Cleared (bytes_a_turn Cleared n) n in omega (arith, w, a)
 
 store_words : (filling : Filling) (to k : ℕ) → code_words (store_code filling to k) ≡ byte_words filling + 1
 store_words Copied to k = refl
@@ -96,21 +83,21 @@ bytes_words : (filling : Filling) (few : Bool) (to n : ℕ) → nat_le n (most_s
     → source_words filling + code_words (bytes_by filling few to n) ≤ 20
 bytes_words filling true to n q = stores_words filling to n (leb-true n (most_stores filling) q)
 bytes_words filling false to n q =
-    let code = row_or_turns filling (nat_le n 8) n in
-    let a = row_or_turns_words filling (nat_le n 8) n refl in
-    omega (arith, a, joined (address_code 26 to) code)
+    let a = turns_words filling n in
+    omega (arith, a, joined (address_code 26 to) (turns_code filling (bytes_a_turn filling n) n))
 
-spans_words : (spans : List Span) → code_words (spans_code spans) ≤ 20 * length spans
-spans_words [] = omega arith
-spans_words (s ∷ ss) =
-    let source = source_code s.filling s.from in
+spans_words : (clear : Bool) (spans : List Span) → code_words (spans_code clear spans) ≤ 20 * length spans
+spans_words clear [] = omega arith
+spans_words clear (s ∷ ss) =
+    let source = source_code clear s.filling s.from in
     let bytes = bytes_code s.filling s.to s.bytes in
     let a = bytes_words s.filling (nat_le s.bytes (most_stores s.filling)) s.to s.bytes refl in
-    let b = spans_words ss in
-    omega (arith, joined (span_code s) (spans_code ss), joined source bytes, source_has_words s.filling s.from, a, b)
+    let c = source_has_words clear s.filling s.from in
+    let b = spans_words (is_cleared s.filling) ss in
+    omega (arith, joined (span_code clear s) (spans_code (is_cleared s.filling) ss), joined source bytes, a, b, c)
 
 pub startup_has_words : StartupHasWords
 startup_has_words spans main =
     let finish = main_code main in
-    let a = spans_words spans in
-    omega (arith, joined stack_code (spans_code spans ++ finish), joined (spans_code spans) finish, a)
+    let a = spans_words false spans in
+    omega (arith, joined stack_code (spans_code false spans ++ finish), joined (spans_code false spans) finish, a)

@@ -19,7 +19,7 @@ use Rattle.ec_asm.specs.Valid.{Sizes, is_offset, is_valid_item, used_label, is_l
 use Rattle.ec_select_startup.specs.declared.spans.Filling.{Filling}
 use Rattle.ec_select_startup.specs.declared.spans.Filling.TheVariants.{Copied, Cleared}
 use Rattle.ec_select_startup.specs.declared.spans.Span.{Span}
-use Rattle.ec_select_startup.specs.Startup.{byte_words, bytes_a_turn, most_stores, startup_code}
+use Rattle.ec_select_startup.specs.Startup.{byte_words, bytes_a_turn, most_stores, is_cleared, startup_code}
 
 -- ---- where spans stand
 
@@ -95,30 +95,27 @@ count_steps false = 2
 abbrev pub turns_steps : (width bytes n : ℕ) → ℕ
 turns_steps width bytes n = count_steps (nat_le (n / bytes) 255) + (width * bytes + 2) * (n / bytes) + width * (n % bytes)
 
-abbrev pub row_or_turns_steps : Filling → (few : Bool) → ℕ → ℕ
-row_or_turns_steps filling true n = byte_words filling * n
-row_or_turns_steps filling false n = turns_steps (byte_words filling) (bytes_a_turn filling n) n
-
--- by their addresses one after another, or two for X and those by X
+-- by their addresses one after another, or two for X and those of a loop
 abbrev pub bytes_steps : Filling → (few : Bool) → ℕ → ℕ
 bytes_steps filling true n = byte_words filling * n
-bytes_steps filling false n = 2 + row_or_turns_steps filling (nat_le n 8) n
+bytes_steps filling false n = 2 + turns_steps (byte_words filling) (bytes_a_turn filling n) n
 
--- two for Z, or one to clear R0
-abbrev pub source_steps : Filling → ℕ
-source_steps Copied = 2
-source_steps Cleared = 1
+-- two for Z, or one to clear R0 where it is not yet clear
+abbrev pub source_steps : (clear : Bool) → Filling → ℕ
+source_steps clear Copied = 2
+source_steps true Cleared = 0
+source_steps false Cleared = 1
 
-abbrev pub span_steps : Span → ℕ
-span_steps s = source_steps s.filling + bytes_steps s.filling (nat_le s.bytes (most_stores s.filling)) s.bytes
+abbrev pub span_steps : (clear : Bool) → Span → ℕ
+span_steps clear s = source_steps clear s.filling + bytes_steps s.filling (nat_le s.bytes (most_stores s.filling)) s.bytes
 
-abbrev pub spans_steps : List Span → ℕ
-spans_steps [] = 0
-spans_steps (s ∷ ss) = span_steps s + spans_steps ss
+abbrev pub spans_steps : (clear : Bool) → List Span → ℕ
+spans_steps clear [] = 0
+spans_steps clear (s ∷ ss) = span_steps clear s + spans_steps (is_cleared s.filling) ss
 
 -- the steps before the call of `main`, whatever stands where
 abbrev pub startup_steps : List Span → ℕ
-startup_steps spans = 4 + spans_steps spans
+startup_steps spans = 4 + spans_steps false spans
 
 -- they are at most so many
 abbrev pub most_steps : List Span → ℕ

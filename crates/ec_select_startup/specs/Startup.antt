@@ -1,6 +1,6 @@
 -- The code before `main`. Spans name their initial bytes and their object by the numbers of items. 1,281 is the last
 -- byte of the stack.
-use Rattle.std.specs.Prelude.{ℕ, ◌+◌, ◌*◌, ◌/◌, ◌%◌, nat_le, Bool, true, false, if◌then◌else◌, List, [], ◌∷◌, ◌++◌, negsuc}
+use Rattle.std.specs.Prelude.{ℕ, ◌+◌, ◌*◌, ◌/◌, ◌%◌, nat_le, nat_lt, Bool, true, false, if◌then◌else◌, List, [], ◌∷◌, ◌++◌, negsuc}
 use Rattle.ec_isa.specs.declared.instructions.Instr.{Instr}
 use Rattle.ec_isa.specs.declared.instructions.Instr.TheVariants.{Ldi, Eor, LpmZPlus, StXPlus, Dec, Sbiw, Brbc, Break}
 use Rattle.ec_isa.specs.declared.instructions.Instr.TheVariants.{Rjmp, Out as OutInstr}
@@ -21,10 +21,11 @@ stack_code = address_code 24 1281 ++ (Plain (OutInstr 0x3E 25) ∷ Plain (OutIns
 
 -- ---- a span
 
--- Z points to the initial bytes, or R0 is cleared
-abbrev pub source_code : Filling → (from : ℕ) → List AsmItem
-source_code Copied from = address_code 30 from
-source_code Cleared from = Plain (Eor 0 0) ∷ []
+-- Z points to the initial bytes, or R0 is cleared where it is not yet clear
+abbrev pub source_code : (clear : Bool) → Filling → (from : ℕ) → List AsmItem
+source_code clear Copied from = address_code 30 from
+source_code true Cleared from = []
+source_code false Cleared from = Plain (Eor 0 0) ∷ []
 
 -- the next byte is in R0
 abbrev pub byte_code : Filling → List AsmItem
@@ -68,33 +69,27 @@ abbrev pub loop_code : Filling → (small : Bool) → (bytes turns : ℕ) → Li
 loop_code filling small bytes turns =
     count_code small turns ++ (row_code filling bytes ++ end_code small (byte_words filling * bytes))
 
--- four bytes a turn are copied, and three where four would leave three over; eight are cleared, and seven where eight
--- would leave six or seven over
+-- two bytes a turn are copied, and three cleared, or four where fewer are left over
 abbrev pub bytes_a_turn : Filling → ℕ → ℕ
-bytes_a_turn Copied n = if nat_le (n % 4) 2 then 4 else 3
-bytes_a_turn Cleared n = if nat_le (n % 8) 5 then 8 else 7
+bytes_a_turn Copied n = 2
+bytes_a_turn Cleared n = if nat_lt (n % 4) (n % 3) then 4 else 3
 
 -- whole turns, and what is left over one after another
 abbrev pub turns_code : Filling → (bytes n : ℕ) → List AsmItem
 turns_code filling bytes n =
     loop_code filling (nat_le (n / bytes) 255) bytes (n / bytes) ++ row_code filling (n % bytes)
 
-abbrev pub row_or_turns : Filling → (few : Bool) → ℕ → List AsmItem
-row_or_turns filling true n = row_code filling n
-row_or_turns filling false n = turns_code filling (bytes_a_turn filling n) n
-
--- up to eight bytes are set one after another, and more in a loop
 abbrev pub pointed_code : Filling → (to n : ℕ) → List AsmItem
-pointed_code filling to n = address_code 26 to ++ row_or_turns filling (nat_le n 8) n
+pointed_code filling to n = address_code 26 to ++ turns_code filling (bytes_a_turn filling n) n
 
 -- ---- the whole
 
 abbrev pub stores_code : Filling → (to n : ℕ) → List AsmItem
 stores_code filling to n = chain (store_code filling to) n
 
--- as many bytes are set by their addresses
+-- as many bytes are set by their addresses, and more in a loop
 abbrev pub most_stores : Filling → ℕ
-most_stores Copied = 6
+most_stores Copied = 3
 most_stores Cleared = 8
 
 abbrev pub bytes_by : Filling → (few : Bool) → (to n : ℕ) → List AsmItem
@@ -104,12 +99,17 @@ bytes_by filling false to n = pointed_code filling to n
 abbrev pub bytes_code : Filling → (to n : ℕ) → List AsmItem
 bytes_code filling to n = bytes_by filling (nat_le n (most_stores filling)) to n
 
-abbrev pub span_code : Span → List AsmItem
-span_code s = source_code s.filling s.from ++ bytes_code s.filling s.to s.bytes
+abbrev pub span_code : (clear : Bool) → Span → List AsmItem
+span_code clear s = source_code clear s.filling s.from ++ bytes_code s.filling s.to s.bytes
 
-abbrev pub spans_code : List Span → List AsmItem
-spans_code [] = []
-spans_code (s ∷ ss) = span_code s ++ spans_code ss
+-- whether R0 is clear behind the code of a span
+abbrev pub is_cleared : Filling → Bool
+is_cleared Copied = false
+is_cleared Cleared = true
+
+abbrev pub spans_code : (clear : Bool) → List Span → List AsmItem
+spans_code clear [] = []
+spans_code clear (s ∷ ss) = span_code clear s ++ spans_code (is_cleared s.filling) ss
 
 -- `main` is called, and the machine ends where it returns. Behind BREAK a jump to itself stands, since BREAK is passed
 -- as NOP where no debugger is attached (Microchip AVR Instruction Set Manual)
@@ -117,4 +117,4 @@ abbrev pub main_code : (main : ℕ) → List AsmItem
 main_code main = CallTo main ∷ Plain Break ∷ Plain (Rjmp (negsuc 0)) ∷ []
 
 abbrev pub startup_code : List Span → (main : ℕ) → List AsmItem
-startup_code spans main = stack_code ++ (spans_code spans ++ main_code main)
+startup_code spans main = stack_code ++ (spans_code false spans ++ main_code main)

@@ -1,9 +1,9 @@
 //! The stack pointer, the initial bytes of objects, and the call of `main`.
-ghost use Rattle.std.specs.Prelude.{◌≡◌, ◌++◌, ◌<◌, ◌≤◌, nat_le, OnOk, OnErr};
+ghost use Rattle.std.specs.Prelude.{◌≡◌, ◌+◌, ◌++◌, ◌<◌, ◌≤◌, false, nat_le, OnOk, OnErr};
 ghost use Rattle.ec_runs.specs.Behaviours.{BeginWith};
 ghost use Rattle.ec_select_startup.specs.Startup.{address_code, stack_code, source_code, byte_code, stores_code, row_code};
 ghost use Rattle.ec_select_startup.specs.Startup.{count_code, down, end_code, byte_words, loop_code, bytes_a_turn, turns_code};
-ghost use Rattle.ec_select_startup.specs.Startup.{pointed_code, most_stores, span_code, spans_code, startup_code};
+ghost use Rattle.ec_select_startup.specs.Startup.{pointed_code, most_stores, span_code, is_cleared, spans_code, startup_code};
 
 use ec_asm::AsmItem;
 use ec_isa::Instr;
@@ -64,13 +64,14 @@ fn stack(out: &mut Seq<AsmItem>) -> Result<(), NoMemory>
     ])
 }
 
-/// Appends code that sets Z to the first initial byte, or clears R0.
-fn source(out: &mut Seq<AsmItem>, filling: Filling, from: u16) -> Result<(), NoMemory>
-    ensures ok { OnOk result (out.new.items ≡ out.old.items ++ source_code filling from) }
+/// Appends code that sets Z to the first initial byte, or clears R0 where it is not yet clear.
+fn source(out: &mut Seq<AsmItem>, clear: bool, filling: Filling, from: u16) -> Result<(), NoMemory>
+    ensures ok { OnOk result (out.new.items ≡ out.old.items ++ source_code clear filling from) }
     ensures err { OnErr result (BeginWith out.old.items out.new.items) }
 {
     match filling {
         Filling::Copied => address(out, 30, from),
+        Filling::Cleared if clear => Ok(()),
         Filling::Cleared => out.extend_from_slice(&[AsmItem::Plain(Instr::Eor { d: 0, r: 0 })]),
     }
 }
@@ -147,7 +148,7 @@ fn down(small: bool) -> Instr
 
 /// Appends the end of a turn: the count goes down, and where it is not yet 0 the code branches back over so many words.
 fn end(out: &mut Seq<AsmItem>, small: bool, words: u16) -> Result<(), NoMemory>
-    requires { words ≤ 16 }
+    requires { words ≤ 8 }
     ensures ok { OnOk result (out.new.items ≡ out.old.items ++ end_code small words) }
     ensures err { OnErr result (out.new.items ≡ out.old.items) }
 {
@@ -176,7 +177,7 @@ fn repeated(
     bytes: u16,
     turns: u16,
 ) -> Result<(), NoMemory>
-    requires { bytes ≤ 8 }
+    requires { bytes ≤ 4 }
     ensures ok { OnOk result (out.new.items ≡ out.old.items ++ loop_code filling (nat_le turns 255) bytes turns) }
     ensures err { OnErr result (BeginWith out.old.items out.new.items) }
 {
@@ -185,15 +186,17 @@ fn repeated(
     end(out, turns <= 255, byte_words(filling) * bytes)
 }
 
-/// How many bytes a turn of a loop over so many bytes sets.
+/// How many bytes a turn of a loop over so many bytes sets. More would take fewer steps, but the code runs once, and each
+/// byte of a turn takes words.
 fn bytes_a_turn(filling: Filling, bytes: u16) -> u16
     ensures is { result ≡ bytes_a_turn filling bytes }
     ensures some { 1 ≤ result }
-    ensures few { result ≤ 8 }
+    ensures few { result ≤ 4 }
 {
     match filling {
-        Filling::Copied => { if bytes % 4 <= 2 { 4 } else { 3 } }
-        Filling::Cleared => { if bytes % 8 <= 5 { 8 } else { 7 } }
+        Filling::Copied => 2,
+        Filling::Cleared if bytes % 4 < bytes % 3 => 4,
+        Filling::Cleared => 3,
     }
 }
 
@@ -218,11 +221,7 @@ fn pointed(
     ensures err { OnErr result (BeginWith out.old.items out.new.items) }
 {
     address(out, 26, object)?;
-    if bytes <= 8 {
-        row(out, filling, bytes)
-    } else {
-        turns(out, filling, bytes)
-    }
+    turns(out, filling, bytes)
 }
 
 /// As many bytes are set by their addresses.
@@ -230,17 +229,27 @@ fn most_stores(filling: Filling) -> u16
     ensures { result ≡ most_stores filling }
 {
     match filling {
-        Filling::Copied => 6,
+        Filling::Copied => 3,
         Filling::Cleared => 8,
     }
 }
 
-/// Appends code that sets the bytes of a span.
-fn set_span(out: &mut Seq<AsmItem>, span: Span) -> Result<(), NoMemory>
-    ensures ok { OnOk result (out.new.items ≡ out.old.items ++ span_code span) }
+/// Whether R0 is clear behind the code of a span.
+fn is_cleared(filling: Filling) -> bool
+    ensures { result ≡ is_cleared filling }
+{
+    match filling {
+        Filling::Copied => false,
+        Filling::Cleared => true,
+    }
+}
+
+/// Appends code that sets the bytes of a span, before which R0 may be clear.
+fn set_span(out: &mut Seq<AsmItem>, clear: bool, span: Span) -> Result<(), NoMemory>
+    ensures ok { OnOk result (out.new.items ≡ out.old.items ++ span_code clear span) }
     ensures err { OnErr result (BeginWith out.old.items out.new.items) }
 {
-    source(out, span.filling, span.from)?;
+    source(out, clear, span.filling, span.from)?;
     if span.bytes <= most_stores(span.filling) {
         stores(out, span.filling, span.to, span.bytes)
     } else {
@@ -248,12 +257,15 @@ fn set_span(out: &mut Seq<AsmItem>, span: Span) -> Result<(), NoMemory>
     }
 }
 
+/// Appends code that sets the bytes of all spans. R0 is cleared where a span of zeros stands first or behind a copy.
 fn set_spans(out: &mut Seq<AsmItem>, spans: &[Span]) -> Result<(), NoMemory>
-    ensures ok { OnOk result (out.new.items ≡ out.old.items ++ spans_code spans.now) }
+    ensures ok { OnOk result (out.new.items ≡ out.old.items ++ spans_code false spans.now) }
     ensures err { OnErr result (BeginWith out.old.items out.new.items) }
 {
+    let mut clear = false;
     for span in spans {
-        set_span(out, *span)?;
+        set_span(out, clear, *span)?;
+        clear = is_cleared(span.filling);
     }
     Ok(())
 }
