@@ -1,5 +1,6 @@
 -- What is known of a binary operator's result is so.
-use Rattle.std.proofs.Common.{◌≡◌, ◌⊎◌, inl, inr, ⊎_elim, ℕ, ◌*◌, ◌/◌, ◌%◌, ◌^◌, ◌<◌, ◌≤◌, Bool, true, false, ℤ, pos, negsuc}
+use Rattle.std.proofs.Common.{◌≡◌, ◌⊎◌, inl, inr, ⊎_elim, ℕ, ◌+◌, ◌-◌, ◌*◌, ◌/◌, ◌%◌, ◌^◌, ◌<◌, ◌≤◌, Bool, true, false, ℤ, pos, negsuc}
+use Rattle.std.proofs.Common.{pow-add, pow_pos, div-lt_iff_lt-mul}
 use Rattle.std.proofs.Common.{◌&&◌, not, unsigned_abs, bit_and, bit_or, bit_xor}
 use Rattle.std.proofs.Common.{Option, Some, None, Result, Ok, Err, refl, sym, ap, ◌∙◌, subst, arith}
 use Rattle.std.specs.Prelude.{◌==◌, if◌then◌else◌, nat_le, nat_lt, int_lt}
@@ -32,10 +33,11 @@ use Rattle.ec_ir.specs.declared.operations.Temp.{Temp}
 use Rattle.ec_ir.specs.Temporaries.{Content, bits, points, Held, Temps, low_bytes, content_of, value_of_type}
 use Rattle.ec_ir_known.specs.declared.known.KnownNumber.{KnownNumber}
 use Rattle.ec_ir_known.specs.Known.{Known, is_wide_type, is_small, is_byte, is_below, is_low, is_low_result, leaves_byte}
-use Rattle.ec_ir_known.specs.Known.{byte_in, byte_where}
+use Rattle.ec_ir_known.specs.Known.{byte_in, byte_where, is_any, is_wide, is_filled, is_filled_type, is_count_from, top_count}
+use Rattle.ec_ir_known.specs.Known.{operand_number, leaves_top}
 use Rattle.ec_ir_known.specs.Laws.{are_bits}
-use Rattle.ec_ir_known.proofs.Places.{holding, IsSo, Knows, byte_so, byte_left_so}
-use Rattle.ec_ir_known.proofs.Converted.{of_type, wrapped_byte, wide_bytes, are_wide, low_of_byte}
+use Rattle.ec_ir_known.proofs.Places.{any_number, holding, IsSo, Knows, byte_so, bytes_left_so}
+use Rattle.ec_ir_known.proofs.Converted.{of_type, wrapped_byte, wide_bytes, are_wide, low_of_byte, content_there, is_operand}
 
 -- a value below 256
 record IsSmall (v : Value) : Type 0 where
@@ -71,12 +73,12 @@ below_there : (o : Option KnownNumber) (bytes low : ℕ) (h : Held) → is_below
 below_there None bytes low h q so c = absurd cc
 below_there (Some k) bytes low h q so c = by_number k.number refl
   where
-    there : are_bits k.number k.bytes (bits low) ≡ true
-    there = subst (λ (x : Content). are_bits k.number k.bytes x ≡ true) c
-        (and_parts (h.bytes == k.bytes) (are_bits k.number k.bytes h.content) (so k refl)).1
+    there : are_bits k.number k.width k.bytes (bits low) ≡ true
+    there = subst (λ (x : Content). are_bits k.number k.width k.bytes x ≡ true) c
+        (and_parts (h.bytes == k.bytes) (are_bits k.number k.width k.bytes h.content) (so k refl)).1
 
-    small : is_small k.number ≡ true
-    small = (and_parts (k.bytes == bytes) (is_small k.number) q).1
+    small : is_small k.number k.width ≡ true
+    small = (and_parts (k.bytes == bytes) (is_small k.number k.width) q).1
 
     by_value : (n : ℤ) → is_byte n ≡ true → low ≡ low_bytes k.bytes n → low < 256
     by_value (pos x) w e =
@@ -87,11 +89,14 @@ below_there (Some k) bytes low h q so c = by_number k.number refl
 
     by_number : (n : Option ℤ) → k.number ≡ n → low < 256
     by_number None e =
-        let t : nat_lt low 256 ≡ true = subst (λ (x : Option ℤ). are_bits x k.bytes (bits low) ≡ true) e there in
+        let one : (k.width == 1) ≡ true = subst (λ (x : Option ℤ). is_small x k.width ≡ true) e small in
+        let t : nat_lt low 256 ≡ true =
+        subst (λ (x : ℕ). nat_lt low (256 ^ x) ≡ true) (eqb-true k.width 1 one)
+        (subst (λ (x : Option ℤ). are_bits x k.width k.bytes (bits low) ≡ true) e there) in
         grind (arith, nat_tests, t)
     by_number (Some n) e =
-        let t : (low == low_bytes k.bytes n) ≡ true = subst (λ (x : Option ℤ). are_bits x k.bytes (bits low) ≡ true) e there in
-        let w : is_byte n ≡ true = subst (λ (x : Option ℤ). is_small x ≡ true) e small in
+        let t : (low == low_bytes k.bytes n) ≡ true = subst (λ (x : Option ℤ). are_bits x k.width k.bytes (bits low) ≡ true) e there in
+        let w : is_byte n ≡ true = subst (λ (x : Option ℤ). is_small x k.width ≡ true) e small in
         by_value n w (eqb-true low (low_bytes k.bytes n) t)
 
 -- a small operand of such a type
@@ -122,6 +127,142 @@ low_operand program known temps a ty h x knows i e q =
         small_number low below x (sym seen ∙ e)
     by_content w q e (points p) c =
         let none = ap (value_of_type program (integer w.signed w.bytes)) (sym c) ∙ e in absurd cc
+
+-- ---- counts that leave a top byte alone
+
+-- an operand without a sign, of two or four bytes
+record IsFilled (a : Temp) (ty : PlainType) (x : Value) : Type 0 where
+  type : ty ≡ integer false a.bytes
+  more : (a.bytes ≡ 2) ⊎ (a.bytes ≡ 4)
+  low : ℕ
+  is : x ≡ Number (pos low)
+  below : low < 256 ^ a.bytes
+
+-- a count of at least so much
+record IsCountFrom (least : ℕ) (ty : PlainType) (y : Value) : Type 0 where
+  wide : WideType ty
+  count : ℕ
+  is : y ≡ Number (pos count)
+  most : least ≤ count
+
+filled_there : (o : Option KnownNumber) (bytes low : ℕ) (h : Held) → is_filled bytes o ≡ true
+    → ((k : KnownNumber) → o ≡ Some k → IsSo k (Some h)) → h.content ≡ bits low → low < 256 ^ bytes
+filled_there None bytes low h q so c = absurd cc
+filled_there (Some k) bytes low h q so c = by_number k.number refl
+  where
+    there : are_bits k.number k.width k.bytes (bits low) ≡ true
+    there = subst (λ (x : Content). are_bits k.number k.width k.bytes x ≡ true) c
+        (and_parts (h.bytes == k.bytes) (are_bits k.number k.width k.bytes h.content) (so k refl)).1
+
+    any : is_any k.number k.width bytes ≡ true
+    any = (and_parts (k.bytes == bytes) (is_any k.number k.width bytes) q).1
+
+    by_number : (n : Option ℤ) → k.number ≡ n → low < 256 ^ bytes
+    by_number None e =
+        let all : (k.width == bytes) ≡ true = subst (λ (x : Option ℤ). is_any x k.width bytes ≡ true) e any in
+        let t : nat_lt low (256 ^ bytes) ≡ true =
+        subst (λ (x : ℕ). nat_lt low (256 ^ x) ≡ true) (eqb-true k.width bytes all)
+        (subst (λ (x : Option ℤ). are_bits x k.width k.bytes (bits low) ≡ true) e there) in
+        grind (arith, nat_tests, t)
+    by_number (Some n) e =
+        let no : is_any (Some n) k.width bytes ≡ true = subst (λ (x : Option ℤ). is_any x k.width bytes ≡ true) e any in absurd cc
+
+module _ (program : PlainProgram) (known : Known) (temps : Temps) (a : Temp) (h : Held) (x : Value) (knows : Knows known temps)
+    (i : temps a.at ≡ Some h) where
+  held_so : (k : KnownNumber) → known a.at ≡ Some k → IsSo k (Some h)
+  held_so k q = subst (λ (o : Option Held). IsSo k o) i (knows a.at k q)
+
+  filled_operand : (ty : PlainType) → value_of_type program ty h.content ≡ Ok x → is_filled_type known a ty ≡ true → IsFilled a ty x
+  filled_operand (integer true b) e q = absurd cc
+  filled_operand (integer false b) e q = by_content h.content refl
+    where
+      p : (is_wide b ≡ true) × ((a.bytes == b && is_filled b (known a.at)) ≡ true)
+      p = and_parts (is_wide b) (a.bytes == b && is_filled b (known a.at)) q
+
+      parts : ((a.bytes == b) ≡ true) × (is_filled b (known a.at) ≡ true)
+      parts = and_parts (a.bytes == b) (is_filled b (known a.at)) p.1
+
+      size : b ≡ a.bytes
+      size = sym (eqb-true a.bytes b parts.0)
+
+      by_content : (c : Content) → h.content ≡ c → IsFilled a (integer false b) x
+      by_content (bits low) c =
+          let below = filled_there (known a.at) b low h parts.1 held_so c in
+          let both : Ok (Number (pos low)) ≡ Ok x = sym (ap (value_of_type program (integer false b)) c) ∙ e in
+          let is : Number (pos low) ≡ x = cc in
+          record {
+            type = ap (integer false) size;
+            more = subst (λ (n : ℕ). (n ≡ 2) ⊎ (n ≡ 4)) size (are_wide b p.0);
+            low = low;
+            is = sym is;
+            below = subst (λ (n : ℕ). low < 256 ^ n) size below;
+          }
+      by_content (points z) c =
+          let none = ap (value_of_type program (integer false b)) (sym c) ∙ e in absurd cc
+  filled_operand void e q = absurd cc
+  filled_operand (fixed kind saturates) e q = absurd cc
+  filled_operand (pointer space const target) e q = absurd cc
+  filled_operand (array of len) e q = absurd cc
+  filled_operand (struct index) e q = absurd cc
+
+  -- a known count below 256, as an operand of two or four bytes
+  module _ (least : ℕ) (w : (ty : PlainType) → is_wide_type ty ≡ true → WideType ty) where
+    count_there : (s : Bool) (b : ℕ) → value_of_type program (integer s b) h.content ≡ Ok x → is_wide b ≡ true
+        → (o : Option ℤ) → operand_number known a (integer s b) ≡ o → is_count_from least o ≡ true → IsCountFrom least (integer s b) x
+    count_there s b e q None f r = absurd cc
+    count_there s b e q (Some (negsuc n)) f r = absurd cc
+    count_there s b e q (Some (pos n)) f r =
+        let o = is_operand a s b known (pos n) f in
+        let content = content_there b o.width (pos n) h (held_so _ o.operand) in
+        let both = and_parts (is_byte (pos n)) (not (int_lt (pos n) (pos least))) r in
+        let t = (and_parts (not (int_lt (pos n) (pos 0))) (int_lt (pos n) (pos 256)) both.0).1 in
+        let l : n < 256 = grind (arith, nat_tests, t) in
+        let u = both.1 in
+        let from : least ≤ n = grind (arith, nat_tests, u) in
+        let more = are_wide b q in
+        let same : low_bytes b (pos n) ≡ n = small_low b n more l in
+        let seen : value_of_type program (integer s b) h.content ≡ Ok (Number (pos n)) =
+        ap (value_of_type program (integer s b)) (content ∙ ap bits same)
+        ∙ ap (λ (z : ℤ). Ok (Number z)) (wide_bytes s b n more l) in
+        let both_are : Ok (Number (pos n)) ≡ Ok x = sym seen ∙ e in
+        let is : Number (pos n) ≡ x = cc in
+        record { wide = w (integer s b) q; count = n; is = sym is; most = from }
+      where
+        small_low : (b n : ℕ) → (b ≡ 2) ⊎ (b ≡ 4) → n < 256 → low_bytes b (pos n) ≡ n
+        small_low b n (inl q) l = rw q (omega (arith, l))
+        small_low b n (inr q) l = rw q (omega (arith, l))
+
+  count_operand : (least : ℕ) (ty : PlainType) → value_of_type program ty h.content ≡ Ok x → is_wide_type ty ≡ true
+      → is_count_from least (operand_number known a ty) ≡ true → IsCountFrom least ty x
+  count_operand least (integer s b) e q r = count_there least wide_type s b e q (operand_number known a (integer s b)) refl r
+  count_operand least void e q r = absurd cc
+  count_operand least (fixed kind saturates) e q r = absurd cc
+  count_operand least (pointer space const target) e q r = absurd cc
+  count_operand least (array of len) e q r = absurd cc
+  count_operand least (struct index) e q r = absurd cc
+
+-- what such a count leaves of a number
+few_left : (x b c : ℕ) → (b ≡ 2) ⊎ (b ≡ 4) → x < 256 ^ b → top_count b ≤ c → x / 2 ^ c < 256
+few_left x b c (inl q) l m =
+    let m1 : 8 ≤ c = subst (λ (z : ℕ). top_count z ≤ c) q m in
+    let l1 : x < 65536 = subst (λ (z : ℕ). x < 256 ^ z) q l in
+    let p = 2 ^ (c - 8) in
+    let some : 0 < p = pow_pos (c - 8) in
+    let is : c ≡ (c - 8) + 8 = omega (arith, m1) in
+    let e : 2 ^ c ≡ p * 256 = ap (λ (z : ℕ). 2 ^ z) is ∙ pow-add 2 (c - 8) 8 in
+    let least : 256 ≤ p * 256 = omega (arith, some) in
+    let least2 : 256 * 256 ≤ 256 * (p * 256) = omega (arith, least) in
+    subst (λ (z : ℕ). x / z < 256) (sym e) ((div-lt_iff_lt-mul (omega (arith, least))).1 (omega (arith, l1, least2)))
+few_left x b c (inr q) l m =
+    let m1 : 24 ≤ c = subst (λ (z : ℕ). top_count z ≤ c) q m in
+    let l1 : x < 4294967296 = subst (λ (z : ℕ). x < 256 ^ z) q l in
+    let p = 2 ^ (c - 24) in
+    let some : 0 < p = pow_pos (c - 24) in
+    let is : c ≡ (c - 24) + 24 = omega (arith, m1) in
+    let e : 2 ^ c ≡ p * 16777216 = ap (λ (z : ℕ). 2 ^ z) is ∙ pow-add 2 (c - 24) 24 in
+    let least : 16777216 ≤ p * 16777216 = omega (arith, some) in
+    let least2 : 256 * 16777216 ≤ 256 * (p * 16777216) = omega (arith, least) in
+    subst (λ (z : ℕ). x / z < 256) (sym e) ((div-lt_iff_lt-mul (omega (arith, least))).1 (omega (arith, l1, least2)))
 
 -- ---- comparisons
 
@@ -231,6 +372,15 @@ module _ (s : Bool) (b : ℕ) (more : (b ≡ 2) ⊎ (b ≡ 4)) where
           subst (λ (z : ℤ). GivesSmall (Ok (Number z))) (sym (wrapped_byte s b (l / d) more m)) (small_number (l / d) m)
       by_count false = λ v e. absurd cc
 
+  topped : (l c : ℕ) → l / 2 ^ c < 256 → GivesSmall (as_number (right_shift (of_type s b) (pos l) (pos c)))
+  topped l c m = by_count (is_count (width_of (of_type s b)) (pos c))
+    where
+      by_count : (t : Bool)
+          → GivesSmall (as_number (if t then Ok (wrapped (of_type s b) (int_div_euclid (pos l) (pos (2 ^ c)))) else Err ShiftCount))
+      by_count true =
+          subst (λ (z : ℤ). GivesSmall (Ok (Number z))) (sym (wrapped_byte s b (l / 2 ^ c) more m)) (small_number (l / 2 ^ c) m)
+      by_count false = λ v e. absurd cc
+
   -- an operand of an integer type as it stands
   low_scaled : (ty : PlainType) (x : Value) (i : IsLow ty x) → scaled (operand (number_type ty) (pos i.small.low)) ≡ pos i.small.low
   low_scaled ty x i = ap (λ (z : PlainType). scaled (operand (number_type z) (pos i.small.low))) i.wide.type
@@ -284,22 +434,36 @@ module _ (s : Bool) (b : ℕ) (more : (b ≡ 2) ⊎ (b ≡ 4)) where
             (shifted i.small.low m i.small.below)
         by_other (Pointer q) = λ v e. absurd cc
 
-    low_small : (op : BinOp) (x y : Value) (left right : Bool) → is_low_result op left right ≡ true
-        → (left ≡ true → IsLow a.ty x) → (right ≡ true → IsLow c.ty y) → Gives op x y
-    low_small And x y left right q f g =
+    -- of the first operand so many bytes are there
+    shift_top : (x y : Value) (t : Temp) (i : IsFilled t a.ty x) (j : IsCountFrom (top_count t.bytes) c.ty y) → Gives Shr x y
+    shift_top x y t i j =
+        subst (λ (z : Value). Gives Shr z y) (sym i.is)
+        (subst (λ (z : Value). Gives Shr (Number (pos i.low)) z) (sym j.is)
+        (subst (λ (z : ℤ). GivesSmall (as_number (right_shift (of_type s b) z (scaled (operand (number_type c.ty) (pos j.count))))))
+        (sym (ap (λ (z : PlainType). scaled (operand (number_type z) (pos i.low))) i.type))
+        (subst (λ (z : ℤ). GivesSmall (as_number (right_shift (of_type s b) (pos i.low) z)))
+        (sym (ap (λ (z : PlainType). scaled (operand (number_type z) (pos j.count))) j.wide.type))
+        (topped i.low j.count (few_left i.low t.bytes j.count i.more i.below j.most)))))
+
+    low_small : (op : BinOp) (x y : Value) (left right top : Bool) (t : Temp) → is_low_result op left right top ≡ true
+        → (left ≡ true → IsLow a.ty x) → (right ≡ true → IsLow c.ty y)
+        → (top ≡ true → IsFilled t a.ty x × IsCountFrom (top_count t.bytes) c.ty y) → Gives op x y
+    low_small And x y left right top u q f g w =
         ⊎_elim (λ (t : left ≡ true). and_first x y (f t)) (λ (t : right ≡ true). and_second x y (g t)) (or_cases left right q)
-    low_small Or x y left right q f g =
+    low_small Or x y left right top u q f g w =
         let t = and_parts left right q in
         let i = f t.0 in
         let j = g t.1 in
         of_both Or bit_or x y i j refl (or_both i.small.low j.small.low i.small.below j.small.below)
-    low_small Xor x y left right q f g =
+    low_small Xor x y left right top u q f g w =
         let t = and_parts left right q in
         let i = f t.0 in
         let j = g t.1 in
         of_both Xor bit_xor x y i j refl (xor_both i.small.low j.small.low i.small.below j.small.below)
-    low_small Shr x y left right q f g = shift_first x y (f q)
-    low_small op x y left right q f g = absurd cc
+    low_small Shr x y left right top u q f g w =
+        ⊎_elim (λ (t : left ≡ true). shift_first x y (f t))
+        (λ (t : top ≡ true). let both = w t in shift_top x y u both.0 both.1) (or_cases left top q)
+    low_small op x y left right top u q f g w = absurd cc
 
 -- ---- what a binary operator leaves
 
@@ -310,16 +474,17 @@ module _ (program : PlainProgram) (to a b : Temp) (mode : Mode) (known : Known) 
 
   small_left : IsSmall v → byte_in to ≡ Some k → Left
   small_left m g =
-      let fact_is : record { bytes = to.bytes; number = None } ≡ k = cc in
+      let fact_is : any_number to.bytes 1 ≡ k = cc in
       subst (λ (z : KnownNumber). IsSo z (Some (holding to.bytes (content_of to.bytes v)))) fact_is
-      (subst (λ (z : Value). IsSo (record { bytes = to.bytes; number = None }) (Some (holding to.bytes (content_of to.bytes z)))) (sym m.is)
+      (subst (λ (z : Value). IsSo (any_number to.bytes 1) (Some (holding to.bytes (content_of to.bytes z)))) (sym m.is)
       (byte_so to.bytes (low_bytes to.bytes (pos m.low)) (low_of_byte to.bytes m.low m.below)))
 
   pub binary_left : (op : BinOp) (ty aty bty : PlainType) → value_of_type program aty h1.content ≡ Ok x
       → value_of_type program bty h2.content ≡ Ok y
       → binary_result op ty mode (operand_of program aty x s) (operand_of program bty y s) ≡ Ok v
-      → byte_where to (leaves_byte op ty (is_low known a aty) (is_low known b bty)) ≡ Some k → Left
-  binary_left op ty aty bty e f w g = by_byte (leaves_byte op ty (is_low known a aty) (is_low known b bty)) refl g
+      → byte_where to (leaves_byte op ty (is_low known a aty) (is_low known b bty) (leaves_top known a aty b bty)) ≡ Some k → Left
+  binary_left op ty aty bty e f w g =
+      by_byte (leaves_byte op ty (is_low known a aty) (is_low known b bty) (leaves_top known a aty b bty)) refl g
     where
       p : Operand
       p = operand_of program aty x s
@@ -327,18 +492,32 @@ module _ (program : PlainProgram) (to a b : Temp) (mode : Mode) (known : Known) 
       q : Operand
       q = operand_of program bty y s
 
-      low : is_wide_type ty ≡ true → is_low_result op (is_low known a aty) (is_low known b bty) ≡ true → IsSmall v
+      left_top : Bool
+      left_top = leaves_top known a aty b bty
+
+      by_top : left_top ≡ true → IsFilled a aty x × IsCountFrom (top_count a.bytes) bty y
+      by_top t =
+          let p = and_parts (is_filled_type known a aty)
+          (is_wide_type bty && is_count_from (top_count a.bytes) (operand_number known b bty)) t in
+          let z = and_parts (is_wide_type bty) (is_count_from (top_count a.bytes) (operand_number known b bty)) p.1 in (
+            filled_operand program known temps a h1 x knows i aty e p.0,
+            count_operand program known temps b h2 y knows j (top_count a.bytes) bty f z.0 z.1,
+          )
+
+      low : is_wide_type ty ≡ true → is_low_result op (is_low known a aty) (is_low known b bty) left_top ≡ true → IsSmall v
       low t r =
           let u = wide_type ty t in
-          low_small u.signed u.bytes u.more mode p q op x y (is_low known a aty) (is_low known b bty) r
+          low_small u.signed u.bytes u.more mode p q op x y (is_low known a aty) (is_low known b bty) left_top a r
           (λ l. low_operand program known temps a aty h1 x knows i e l) (λ l. low_operand program known temps b bty h2 y knows j f l)
+          by_top
           v (subst (λ (z : PlainType). binary_of op z mode p x q y ≡ Ok v) u.type w)
 
-      by_byte : (c : Bool) → leaves_byte op ty (is_low known a aty) (is_low known b bty) ≡ c → byte_where to c ≡ Some k → Left
+      by_byte : (c : Bool) → leaves_byte op ty (is_low known a aty) (is_low known b bty) left_top ≡ c → byte_where to c ≡ Some k → Left
       by_byte true t g =
           small_left
           (⊎_elim (λ (r : is_comparison op ≡ true). compared_small op r ty mode p x q y v w)
-          (λ (r : (is_wide_type ty && is_low_result op (is_low known a aty) (is_low known b bty)) ≡ true).
-          let parts = and_parts (is_wide_type ty) (is_low_result op (is_low known a aty) (is_low known b bty)) r in low parts.0 parts.1)
-          (or_cases (is_comparison op) (is_wide_type ty && is_low_result op (is_low known a aty) (is_low known b bty)) t)) g
-      by_byte false t g = byte_left_so to v k g
+          (λ (r : (is_wide_type ty && is_low_result op (is_low known a aty) (is_low known b bty) left_top) ≡ true).
+          let parts = and_parts (is_wide_type ty) (is_low_result op (is_low known a aty) (is_low known b bty) left_top) r in
+          low parts.0 parts.1)
+          (or_cases (is_comparison op) (is_wide_type ty && is_low_result op (is_low known a aty) (is_low known b bty) left_top) t)) g
+      by_byte false t g = bytes_left_so to v k g

@@ -2,7 +2,7 @@
 use Rattle.std.proofs.Common.{◌≡◌, ◌⊎◌, inl, inr, ⊎_elim, ℕ, zero, suc, ◌+◌, ◌*◌, ◌%◌, ◌^◌, ◌<◌, ◌≤◌, Bool, true, false, ℤ, pos}
 use Rattle.std.proofs.Common.{◌-ℤ◌, ◌&&◌, ◌||◌, not, unsigned_abs}
 use Rattle.std.proofs.Common.{Option, Some, None, Ok, refl, sym, ap, ◌∙◌, subst, arith, pow-add}
-use Rattle.std.specs.Prelude.{◌==◌, if◌then◌else◌, nat_le}
+use Rattle.std.specs.Prelude.{◌==◌, if◌then◌else◌, nat_le, nat_lt}
 use Rattle.std.specs.Int.{int_rem_euclid}
 use Rattle.std.proofs.lemmas.Bool.{eqb-true, and_parts, or_cases}
 use Rattle.std.proofs.lemmas.Bool.Decides.{nat_tests}
@@ -20,9 +20,9 @@ use Rattle.ec_ir.specs.declared.operations.Temp.{Temp}
 use Rattle.ec_ir.specs.Temporaries.{Content, bits, points, Held, Temps, low_bytes, number_of_bytes, content_of, value_of_type}
 use Rattle.ec_ir_known.specs.declared.known.KnownNumber.{KnownNumber}
 use Rattle.ec_ir_known.specs.Known.{Known, of_bytes, is_integer_size, brought, converted, operand_number, known_as, is_any}
-use Rattle.ec_ir_known.specs.Known.{is_byte_of, byte_in, byte_left, byte_where, is_wide, keeps_bytes}
+use Rattle.ec_ir_known.specs.Known.{is_byte_of, byte_in, bytes_left, byte_where, is_wide, keeps_bytes}
 use Rattle.ec_ir_known.specs.Laws.{are_bits}
-use Rattle.ec_ir_known.proofs.Places.{known_number, holding, IsSo, Knows, number_so, byte_so, byte_left_so}
+use Rattle.ec_ir_known.proofs.Places.{known_number, any_number, holding, IsSo, Knows, number_so, byte_so, bytes_left_so}
 
 powers : (b : ℕ) → 2 ^ (8 * b) ≡ 256 ^ b
 powers zero = refl
@@ -39,8 +39,8 @@ wrapped_is s b n =
 abbrev pub of_type : Bool → ℕ → IntegerType
 of_type s b = record { signed = s; bytes = b }
 
-abbrev fact : ℕ → Option ℤ → KnownNumber
-fact bytes number = record { bytes = bytes; number = number }
+abbrev fact : ℕ → Option ℤ → ℕ → KnownNumber
+fact bytes number width = record { bytes = bytes; number = number; width = width }
 
 -- a number of two or four bytes that is below 256 is itself
 pub wrapped_byte : (r : Bool) (m low : ℕ) → (m ≡ 2) ⊎ (m ≡ 4) → low < 256 → wrapped (of_type r m) (pos low) ≡ pos low
@@ -95,30 +95,32 @@ are_wide b t =
     (or_cases (b == 2) (b == 4) t)
 
 -- what stands where a number is known
-content_there : (bytes : ℕ) (n : ℤ) (h : Held) → IsSo (known_number bytes n) (Some h) → h.content ≡ bits (low_bytes bytes n)
-content_there bytes n h so = by_content h.content refl
+pub content_there : (bytes width : ℕ) (n : ℤ) (h : Held) → IsSo (fact bytes (Some n) width) (Some h)
+    → h.content ≡ bits (low_bytes bytes n)
+content_there bytes width n h so = by_content h.content refl
   where
     by_content : (c : Content) → h.content ≡ c → c ≡ bits (low_bytes bytes n)
     by_content (bits low) q =
-        let p = and_parts (h.bytes == bytes) (are_bits (Some n) bytes h.content) so in
-        let t : are_bits (Some n) bytes (bits low) ≡ true = subst (λ (c : Content). are_bits (Some n) bytes c ≡ true) q p.1 in
+        let p = and_parts (h.bytes == bytes) (are_bits (Some n) width bytes h.content) so in
+        let t : are_bits (Some n) width bytes (bits low) ≡ true = subst (λ (c : Content). are_bits (Some n) width bytes c ≡ true) q p.1 in
         ap bits (eqb-true low (low_bytes bytes n) t)
     by_content (points p) q =
-        let u = and_parts (h.bytes == bytes) (are_bits (Some n) bytes h.content) so in
-        let t : are_bits (Some n) bytes (points p) ≡ true = subst (λ (c : Content). are_bits (Some n) bytes c ≡ true) q u.1 in
+        let u = and_parts (h.bytes == bytes) (are_bits (Some n) width bytes h.content) so in
+        let t : are_bits (Some n) width bytes (points p) ≡ true = subst (λ (c : Content). are_bits (Some n) width bytes c ≡ true) q u.1 in
         absurd cc
 
-byte_there : (bytes low : ℕ) (h : Held) → IsSo (record { bytes = bytes; number = None }) (Some h) → h.content ≡ bits low → low < 256
+byte_there : (bytes low : ℕ) (h : Held) → IsSo (any_number bytes 1) (Some h) → h.content ≡ bits low → low < 256
 byte_there bytes low h so q =
-    let p = and_parts (h.bytes == bytes) (are_bits None bytes h.content) so in
-    let t : are_bits None bytes (bits low) ≡ true = subst (λ (c : Content). are_bits None bytes c ≡ true) q p.1 in
+    let p = and_parts (h.bytes == bytes) (are_bits None 1 bytes h.content) so in
+    let t : nat_lt low 256 ≡ true = subst (λ (c : Content). are_bits None 1 bytes c ≡ true) q p.1 in
     grind (arith, nat_tests, t)
 
 -- the operand is known to hold a number
-record IsOperand (a : Temp) (b : ℕ) (known : Known) (n : ℤ) : Type 0 where
-  operand : known a.at ≡ Some (known_number b n)
+pub record IsOperand (a : Temp) (b : ℕ) (known : Known) (n : ℤ) : Type 0 where
+  pub width : ℕ
+  pub operand : known a.at ≡ Some (fact b (Some n) width)
 
-is_operand : (a : Temp) (s : Bool) (b : ℕ) (known : Known) (n : ℤ) → operand_number known a (integer s b) ≡ Some n
+pub is_operand : (a : Temp) (s : Bool) (b : ℕ) (known : Known) (n : ℤ) → operand_number known a (integer s b) ≡ Some n
     → IsOperand a b known n
 is_operand a s b known n q = by_size (a.bytes == b) refl q
   where
@@ -129,9 +131,9 @@ is_operand a s b known n q = by_size (a.bytes == b) refl q
         by_bytes : (x : Bool) → (j.bytes == a.bytes) ≡ x → (if x then j.number else None) ≡ Some n → IsOperand a b known n
         by_bytes true l q =
             let size : j.bytes ≡ b = eqb-true j.bytes a.bytes l ∙ e in
-            let is : j ≡ known_number b n =
-            ap (λ (x : ℕ). fact x j.number) size ∙ ap (λ (x : Option ℤ). fact b x) q in
-            record { operand = i ∙ ap Some is }
+            let is : j ≡ fact b (Some n) j.width =
+            ap (λ (x : ℕ). fact x j.number j.width) size ∙ ap (λ (x : Option ℤ). fact b x j.width) q in
+            record { width = j.width; operand = i ∙ ap Some is }
         by_bytes false l q = let no : None ≡ Some n = q in absurd cc
 
     by_size : (x : Bool) → (a.bytes == b) ≡ x → (if x then of_bytes a.bytes (known a.at) else None) ≡ Some n → IsOperand a b known n
@@ -139,20 +141,23 @@ is_operand a s b known n q = by_size (a.bytes == b) refl q
     by_size false l q = let no : None ≡ Some n = q in absurd cc
 
 -- or a number below 256
-is_byte_operand : (a : Temp) (known : Known) → is_byte_of a.bytes (known a.at) ≡ true → known a.at ≡ Some (fact a.bytes None)
+is_byte_operand : (a : Temp) (known : Known) → is_byte_of a.bytes (known a.at) ≡ true → known a.at ≡ Some (any_number a.bytes 1)
 is_byte_operand a known q = by_known (known a.at) refl q
   where
-    by_known : (o : Option KnownNumber) → known a.at ≡ o → is_byte_of a.bytes o ≡ true → known a.at ≡ Some (fact a.bytes None)
+    by_known : (o : Option KnownNumber) → known a.at ≡ o → is_byte_of a.bytes o ≡ true → known a.at ≡ Some (any_number a.bytes 1)
     by_known None i q = absurd cc
     by_known (Some j) i q = by_number j.number refl
       where
-        p : ((j.bytes == a.bytes) ≡ true) × (is_any j.number ≡ true)
-        p = and_parts (j.bytes == a.bytes) (is_any j.number) q
+        p : ((j.bytes == a.bytes) ≡ true) × (is_any j.number j.width 1 ≡ true)
+        p = and_parts (j.bytes == a.bytes) (is_any j.number j.width 1) q
 
-        by_number : (o : Option ℤ) → j.number ≡ o → known a.at ≡ Some (fact a.bytes None)
+        by_number : (o : Option ℤ) → j.number ≡ o → known a.at ≡ Some (any_number a.bytes 1)
         by_number None e =
-            i ∙ ap Some (ap (λ (x : ℕ). fact x j.number) (eqb-true j.bytes a.bytes p.0) ∙ ap (λ (x : Option ℤ). fact a.bytes x) e)
-        by_number (Some n) e = let no : is_any (Some n) ≡ true = subst (λ (x : Option ℤ). is_any x ≡ true) e p.1 in absurd cc
+            let one : (j.width == 1) ≡ true = subst (λ (x : Option ℤ). is_any x j.width 1 ≡ true) e p.1 in
+            i ∙ ap Some (ap (λ (x : ℕ). fact x j.number j.width) (eqb-true j.bytes a.bytes p.0)
+            ∙ ap (λ (x : Option ℤ). fact a.bytes x j.width) e ∙ ap (any_number a.bytes) (eqb-true j.width 1 one))
+        by_number (Some n) e =
+            let no : is_any (Some n) j.width 1 ≡ true = subst (λ (x : Option ℤ). is_any x j.width 1 ≡ true) e p.1 in absurd cc
 
 -- bytes below 256 are the same in both types
 record AreKept (m : ℕ) (s : Bool) (b : ℕ) : Type 0 where
@@ -187,7 +192,7 @@ module _ (program : PlainProgram) (to a : Temp) (mode : Mode) (known : Known) (t
       → known_as to (brought (of_type r m) (of_type s b) n) ≡ Some k → Left
   number_left r m s b n e f q g =
       let w = is_operand a s b known n q in
-      let content = content_there b n h (so_there (known_number b n) w.operand) in
+      let content = content_there b w.width n h (so_there (fact b (Some n) w.width) w.operand) in
       let z = wrapped (of_type s b) n in
       let low = Number (number_of_bytes s b (low_bytes b n)) in
       let seen : value_of_type program (integer s b) h.content ≡ Ok low = ap (value_of_type program (integer s b)) content in
@@ -207,12 +212,12 @@ module _ (program : PlainProgram) (to a : Temp) (mode : Mode) (known : Known) (t
 
   kept_left : (r : Bool) (m : ℕ) (s : Bool) (b : ℕ) → AreKept m s b → value_of_type program (integer s b) h.content ≡ Ok x
       → conversion_result (integer r m) mode (operand_of program (integer s b) x s1) ≡ Ok v
-      → known a.at ≡ Some (fact a.bytes None) → byte_in to ≡ Some k → Left
+      → known a.at ≡ Some (any_number a.bytes 1) → byte_in to ≡ Some k → Left
   kept_left r m s b kept e f q g = by_content h.content refl
     where
       by_content : (c : Content) → h.content ≡ c → Left
       by_content (bits low) c =
-          let below = byte_there a.bytes low h (so_there (fact a.bytes None) q) c in
+          let below = byte_there a.bytes low h (so_there (any_number a.bytes 1) q) c in
           let seen : value_of_type program (integer s b) h.content ≡ Ok (Number (pos low)) =
           ap (value_of_type program (integer s b)) c ∙ ap (λ (n : ℤ). Ok (Number n)) (kept.same low below) in
           let both : Ok (Number (pos low)) ≡ Ok x = sym seen ∙ e in
@@ -223,10 +228,10 @@ module _ (program : PlainProgram) (to a : Temp) (mode : Mode) (known : Known) (t
           let left : Ok (Number (wrapped (of_type r m) (pos low))) ≡ Ok v = sym done ∙ f in
           let value : Number (wrapped (of_type r m) (pos low)) ≡ v = cc in
           let number : v ≡ Number (pos low) = sym value ∙ ap Number (wrapped_byte r m low kept.more below) in
-          let all : Some (fact to.bytes None) ≡ Some k = g in
-          let fact_is : fact to.bytes None ≡ k = cc in
+          let all : Some (any_number to.bytes 1) ≡ Some k = g in
+          let fact_is : any_number to.bytes 1 ≡ k = cc in
           subst (λ (y : KnownNumber). IsSo y (Some (holding to.bytes (content_of to.bytes v)))) fact_is
-          (subst (λ (y : Value). IsSo (fact to.bytes None) (Some (holding to.bytes (content_of to.bytes y)))) (sym number)
+          (subst (λ (y : Value). IsSo (any_number to.bytes 1) (Some (holding to.bytes (content_of to.bytes y)))) (sym number)
           (byte_so to.bytes (low_bytes to.bytes (pos low)) (low_of_byte to.bytes low below)))
       by_content (points p) c =
           let none = ap (value_of_type program (integer s b)) (sym c) ∙ e in absurd cc
@@ -242,28 +247,28 @@ module _ (program : PlainProgram) (to a : Temp) (mode : Mode) (known : Known) (t
           → converted to (integer r m) (integer s b) o y ≡ Some k → Left
       by_operand (Some n) q y w g = by_sizes (is_integer_size m && is_integer_size b) g
         where
-          by_sizes : (t : Bool) → (if t then known_as to (brought (of_type r m) (of_type s b) n) else byte_left to) ≡ Some k → Left
+          by_sizes : (t : Bool) → (if t then known_as to (brought (of_type r m) (of_type s b) n) else bytes_left to) ≡ Some k → Left
           by_sizes true g = number_left r m s b n e f q g
-          by_sizes false g = byte_left_so to v k g
+          by_sizes false g = bytes_left_so to v k g
       by_operand None q true w g = by_keeping (keeps_bytes (of_type r m) (of_type s b)) refl g
         where
           by_keeping : (t : Bool) → keeps_bytes (of_type r m) (of_type s b) ≡ t → byte_where to t ≡ Some k → Left
           by_keeping true t g = kept_left r m s b (are_kept r m s b t) e f (is_byte_operand a known w) g
-          by_keeping false t g = byte_left_so to v k g
-      by_operand None q false w g = byte_left_so to v k g
+          by_keeping false t g = bytes_left_so to v k g
+      by_operand None q false w g = bytes_left_so to v k g
 
   pub conversion_left : (ty aty : PlainType) → value_of_type program aty h.content ≡ Ok x
       → conversion_result ty mode (operand_of program aty x s1) ≡ Ok v
       → converted to ty aty (operand_number known a aty) (is_byte_of a.bytes (known a.at)) ≡ Some k
       → IsSo k (Some (holding to.bytes (content_of to.bytes v)))
   conversion_left (integer r m) (integer s b) e f q = integer_left r m s b e f q
-  conversion_left (integer r m) void e f q = byte_left_so to v k q
-  conversion_left (integer r m) (fixed kind saturates) e f q = byte_left_so to v k q
-  conversion_left (integer r m) (pointer space const target) e f q = byte_left_so to v k q
-  conversion_left (integer r m) (array of len) e f q = byte_left_so to v k q
-  conversion_left (integer r m) (struct index) e f q = byte_left_so to v k q
-  conversion_left void aty e f q = byte_left_so to v k q
-  conversion_left (fixed kind saturates) aty e f q = byte_left_so to v k q
-  conversion_left (pointer space const target) aty e f q = byte_left_so to v k q
-  conversion_left (array of len) aty e f q = byte_left_so to v k q
-  conversion_left (struct index) aty e f q = byte_left_so to v k q
+  conversion_left (integer r m) void e f q = bytes_left_so to v k q
+  conversion_left (integer r m) (fixed kind saturates) e f q = bytes_left_so to v k q
+  conversion_left (integer r m) (pointer space const target) e f q = bytes_left_so to v k q
+  conversion_left (integer r m) (array of len) e f q = bytes_left_so to v k q
+  conversion_left (integer r m) (struct index) e f q = bytes_left_so to v k q
+  conversion_left void aty e f q = bytes_left_so to v k q
+  conversion_left (fixed kind saturates) aty e f q = bytes_left_so to v k q
+  conversion_left (pointer space const target) aty e f q = bytes_left_so to v k q
+  conversion_left (array of len) aty e f q = bytes_left_so to v k q
+  conversion_left (struct index) aty e f q = bytes_left_so to v k q

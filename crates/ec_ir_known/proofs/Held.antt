@@ -28,13 +28,13 @@ use Rattle.ec_ir.specs.Operations.{data_of}
 use Rattle.ec_ir.specs.Temporaries.{Content, bits, low_bytes, Held, Temps, no_temps, content_of, value_of_type, is_zero, with_held}
 use Rattle.ec_ir.specs.Temporaries.{with_content, with_temp, read_held, held}
 use Rattle.ec_ir_known.specs.declared.known.KnownNumber.{KnownNumber}
-use Rattle.ec_ir_known.specs.Known.{Known, is_set, known_after, known_at, operand_number, converted, byte_left, is_byte_of}
-use Rattle.ec_ir_known.specs.Known.{byte_where, leaves_byte, is_low}
+use Rattle.ec_ir_known.specs.Known.{Known, is_set, known_after, known_at, operand_number, converted, bytes_left, is_byte_of}
+use Rattle.ec_ir_known.specs.Known.{byte_where, leaves_byte, leaves_top, is_low}
 use Rattle.ec_ir_known.specs.Laws.{are_held, checked_from, checked, KnownNumbersAreHeld}
 use Rattle.ec_ir_known.proofs.Combined.{binary_left}
 use Rattle.ec_ir_known.proofs.Converted.{conversion_left}
 use Rattle.ec_ir_known.proofs.Places.{IsSo, Knows, all_held, knows_result, knows_cleared, Stands, next_stands, holding}
-use Rattle.ec_ir_known.proofs.Places.{known_next, all_left, nothing_first, found, known_number, number_so, byte_left_so}
+use Rattle.ec_ir_known.proofs.Places.{known_next, all_left, nothing_first, found, known_number, number_so, bytes_left_so}
 
 -- ---- calls that wait
 
@@ -184,9 +184,9 @@ module _ (functions : List PlainIrFunction) (program : PlainProgram) (inputs : I
       sets : (t : Temp) (c : Content) → Knows (λ at. if at == t.at then None else here at) (with_content t c temps)
       sets t c = knows_result t None c here temps (λ k q. let no : None ≡ Some k = q in absurd cc) good.knows
 
-      -- nor of a value of more than a byte
-      leaves : (t : Temp) (v : Value) → Knows (λ at. if at == t.at then byte_left t else here at) (with_temp t v temps)
-      leaves t v = knows_result t (byte_left t) (content_of t.bytes v) here temps (byte_left_so t v) good.knows
+      -- of a value it is known that it has so many bytes
+      leaves : (t : Temp) (v : Value) → Knows (λ at. if at == t.at then bytes_left t else here at) (with_temp t v temps)
+      leaves t v = knows_result t (bytes_left t) (content_of t.bytes v) here temps (bytes_left_so t v) good.knows
 
     -- the value of a type that a temporary holds
     typed_same : (ty : PlainType) (t : Temp) (temps : Temps) (s : State) (f g : Value → State → Outcome Value)
@@ -257,7 +257,8 @@ module _ (functions : List PlainIrFunction) (program : PlainProgram) (inputs : I
         (λ o x q e. typed_same bty b temps s (operates on x) (operates to_on x)
         (λ u y r f. given_same (binary_result op ty mode (operand_of program aty x s) (operand_of program bty y s)) s (ends on) (ends to_on)
         (λ v w. stays_on on to_on code stack i rest temps g h (with_temp to v temps) s
-        (knows_result to (byte_where to (leaves_byte op ty (is_low known a aty) (is_low known b bty))) (content_of to.bytes v) known temps
+        (knows_result to (byte_where to (leaves_byte op ty (is_low known a aty) (is_low known b bty) (leaves_top known a aty b bty)))
+        (content_of to.bytes v) known temps
         (λ k z. binary_left program to a b mode known temps o u x y v s k g.knows q r op ty aty bty e f w z) g.knows))))
     perform_same (unary_op op ty mode to a) on to_on code stack rest temps s g h =
         let i = unary_op op ty mode to a in

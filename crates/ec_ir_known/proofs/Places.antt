@@ -1,8 +1,10 @@
 -- Where operations are left of the code of a function, and what is known there.
-use Rattle.std.proofs.Common.{◌≡◌, ℕ, zero, suc, ◌-◌, ◌<◌, ◌≤◌, Bool, true, false, List, []}
+use Rattle.std.proofs.Common.{◌≡◌, ℕ, zero, suc, ◌-◌, ◌^◌, ◌<◌, ◌≤◌, Bool, true, false, List, [], unsigned_abs}
 use Rattle.std.proofs.Common.{◌∷◌, ◌++◌, Option, Some, ℤ, pos, negsuc, subst}
 use Rattle.std.proofs.Common.{None, refl, sym, ap, ◌∙◌, arith, length, take, drop, reverse}
 use Rattle.std.specs.Prelude.{◌==◌, if◌then◌else◌, nat_lt}
+use Rattle.std.specs.Int.{int_rem_euclid}
+use native.Mathlib.Nat.{pow-suc}
 use Rattle.std.proofs.lemmas.Bool.{eq-eqb, eqb-true, lt-ltb}
 use Rattle.std.proofs.lemmas.List.{length-drop, reverse-append}
 use Rattle.ec_ir.specs.declared.operations.Temp.{Temp}
@@ -14,13 +16,17 @@ use Rattle.ec_core.specs.declared.values.Value.{Value}
 use Rattle.ec_core.specs.declared.values.Value.TheVariants.{Number, Pointer}
 use Rattle.ec_ir.specs.Temporaries.{Content, bits, Held, Temps, low_bytes, content_of, with_content}
 use Rattle.ec_ir_known.specs.declared.known.KnownNumber.{KnownNumber}
-use Rattle.ec_ir_known.specs.Known.{Known, is_set, byte_in, byte_left, known_after, known_behind, known_at}
+use Rattle.ec_ir_known.specs.Known.{Known, is_set, bytes_left, known_after, known_behind, known_at}
 use Rattle.ec_ir_known.specs.Laws.{is_held, are_held}
 
 -- ---- what is known is so
 
 abbrev pub known_number : ℕ → ℤ → KnownNumber
-known_number bytes n = record { bytes = bytes; number = Some n }
+known_number bytes n = record { bytes = bytes; number = Some n; width = bytes }
+
+-- any number that so many bytes are enough for
+abbrev pub any_number : (bytes width : ℕ) → KnownNumber
+any_number bytes width = record { bytes = bytes; number = None; width = width }
 
 abbrev pub holding : ℕ → Content → Held
 holding bytes c = record { bytes = bytes; content = c }
@@ -51,34 +57,37 @@ number_so bytes n =
     rw (a, b) refl
 
 -- so is one below 256
-pub byte_so : (bytes low : ℕ) → low < 256
-    → IsSo (record { bytes = bytes; number = None }) (Some (holding bytes (bits low)))
-byte_so bytes low l =
+pub any_so : (bytes width low : ℕ) → low < 256 ^ width → IsSo (any_number bytes width) (Some (holding bytes (bits low)))
+any_so bytes width low l =
     let a : (bytes == bytes) ≡ true = eq-eqb bytes bytes refl in
-    let b : nat_lt low 256 ≡ true = lt-ltb low 256 l in
+    let b : nat_lt low (256 ^ width) ≡ true = lt-ltb low (256 ^ width) l in
     rw (a, b) refl
 
-low_byte : (n : ℤ) → low_bytes 1 n < 256
-low_byte (pos a) = omega arith
-low_byte (negsuc a) = omega arith
+pub byte_so : (bytes low : ℕ) → low < 256 → IsSo (any_number bytes 1) (Some (holding bytes (bits low)))
+byte_so bytes low l = any_so bytes 1 low l
 
--- one byte of any value
-byte_of_value : (v : Value) → IsSo (record { bytes = 1; number = None }) (Some (holding 1 (content_of 1 v)))
-byte_of_value (Number n) = byte_so 1 (low_bytes 1 n) (low_byte n)
-byte_of_value (Pointer None) = refl
-byte_of_value (Pointer (Some p)) = refl
+some_numbers : (bytes : ℕ) → 0 < 256 ^ bytes
+some_numbers zero = omega arith
+some_numbers (suc n) = let h = some_numbers n in rw pow-suc (omega (arith, h))
 
-pub byte_left_so : (t : Temp) (v : Value) (k : KnownNumber) → byte_left t ≡ Some k → IsSo k (Some (holding t.bytes (content_of t.bytes v)))
-byte_left_so t v k e = by_size (t.bytes == 1) refl e
-  where
-    by_size : (b : Bool) → (t.bytes == 1) ≡ b → (if b then byte_in t else None) ≡ Some k
-        → IsSo k (Some (holding t.bytes (content_of t.bytes v)))
-    by_size true q e =
-        let one : t.bytes ≡ 1 = eqb-true t.bytes 1 q in
-        let is : record { bytes = t.bytes; number = None } ≡ k = cc in
-        subst (λ (z : KnownNumber). IsSo z (Some (holding t.bytes (content_of t.bytes v)))) is
-        (subst (λ (b : ℕ). IsSo (record { bytes = b; number = None }) (Some (holding b (content_of b v)))) (sym one) (byte_of_value v))
-    by_size false q e = let no : None ≡ Some k = e in absurd cc
+rest_below : (n : ℤ) (m : ℕ) → 0 < m → unsigned_abs (int_rem_euclid n (pos m)) < m
+rest_below (pos a) m l = omega (arith, l)
+rest_below (negsuc a) m l = omega (arith, l)
+
+pub low_below : (bytes : ℕ) (n : ℤ) → low_bytes bytes n < 256 ^ bytes
+low_below bytes n = rest_below n (256 ^ bytes) (some_numbers bytes)
+
+-- the bytes of any value
+bytes_of_value : (bytes : ℕ) (v : Value) → IsSo (any_number bytes bytes) (Some (holding bytes (content_of bytes v)))
+bytes_of_value bytes (Number n) = any_so bytes bytes (low_bytes bytes n) (low_below bytes n)
+bytes_of_value bytes (Pointer None) = any_so bytes bytes 0 (some_numbers bytes)
+bytes_of_value bytes (Pointer (Some p)) = let a : (bytes == bytes) ≡ true = eq-eqb bytes bytes refl in rw a refl
+
+pub bytes_left_so : (t : Temp) (v : Value) (k : KnownNumber) → bytes_left t ≡ Some k
+    → IsSo k (Some (holding t.bytes (content_of t.bytes v)))
+bytes_left_so t v k e =
+    let is : any_number t.bytes t.bytes ≡ k = cc in
+    subst (λ (z : KnownNumber). IsSo z (Some (holding t.bytes (content_of t.bytes v)))) is (bytes_of_value t.bytes v)
 
 -- a place gets what is known of it from then on
 pub knows_result : (t : Temp) (given : Option KnownNumber) (c : Content) (known : Known) (temps : Temps)

@@ -12,8 +12,9 @@ use Rattle.ec_ir.specs.Operations.{call_function, return_from, port_in, port_out
 use Rattle.ec_ir_known.specs.declared.known.KnownNumber.{KnownNumber}
 use Rattle.ec_ir_known.specs.declared.known.RightNumber.{RightNumber}
 use Rattle.ec_ir_known.specs.Known.{Known, is_set, of_bytes, converted, operand_number, known_after, right_number, right_of}
-use Rattle.ec_ir_known.specs.Known.{is_byte_of, byte_left, number_in, byte_where, leaves_byte, is_low, is_wide_type, is_below}
-use Rattle.ec_ir_known.specs.Known.{fits_byte, fits_second}
+use Rattle.ec_ir_known.specs.Known.{is_byte_of, bytes_left, number_in, byte_where, leaves_byte, is_low, is_wide_type, is_below}
+use Rattle.ec_ir_known.specs.Known.{fits_byte, fits_second, is_wide, is_filled, is_filled_type, is_count_from, top_count}
+use Rattle.ec_ir_known.specs.Known.{leaves_top, takes_alone}
 use Rattle.ec_ir_known.specs.Known.{known_at, known_of, numbers_from, numbers_left, right_numbers, HaveResultPlaces}
 use Rattle.ec_ir_known.proofs.Places.{Stands, known_next, next_stands, nothing_first, all_left}
 
@@ -55,6 +56,22 @@ operand_same a b t (struct index) h = refl
 low_same : (a b : Known) (t : Temp) (ty : PlainType) → AreSame a b → is_low a t ty ≡ is_low b t ty
 low_same a b t ty h = ap (λ (x : Option KnownNumber). is_wide_type ty && is_below t.bytes x) (h t.at)
 
+filled_same : (a b : Known) (t : Temp) (ty : PlainType) → AreSame a b → is_filled_type a t ty ≡ is_filled_type b t ty
+filled_same a b t (integer true n) h = refl
+filled_same a b t (integer false n) h = ap (λ (x : Option KnownNumber). is_wide n && (t.bytes == n && is_filled n x)) (h t.at)
+filled_same a b t void h = refl
+filled_same a b t (fixed kind saturates) h = refl
+filled_same a b t (pointer space const to) h = refl
+filled_same a b t (array of len) h = refl
+filled_same a b t (struct index) h = refl
+
+top_same : (a b : Known) (c : Temp) (aty : PlainType) (d : Temp) (bty : PlainType) → AreSame a b
+    → leaves_top a c aty d bty ≡ leaves_top b c aty d bty
+top_same a b c aty d bty h =
+    ap (λ (x : Bool). x && (is_wide_type bty && is_count_from (top_count c.bytes) (operand_number a d bty))) (filled_same a b c aty h)
+    ∙ ap (λ (x : Option ℤ). is_filled_type b c aty && (is_wide_type bty && is_count_from (top_count c.bytes) x))
+    (operand_same a b d bty h)
+
 fits_same : (a b : Known) (t : Temp) → AreSame a b → fits_byte a t ≡ fits_byte b t
 fits_same a b t h = ap (λ (x : Bool). nat_lt 1 t.bytes && x) (byte_same a b t t.bytes h)
 
@@ -65,18 +82,19 @@ after_same (copy to from) a b h place = set_same (Some to) None None a b refl h 
 after_same (address t o offset) a b h place = set_same (Some t) None None a b refl h place
 after_same (field ptr space offset) a b h place = set_same (Some ptr) None None a b refl h place
 after_same (load_at to ptr space) a b h place =
-    set_same (Some to) (byte_left to) (byte_left to) a b refl h place
+    set_same (Some to) (bytes_left to) (bytes_left to) a b refl h place
 after_same (store_at ptr space from) a b h place = h place
 after_same (load_object t o offset) a b h place =
-    set_same (Some t) (byte_left t) (byte_left t) a b refl h place
+    set_same (Some t) (bytes_left t) (bytes_left t) a b refl h place
 after_same (store_object o offset t) a b h place = h place
 after_same (binary_op op ty mode to c aty d bty) a b h place =
-    set_same (Some to) (byte_where to (leaves_byte op ty (is_low a c aty) (is_low a d bty)))
-    (byte_where to (leaves_byte op ty (is_low b c aty) (is_low b d bty))) a b
-    (ap (λ (x : Bool). byte_where to (leaves_byte op ty x (is_low a d bty))) (low_same a b c aty h)
-    ∙ ap (λ (x : Bool). byte_where to (leaves_byte op ty (is_low b c aty) x)) (low_same a b d bty h)) h place
+    set_same (Some to) (byte_where to (leaves_byte op ty (is_low a c aty) (is_low a d bty) (leaves_top a c aty d bty)))
+    (byte_where to (leaves_byte op ty (is_low b c aty) (is_low b d bty) (leaves_top b c aty d bty))) a b
+    (ap (λ (x : Bool). byte_where to (leaves_byte op ty x (is_low a d bty) (leaves_top a c aty d bty))) (low_same a b c aty h)
+    ∙ ap (λ (x : Bool). byte_where to (leaves_byte op ty (is_low b c aty) x (leaves_top a c aty d bty))) (low_same a b d bty h)
+    ∙ ap (λ (x : Bool). byte_where to (leaves_byte op ty (is_low b c aty) (is_low b d bty) x)) (top_same a b c aty d bty h)) h place
 after_same (unary_op op ty mode to c) a b h place =
-    set_same (Some to) (byte_left to) (byte_left to) a b refl h place
+    set_same (Some to) (bytes_left to) (bytes_left to) a b refl h place
 after_same (conversion to ty mode c aty) a b h place =
     set_same (Some to) (converted to ty aty (operand_number a c aty) (is_byte_of c.bytes (a c.at)))
     (converted to ty aty (operand_number b c aty) (is_byte_of c.bytes (b c.at))) a b
@@ -87,20 +105,20 @@ after_same (branch_zero t l) a b h place = h place
 after_same (call_function f to) a b h place = set_same to None None a b refl h place
 after_same (return_from from) a b h place = h place
 after_same (port_in to port index width) a b h place =
-    set_same (Some to) (byte_left to) (byte_left to) a b refl h place
+    set_same (Some to) (bytes_left to) (bytes_left to) a b refl h place
 after_same (port_out from port index width) a b h place = h place
 after_same (load_cell to cell) a b h place =
-    set_same (Some to) (byte_left to) (byte_left to) a b refl h place
+    set_same (Some to) (bytes_left to) (bytes_left to) a b refl h place
 after_same (store_cell cell from) a b h place = h place
 after_same (cell_port true to cell offset index width) a b h place =
-    set_same (Some to) (byte_left to) (byte_left to) a b refl h place
+    set_same (Some to) (bytes_left to) (bytes_left to) a b refl h place
 after_same (cell_port false from cell offset index width) a b h place = h place
 
 right_same : (i : PlainIr) (a b : Known) → AreSame a b → right_number a i ≡ right_number b i
 right_same (binary_op op ty mode to c aty d bty) a b h =
-    ap (λ (x : Bool). right_of x (fits_second a d bty) (number_in a d)) (fits_same a b c h)
-    ∙ ap (λ (x : Bool). right_of (fits_byte b c) (is_wide_type bty && x) (number_in a d)) (fits_same a b d h)
-    ∙ ap (λ (x : Option KnownNumber). right_of (fits_byte b c) (fits_second b d bty) (of_bytes d.bytes x)) (h d.at)
+    ap (λ (x : Bool). right_of (takes_alone op to d) x (fits_second a d bty) (number_in a d)) (fits_same a b c h)
+    ∙ ap (λ (x : Bool). right_of (takes_alone op to d) (fits_byte b c) (is_wide_type bty && x) (number_in a d)) (fits_same a b d h)
+    ∙ ap (λ (x : Option KnownNumber). right_of (takes_alone op to d) (fits_byte b c) (fits_second b d bty) (of_bytes d.bytes x)) (h d.at)
 right_same (label l) a b h = refl
 right_same (constant t n) a b h = refl
 right_same (copy to from) a b h = refl
@@ -113,7 +131,7 @@ right_same (store_object o offset t) a b h = refl
 right_same (unary_op op ty mode to c) a b h = refl
 right_same (conversion to ty mode c aty) a b h = refl
 right_same (jump l) a b h = refl
-right_same (branch_zero t l) a b h = ap (λ (x : Bool). right_of x false (Some (pos 0))) (fits_same a b t h)
+right_same (branch_zero t l) a b h = ap (λ (x : Bool). right_of false x false (Some (pos 0))) (fits_same a b t h)
 right_same (call_function f to) a b h = refl
 right_same (return_from from) a b h = refl
 right_same (port_in to port index width) a b h = refl

@@ -1,6 +1,6 @@
 -- The law of what is known: where an operation is reached in a run, each temporary holds the number that it is known to
--- hold, or one below 256.
-use Rattle.std.specs.Prelude.{◌≡◌, ℕ, zero, suc, ◌==◌, nat_lt, Bool, true, false, ◌&&◌, if◌then◌else◌, List, [], ◌∷◌}
+-- hold, or one below a known power of 256.
+use Rattle.std.specs.Prelude.{◌≡◌, ℕ, zero, suc, ◌^◌, ◌==◌, nat_lt, Bool, true, false, ◌&&◌, if◌then◌else◌, List, [], ◌∷◌}
 use Rattle.std.specs.Prelude.{Option, Some, None, slice_get, ℤ}
 use Rattle.ec_core.specs.declared.values.Undefined.TheVariants.{Access as NoAccess}
 use Rattle.ec_core.specs.declared.values.Value.{Value}
@@ -13,18 +13,18 @@ use Rattle.ec_ir.specs.Temporaries.{Content, bits, points, Held, Temps, low_byte
 use Rattle.ec_ir_known.specs.declared.known.KnownNumber.{KnownNumber}
 use Rattle.ec_ir_known.specs.Known.{Known, known_at}
 
--- the bytes of a known number, or of one below 256; a pointer is none, but in one byte
-abbrev pub are_bits : (number : Option ℤ) → (bytes : ℕ) → Content → Bool
-are_bits (Some n) bytes (bits low) = low == low_bytes bytes n
-are_bits (Some n) bytes (points p) = false
-are_bits None bytes (bits low) = nat_lt low 256
-are_bits None bytes (points p) = bytes == 1
+-- the bytes of a known number, or of one that so many bytes of them are enough for; a pointer takes them all
+abbrev pub are_bits : (number : Option ℤ) → (width bytes : ℕ) → Content → Bool
+are_bits (Some n) width bytes (bits low) = low == low_bytes bytes n
+are_bits (Some n) width bytes (points p) = false
+are_bits None width bytes (bits low) = nat_lt low (256 ^ width)
+are_bits None width bytes (points p) = bytes == width
 
 -- a place holds what it is known to hold
 abbrev pub is_held : Option KnownNumber → Option Held → Bool
 is_held None h = true
 is_held (Some k) None = false
-is_held (Some k) (Some h) = h.bytes == k.bytes && are_bits k.number k.bytes h.content
+is_held (Some k) (Some h) = h.bytes == k.bytes && are_bits k.number k.width k.bytes h.content
 
 abbrev pub are_held : Known → Temps → List ℕ → Bool
 are_held known temps [] = true

@@ -6,9 +6,10 @@ ghost use Rattle.ec_core.specs.Layout.{IsIntegerSize};
 ghost use Rattle.ec_core.specs.Plain.{plain_type};
 ghost use Rattle.ec_ir.specs.Operations.{plain_ir};
 ghost use Rattle.ec_ir_known.specs.Known.{known_of, number_in, is_integer_size, brought, converted, operand_number};
-ghost use Rattle.ec_ir_known.specs.Known.{converted_by, integer_of, numbers_from, keeps_bytes, byte_left, is_byte};
+ghost use Rattle.ec_ir_known.specs.Known.{converted_by, integer_of, numbers_from, keeps_bytes, bytes_left, is_byte};
 ghost use Rattle.ec_ir_known.specs.Known.{is_byte_of, right_of, is_wide, is_small, is_below, is_low, is_low_result};
-ghost use Rattle.ec_ir_known.specs.Known.{is_wide_type, leaves_byte, byte_where, fits_byte, fits_second};
+ghost use Rattle.ec_ir_known.specs.Known.{is_wide_type, leaves_byte, byte_where, fits_byte, fits_second, top_count};
+ghost use Rattle.ec_ir_known.specs.Known.{is_count_from, is_filled, is_filled_type, leaves_top, takes_alone};
 ghost use Rattle.ec_ir_known.specs.Known.{is_set, result_of, number_left, known_after, right_number, right_numbers};
 ghost use Rattle.ec_ir_known.specs.Known.{HasResultPlace, HaveResultPlaces};
 
@@ -19,15 +20,16 @@ use std::alloc::Global;
 use std::marker::Model;
 
 /// What a place of temporaries holds, in so many bytes: the lowest ones of a number, or where this is not known, any
-/// number below 256.
+/// number that the lowest `width` of them are enough for.
 #[derive(Clone, Copy, Debug, PartialEq, Eq)]
 pub struct KnownNumber {
     pub bytes: u8,
     pub number: Option<i128>,
+    pub width: u8,
 }
 
 /// The number that the second operand of a binary operator holds, where it is known. It is in a byte where it is below 256,
-/// and the first operand, which has more bytes, is too.
+/// and the first operand, which has more bytes, is too. Where neither is so, the second operand alone is below 256.
 #[derive(Clone, Copy, Debug, PartialEq, Eq)]
 pub struct RightNumber {
     pub number: Option<i128>,
@@ -67,18 +69,15 @@ fn brought(ty: IntegerType, from: IntegerType, number: i128) -> i128
     ty.wrapped(from.wrapped(number))
 }
 
-/// What any operation leaves in a temporary of one byte.
-fn byte_left(to: Temp) -> Option<KnownNumber>
-    ensures { result ≡ byte_left to }
+/// What any operation leaves in a temporary: a number of its bytes.
+fn bytes_left(to: Temp) -> Option<KnownNumber>
+    ensures { result ≡ bytes_left to }
 {
-    if to.bytes == 1 {
-        Some(KnownNumber {
-            bytes: to.bytes,
-            number: None,
-        })
-    } else {
-        None
-    }
+    Some(KnownNumber {
+        bytes: to.bytes,
+        number: None,
+        width: to.bytes,
+    })
 }
 
 /// What is known of a temporary, which gets a number of an integer type from one of another integer type.
@@ -96,9 +95,10 @@ fn known_as(
         Some(KnownNumber {
             bytes: to.bytes,
             number: Some(number),
+            width: to.bytes,
         })
     } else {
-        byte_left(to)
+        bytes_left(to)
     }
 }
 
@@ -134,9 +134,10 @@ fn byte_where(to: Temp, byte: bool) -> Option<KnownNumber>
         Some(KnownNumber {
             bytes: to.bytes,
             number: None,
+            width: 1,
         })
     } else {
-        byte_left(to)
+        bytes_left(to)
     }
 }
 
@@ -156,32 +157,50 @@ fn is_byte(n: i128) -> bool
 }
 
 /// Whether any number below 256 is meant, or one that is.
-fn is_small(number: Option<i128>) -> bool
-    ensures { result ≡ is_small number }
+fn is_small(number: Option<i128>, width: u8) -> bool
+    ensures { result ≡ is_small number width }
 {
     match number {
-        None => true,
+        None => width == 1,
         Some(n) => is_byte(n),
     }
 }
 
-/// Whether a result of an integer type with more bytes than one is below 256, where operands are.
-fn is_low_result(op: BinOp, left: bool, right: bool) -> bool
-    ensures { result ≡ is_low_result op left right }
+/// What a number without a sign, of two or four bytes, is shifted by to the right at least, so that its top byte is left.
+fn top_count(bytes: u8) -> u8
+    ensures { result ≡ top_count bytes }
+{
+    if bytes == 2 { 8 } else { 24 }
+}
+
+/// Whether a count is known, and at least so much.
+fn is_count_from(least: u8, count: Option<i128>) -> bool
+    ensures { result ≡ is_count_from least count }
+{
+    match count {
+        None => false,
+        Some(n) => is_byte(n) && !(n < i128::from(least)),
+    }
+}
+
+/// Whether a result of an integer type with more bytes than one is below 256, where operands are, or where only the top
+/// byte of a number is left.
+fn is_low_result(op: BinOp, left: bool, right: bool, top: bool) -> bool
+    ensures { result ≡ is_low_result op left right top }
 {
     match op {
         BinOp::And => left || right,
         BinOp::Or | BinOp::Xor => left && right,
-        BinOp::Shr => left,
+        BinOp::Shr => left || top,
         _ => false,
     }
 }
 
-/// Whether a binary operator leaves a number below 256, where operands are.
-fn leaves_byte(op: BinOp, ty: &CType, left: bool, right: bool) -> bool
-    ensures { result ≡ leaves_byte op (plain_type ty.now) left right }
+/// Whether a binary operator leaves a number below 256, where operands are, or where only a top byte is left.
+fn leaves_byte(op: BinOp, ty: &CType, left: bool, right: bool, top: bool) -> bool
+    ensures { result ≡ leaves_byte op (plain_type ty.now) left right top }
 {
-    is_comparison(op) || (is_wide_type(ty) && is_low_result(op, left, right))
+    is_comparison(op) || (is_wide_type(ty) && is_low_result(op, left, right, top))
 }
 
 /// An integer type with so many bytes.
@@ -210,7 +229,7 @@ fn converted(
     match (integer(ty), integer(aty), number) {
         (Some(to_type), Some(from), Some(n)) => known_as(to, to_type, from, n, byte),
         (Some(to_type), Some(from), None) => byte_as(to, to_type, from, byte),
-        _ => byte_left(to),
+        _ => bytes_left(to),
     }
 }
 
@@ -286,7 +305,7 @@ impl KnownNumbers {
         ensures { result ≡ is_byte_of bytes (known_of self.now at) }
     {
         match self.row.get(usize::from(at)) {
-            Some(Some(k)) => k.bytes == bytes && k.number.is_none(),
+            Some(Some(k)) => k.bytes == bytes && k.number.is_none() && k.width == 1,
             _ => false,
         }
     }
@@ -296,9 +315,41 @@ impl KnownNumbers {
         ensures { result ≡ is_below bytes (known_of self.now at) }
     {
         match self.row.get(usize::from(at)) {
-            Some(Some(k)) => k.bytes == bytes && is_small(k.number),
+            Some(Some(k)) => k.bytes == bytes && is_small(k.number, k.width),
             _ => false,
         }
+    }
+
+    /// Whether a place is known to hold a number of so many bytes, and not which.
+    fn is_filled(&self, at: u16, bytes: u8) -> bool
+        ensures { result ≡ is_filled bytes (known_of self.now at) }
+    {
+        match self.row.get(usize::from(at)) {
+            Some(Some(k)) => k.bytes == bytes && k.number.is_none() && k.width == bytes,
+            _ => false,
+        }
+    }
+
+    /// Whether an operand is a number of all bytes of its type, which has no sign and more bytes than one.
+    fn is_filled_type(&self, t: Temp, ty: &CType) -> bool
+        ensures { result ≡ is_filled_type (known_of self.now) t (plain_type ty.now) }
+    {
+        match ty {
+            CType::Int {
+                signed: false,
+                bytes,
+            } => is_wide(*bytes) && t.bytes == *bytes && self.is_filled(t.at, *bytes),
+            _ => false,
+        }
+    }
+
+    /// Whether a shift to the right leaves only the top byte of a number.
+    fn leaves_top(&self, a: Temp, aty: &CType, b: Temp, bty: &CType) -> bool
+        ensures { result ≡ leaves_top (known_of self.now) a (plain_type aty.now) b (plain_type bty.now) }
+    {
+        self.is_filled_type(a, aty)
+            && is_wide_type(bty)
+            && is_count_from(top_count(a.bytes), self.operand(b, bty))
     }
 
     /// Whether an operand of an integer type with more bytes than one is known to be below 256.
@@ -340,6 +391,7 @@ impl KnownNumbers {
             Ir::Const(t, n) => Some(KnownNumber {
                 bytes: t.bytes,
                 number: Some(*n),
+                width: t.bytes,
             }),
             Ir::Conv { to, ty, a, aty, .. } => {
                 let number = self.operand(*a, aty);
@@ -356,7 +408,8 @@ impl KnownNumbers {
                 ..
             } => {
                 let (left, right) = (self.is_low(*a, aty), self.is_low(*b, bty));
-                byte_where(*to, leaves_byte(*op, ty, left, right))
+                let top = self.leaves_top(*a, aty, *b, bty);
+                byte_where(*to, leaves_byte(*op, ty, left, right, top))
             }
             Ir::LoadObj(to, _, _)
             | Ir::Load { to, .. }
@@ -367,7 +420,7 @@ impl KnownNumbers {
                 read: true,
                 temp: to,
                 ..
-            } => byte_left(*to),
+            } => bytes_left(*to),
             _ => None,
         }
     }
@@ -395,29 +448,46 @@ impl KnownNumbers {
         ensures { result ≡ right_number (known_of self.now) (plain_ir i.now) }
     {
         match i {
-            Ir::Bin { a, b, bty, .. } => {
+            Ir::Bin {
+                op,
+                to,
+                a,
+                b,
+                bty,
+                ..
+            } => {
+                let alone = takes_alone(*op, *to, *b);
                 let right = self.fits_second(*b, bty);
-                right_of(self.fits_byte(*a), right, self.number(*b))
+                right_of(alone, self.fits_byte(*a), right, self.number(*b))
             }
-            Ir::BranchZero(t, _) => right_of(self.fits_byte(*t), false, Some(0)),
+            Ir::BranchZero(t, _) => right_of(false, self.fits_byte(*t), false, Some(0)),
             _ => None,
         }
     }
 }
 
-/// What is known of a second operand, which may be known to hold a number, where the operands are below 256, or not.
-fn right_of(left: bool, right: bool, number: Option<i128>) -> Option<RightNumber>
-    ensures { result ≡ right_of left right number }
+/// Whether an operator changes one byte alone of its first operand, where the second one is below 256: OR and exclusive OR
+/// do, and take it so where it does not stand at the place of the result.
+fn takes_alone(op: BinOp, to: Temp, b: Temp) -> bool
+    ensures { result ≡ takes_alone op to b }
+{
+    matches!(op, BinOp::Or | BinOp::Xor) && b.at != to.at
+}
+
+/// What is known of a second operand, which may be known to hold a number, where the operands are below 256, or not, and
+/// where the second one is so alone.
+fn right_of(alone: bool, left: bool, right: bool, number: Option<i128>) -> Option<RightNumber>
+    ensures { result ≡ right_of alone left right number }
 {
     match number {
         Some(n) => {
             let in_byte = left && is_byte(n);
             Some(RightNumber { number, in_byte })
         }
-        None if left && right => {
+        None if (alone || left) && right => {
             Some(RightNumber {
                 number,
-                in_byte: true,
+                in_byte: !alone,
             })
         }
         None => None,
