@@ -39,10 +39,10 @@ use Rattle.ec_fxcode_limits.proofs.Ends.{plain_top, plain_bottom}
 
 -- ---- a number as a value of a format
 
-bits_of : (f : Format) (n : ℕ) → f.bits ≡ 8 * suc n → 2 ^ (f.bits - 1) ≡ 128 * 256 ^ n
+pub bits_of : (f : Format) (n : ℕ) → f.bits ≡ 8 * suc n → 2 ^ (f.bits - 1) ≡ 128 * 256 ^ n
 bits_of f n e = rw e (half_power n)
 
-signed_inside : (f : Format) (mode : Mode) (n s : ℕ) → f.signed ≡ true → f.bits ≡ 8 * suc n → s < 256 ^ suc n
+pub signed_inside : (f : Format) (mode : Mode) (n s : ℕ) → f.signed ≡ true → f.bits ≡ 8 * suc n → s < 256 ^ suc n
     → HoldsResult (suc n) (fit f mode (number_in true (suc n) s)) s
 signed_inside f mode n s is e l =
     let h = 128 * 256 ^ n in
@@ -54,7 +54,7 @@ signed_inside f mode n s is e l =
       below = λ sat a b. absurd (omega (arith, a, b, two));
     })
 
-above : (f : Format) (mode : Mode) (x h : ℕ) → mode.saturate ≡ true → f.signed ≡ true → 2 ^ (f.bits - 1) ≡ h → 1 ≤ h → h ≤ x
+pub above : (f : Format) (mode : Mode) (x h : ℕ) → mode.saturate ≡ true → f.signed ≡ true → 2 ^ (f.bits - 1) ≡ h → 1 ≤ h → h ≤ x
     → fit f mode (pos x) ≡ Got (record { format = f; n = pos (h - 1) })
 above f mode x h sat s p o l = rw (s, p, sat) (grind (arith, ints))
 

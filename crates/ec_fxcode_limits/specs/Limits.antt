@@ -2,7 +2,7 @@
 -- the bytes, whose flags tell whether the result is out of range: V in two's complement, and C without a sign. There
 -- the nearer end of the range takes the place of the result, through R31.
 use Rattle.std.specs.Prelude.{ℕ, suc, ◌+◌, ◌*◌, Bool, true, false, pos, List, [], ◌∷◌, ◌++◌}
-use Rattle.ec_isa.specs.declared.instructions.Instr.TheVariants.{Sbc, Com, Ldi, Subi, Brbc}
+use Rattle.ec_isa.specs.declared.instructions.Instr.TheVariants.{Sbc, Com, Ldi, Neg, Subi, Brbc}
 use Rattle.ec_asm.specs.declared.items.AsmItem.{AsmItem}
 use Rattle.ec_asm.specs.declared.items.AsmItem.TheVariants.{Plain}
 use Rattle.ec_asm.specs.declared.pieces.Location.{Location}
@@ -64,3 +64,9 @@ operator_of false = Sum
 -- the suc n bytes at q plus, or minus, those at c
 abbrev pub limited_code : (minus signed : Bool) → (c q : Location) → (n : ℕ) → List AsmItem
 limited_code minus signed c q n = operate_code (operator_of minus) c q (suc n) ++ limit_code minus signed q n
+
+-- ---- a negation of one byte in a register
+
+-- -128 stays itself, and V tells so; its complement is the greatest number
+abbrev pub opposite_code : (r : ℕ) → List AsmItem
+opposite_code r = Plain (Neg r) ∷ Plain (Brbc 3 (pos 1)) ∷ Plain (Com r) ∷ []

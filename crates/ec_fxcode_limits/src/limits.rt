@@ -3,7 +3,7 @@ ghost use Rattle.std.specs.Prelude.{◌≡◌, ◌≤◌, ◌<◌, ◌^◌, ◌+
 ghost use Rattle.ec_runs.specs.Behaviours.{BeginWith};
 ghost use Rattle.ec_asm.specs.Pieces.{HasBytes, HasByte};
 ghost use Rattle.ec_fxcode_limits.specs.Limits.{past_flag, fill_code, fill_words, top_code, top_words, byte_words};
-ghost use Rattle.ec_fxcode_limits.specs.Limits.{end_code, end_words, limit_code};
+ghost use Rattle.ec_fxcode_limits.specs.Limits.{end_code, end_words, limit_code, opposite_code};
 
 use ec_asm::{AsmItem, Location};
 use ec_fxcode::{fills, put_byte};
@@ -127,4 +127,16 @@ pub fn limit(
     let words = end_words(minus, signed, to, top);
     out.extend_from_slice(&[AsmItem::Plain(over_unless(past_flag(signed), words))])?;
     end(out, minus, signed, to, top)
+}
+
+/// Appends code that negates one byte with a sign in a register, where -128 becomes 127.
+pub fn negate_byte(out: &mut Seq<AsmItem>, register: u8) -> Result<(), NoMemory>
+    ensures ok { OnOk result (out.new.items ≡ out.old.items ++ opposite_code register) }
+    ensures err { OnErr result (out.new.items ≡ out.old.items) }
+{
+    out.extend_from_slice(&[
+        AsmItem::Plain(Instr::Neg { d: register }),
+        AsmItem::Plain(Instr::Brbc { s: 3, k: 1 }),
+        AsmItem::Plain(Instr::Com { d: register }),
+    ])
 }

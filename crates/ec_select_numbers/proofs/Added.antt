@@ -7,7 +7,7 @@ use Rattle.ec_asm.specs.Pieces.{value}
 use Rattle.ec_asm.proofs.Numbers.{pow_pos, mod_beside}
 use Rattle.ec_select_numbers.specs.ByNumber.{negated}
 use Rattle.ec_select_numbers.specs.Laws.{NumbersAreAdded}
-use Rattle.ec_select_numbers.proofs.Changed.{numbers_are_subtracted}
+use Rattle.ec_select_numbers.proofs.Paired.{numbers_are_subtracted}
 
 -- (x + p - m) % p, where m is the negation of a number modulo p: q, d and s are factors of p
 sums : (x number m p q d : ℕ) → 0 < p → m < p → number + (d * p + m) ≡ q * p → 0 < number

@@ -1,4 +1,4 @@
--- A number changed by a known one.
+-- A number changed by a known one, one byte after another.
 use Rattle.std.proofs.Common.{◌≡◌, ◌≢◌, ⊎_elim, ℕ, zero, suc, ◌+◌, ◌-◌, ◌*◌, ◌%◌, ◌^◌, ◌<◌, Bool, true, false}
 use Rattle.std.proofs.Common.{[], refl, sym, ap, ◌∙◌, subst, arith, bit_and, bit_or}
 use Rattle.std.specs.Prelude.{if◌then◌else◌}
@@ -21,8 +21,8 @@ use Rattle.ec_asm.proofs.Sum.{not_here, fewer}
 use Rattle.ec_select_bytes.specs.Values.{byte_of}
 use Rattle.ec_select_numbers.specs.declared.operators.ByNumber.{ByNumber}
 use Rattle.ec_select_numbers.specs.declared.operators.ByNumber.TheVariants.{Subtract, Mask, Set}
-use Rattle.ec_select_numbers.specs.ByNumber.{as_operator, immediate, is_neutral, immediate_byte, changed_byte, changed_code}
-use Rattle.ec_select_numbers.specs.Laws.{KeepsOthers, NumbersAreSubtracted, NumbersChangeBits}
+use Rattle.ec_select_numbers.specs.ByNumber.{as_operator, immediate, is_neutral, immediate_byte, changed_byte, each_changed}
+use Rattle.ec_select_numbers.specs.Laws.{KeepsOthers}
 use Rattle.ec_select_numbers.proofs.Beside.{byte_below, beside, beside_there, beside_below, beside_bytes, beside_stands}
 use Rattle.ec_select_numbers.proofs.Beside.{value_moved, number_beside, place_beside, past, below_past, bytes_below_past}
 use Rattle.ec_select_numbers.proofs.Beside.{past_clear, past_stands, past_other, past_place, place_other, other_place}
@@ -30,17 +30,17 @@ use Rattle.ec_select_numbers.proofs.Beside.{place_clear, off_work, not_before}
 use Rattle.ec_select_numbers.proofs.Bytes.{IsImmediate, byte_changes}
 
 -- what an operator makes of byte i, and the flags
-abbrev made : ByNumber → ℕ → ℕ → ℕ → Flags → ℕ
+abbrev pub made : ByNumber → ℕ → ℕ → ℕ → Flags → ℕ
 made Subtract i x y f = byte_difference x y (carry_at i f)
 made Mask i x y f = bit_and x y
 made Set i x y f = bit_or x y
 
-abbrev left : ByNumber → ℕ → ℕ → ℕ → Flags → Flags
+abbrev pub left : ByNumber → ℕ → ℕ → ℕ → Flags → Flags
 left Subtract i x y f = difference_flags f x y (carry_at i f) (zero_at i f)
 left Mask i x y f = result_flags f (bit_and x y) 0
 left Set i x y f = result_flags f (bit_or x y) 0
 
-is_immediate : (op : ByNumber) (i : ℕ) → IsImmediate (immediate op i) (made op i) (left op i)
+pub is_immediate : (op : ByNumber) (i : ℕ) → IsImmediate (immediate op i) (made op i) (left op i)
 is_immediate Subtract zero = record { is = λ e d k v. refl }
 is_immediate Subtract (suc i) = record { is = λ e d k v. refl }
 is_immediate Mask i = record { is = λ e d k v. refl }
@@ -57,7 +57,7 @@ made_same Subtract i x y f g h = ap (λ z. byte_difference x y (carry_at i z)) (
 made_same Mask i x y f g h = refl
 made_same Set i x y f g h = refl
 
-made_below : (op : ByNumber) (i x y : ℕ) (f : Flags) → x < 256 → y < 256 → made op i x y f < 256
+pub made_below : (op : ByNumber) (i x y : ℕ) (f : Flags) → x < 256 → y < 256 → made op i x y f < 256
 made_below Subtract i x y f p q = mod_below (x + 256 - (y + carry_at i f)) 256 (omega arith)
 made_below Mask i x y f p q = let l = and_le_l x y in omega arith
 made_below Set i x y f p q = or_lt 8 x y p q
@@ -86,7 +86,7 @@ not_subtract Set y h q = absurd cc
 module _ (op : ByNumber) (e : Env) (p : Location) (number n a : ℕ) (v0 : View) (s : StandsFrom e p n a Own) (free : Outside a n 30)
     (bytes : HoldsNumbers v0) where
   -- where the number stands
-  abbrev A : ℕ
+  abbrev pub A : ℕ
   A = past a n
 
   abbrev w0 : View
@@ -96,14 +96,14 @@ module _ (op : ByNumber) (e : Env) (p : Location) (number n a : ℕ) (v0 : View)
   two i = block e (chain (operate_byte (as_operator op) (InRegisters A) p) i) w0
 
   -- i bytes are changed, here and there
-  record Alike (i : ℕ) (v : View) : Type 0 where
-    keeps : KeepsOthers v0 v a i
-    here : (j : ℕ) → j < n → v.at (a + j) ≡ (two i).at (a + j)
-    there : (j : ℕ) → (two i).at (A + j) ≡ byte_of number j
-    flags : op ≡ Subtract → v.flags ≡ (two i).flags
+  pub record Alike (i : ℕ) (v : View) : Type 0 where
+    pub keeps : KeepsOthers v0 v a i
+    pub here : (j : ℕ) → j < n → v.at (a + j) ≡ (two i).at (a + j)
+    pub there : (j : ℕ) → (two i).at (A + j) ≡ byte_of number j
+    pub flags : op ≡ Subtract → v.flags ≡ (two i).flags
 
   -- all but byte i is kept
-  keeps_more : (i : ℕ) (v w : View) → i < n → KeepsOthers v0 v a i → ((j : ℕ) → j ≢ 30 → j ≢ a + i → w.at j ≡ v.at j)
+  pub keeps_more : (i : ℕ) (v w : View) → i < n → KeepsOthers v0 v a i → ((j : ℕ) → j ≢ 30 → j ≢ a + i → w.at j ≡ v.at j)
       → w.at (a + i) < 256 → w.at 30 < 256 → w.inputs ≡ v.inputs → w.safe ≡ v.safe → w.seen ≡ v.seen
       → KeepsOthers v0 w a (suc i)
   keeps_more i v w l h same small work inputs safe seen = record {
@@ -137,7 +137,7 @@ module _ (op : ByNumber) (e : Env) (p : Location) (number n a : ℕ) (v0 : View)
       }
 
   -- one byte of this code, which leaves the same there
-  alike_more : (i : ℕ) (v w : View) → i < n → Alike i v → KeepsOthers v0 w a (suc i)
+  pub alike_more : (i : ℕ) (v w : View) → i < n → Alike i v → KeepsOthers v0 w a (suc i)
       → ((j : ℕ) → j ≢ 30 → j ≢ a + i → w.at j ≡ v.at j)
       → w.at (a + i) ≡ made op i (v.at (a + i)) (byte_of number i) v.flags
       → (op ≡ Subtract → w.flags ≡ left op i (v.at (a + i)) (byte_of number i) v.flags) → Alike (suc i) w
@@ -166,7 +166,7 @@ module _ (op : ByNumber) (e : Env) (p : Location) (number n a : ℕ) (v0 : View)
         flags = λ q. flags q ∙ ap (λ (g : Flags). left op i (v.at (a + i)) k g) (h.flags q) ∙ sym other_flags;
       }
 
-  step : (i : ℕ) → i < n → (v : View) → Alike i v → Alike (suc i) (block e (changed_byte op p (byte_of number i) i) v)
+  pub step : (i : ℕ) → i < n → (v : View) → Alike i v → Alike (suc i) (block e (changed_byte op p (byte_of number i) i) v)
   step i l v h = by_byte (is_neutral op (byte_of number i)) refl
     where
       x_below : v.at (a + i) < 256
@@ -195,21 +195,24 @@ module _ (op : ByNumber) (e : Env) (p : Location) (number n a : ℕ) (v0 : View)
           (λ (z : w.at 30 ≡ made op i (v.at (a + i)) k v.flags). subst (λ t. t < 256) (sym z) below) o.work in
           alike_more i v w l h (keeps_more i v w l h.keeps o.same small work o.inputs o.safe o.seen) o.same o.here (λ z. o.flags)
 
-  alike : Alike n (block e (changed_code op p number n) v0)
-  alike =
-      chain_holds e (λ i. changed_byte op p (byte_of number i) i) Alike n step v0
-      (record {
-        keeps = record { same = λ k z o t m. refl; bytes = bytes; inputs = refl; safe = refl; seen = refl };
-        here = λ j l. sym (beside_below A number v0 (a + j) (below_past a n j l));
-        there = beside_there A number v0;
-        flags = λ q. refl;
-      })
+  -- before all of them
+  pub none_alike : Alike 0 v0
+  none_alike = record {
+    keeps = record { same = λ k z o t m. refl; bytes = bytes; inputs = refl; safe = refl; seen = refl };
+    here = λ j l. sym (beside_below A number v0 (a + j) (below_past a n j l));
+    there = beside_there A number v0;
+    flags = λ q. refl;
+  }
 
-pub numbers_are_subtracted : NumbersAreSubtracted
-numbers_are_subtracted e p number n a v s free bytes =
+  pub alike : Alike n (block e (each_changed op p number n) v0)
+  alike = chain_holds e (λ i. changed_byte op p (byte_of number i) i) Alike n step v0 none_alike
+
+-- what stands there when all bytes are changed
+pub alike_subtracts : (e : Env) (p : Location) (number n a : ℕ) (v w : View) (s : StandsFrom e p n a Own) (free : Outside a n 30)
+    (bytes : HoldsNumbers v) → Alike Subtract e p number n a v s free bytes n w
+    → value w.at a n ≡ (value v.at a n + 256 ^ n - number % 256 ^ n) % 256 ^ n
+alike_subtracts e p number n a v w s free bytes h =
     let A = past a n in
-    let h = alike Subtract e p number n a v s free bytes in
-    let w = block e (changed_code Subtract p number n) v in
     let u = beside A number v in
     let t = block e (operate_code (as_operator Subtract) (InRegisters A) p n) u in
     let d : value t.at a n ≡ (value u.at a n + 256 ^ n - value u.at A n) % 256 ^ n =
@@ -217,26 +220,23 @@ numbers_are_subtracted e p number n a v s free bytes =
     (beside_bytes A number v bytes)).1 in
     let same : value w.at a n ≡ value t.at a n = value_moved w.at t.at a a n h.here in
     let x = place_beside A number a n v (bytes_below_past a n) in
-    let y = number_beside A number n v in (
-      h.keeps,
-      same ∙ d ∙ ap (λ m. (m + 256 ^ n - value u.at A n) % 256 ^ n) x
-          ∙ ap (λ m. (value v.at a n + 256 ^ n - m) % 256 ^ n) y,
-    )
+    let y = number_beside A number n v in
+    same ∙ d ∙ ap (λ m. (m + 256 ^ n - value u.at A n) % 256 ^ n) x
+    ∙ ap (λ m. (value v.at a n + 256 ^ n - m) % 256 ^ n) y
 
-bitwise_operator : (op : ByNumber) → op ≢ Subtract → is_bitwise (as_operator op) ≡ true
+pub bitwise_operator : (op : ByNumber) → op ≢ Subtract → is_bitwise (as_operator op) ≡ true
 bitwise_operator Subtract h = absurd (h refl)
 bitwise_operator Mask h = refl
 bitwise_operator Set h = refl
 
-pub numbers_change_bits : NumbersChangeBits
-numbers_change_bits op e p number n a v differs s free bytes =
+pub alike_changes_bits : (op : ByNumber) (e : Env) (p : Location) (number n a : ℕ) (v w : View) → op ≢ Subtract
+    → (s : StandsFrom e p n a Own) (free : Outside a n 30) (bytes : HoldsNumbers v) → Alike op e p number n a v s free bytes n w
+    → (j : ℕ) → j < n → w.at (a + j) ≡ bitwise (as_operator op) (v.at (a + j)) (byte_of number j)
+alike_changes_bits op e p number n a v w differs s free bytes h j l =
     let A = past a n in
-    let h = alike op e p number n a v s free bytes in
     let u = beside A number v in
     let d = bitwise_holds (as_operator op) (bitwise_operator op differs) e (InRegisters A) p n A a u
-    (beside_stands e A n (past_stands a n)) s (λ q. absurd (not_before a n q)) in (
-      h.keeps,
-      λ j l. h.here j l ∙ d.there j l
-          ∙ ap (λ m. bitwise (as_operator op) m (u.at (A + j))) (beside_below A number v (a + j) (below_past a n j l))
-          ∙ ap (λ m. bitwise (as_operator op) (v.at (a + j)) m) (beside_there A number v j),
-    )
+    (beside_stands e A n (past_stands a n)) s (λ q. absurd (not_before a n q)) in
+    h.here j l ∙ d.there j l
+    ∙ ap (λ m. bitwise (as_operator op) m (u.at (A + j))) (beside_below A number v (a + j) (below_past a n j l))
+    ∙ ap (λ m. bitwise (as_operator op) (v.at (a + j)) m) (beside_there A number v j)

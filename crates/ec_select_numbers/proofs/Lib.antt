@@ -2,6 +2,8 @@
 mod Beside
 mod Bytes
 mod Changed
+mod Paired
+mod Put
 mod Added
 mod Compared
 mod Form

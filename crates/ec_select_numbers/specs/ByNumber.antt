@@ -1,9 +1,10 @@
--- Pieces of code that change a number by a known one where it stands, and that compare it with a known one. A register
--- of R16 and above takes a byte of the known number as it is; for other places R30 is the work register, and of
--- comparisons R0 too.
-use Rattle.std.specs.Prelude.{ℕ, zero, suc, ◌+◌, ◌-◌, ◌%◌, ◌^◌, ◌==◌, nat_le, Bool, false, if◌then◌else◌, List, [], ◌∷◌}
+-- Pieces of code that put a known number to a place, that change a number by a known one where it stands, and that compare
+-- it with a known one. A register of R16 and above takes a byte of the known number as it is; for other places R30 is the
+-- work register, for two bytes in lower registers R31 too, and of comparisons R0.
+use Rattle.std.specs.Prelude.{ℕ, zero, suc, ◌+◌, ◌-◌, ◌/◌, ◌%◌, ◌^◌, ◌==◌, nat_le, nat_lt, Bool, false, not, ◌&&◌}
+use Rattle.std.specs.Prelude.{if◌then◌else◌, List, [], ◌∷◌, ◌++◌}
 use Rattle.ec_isa.specs.declared.instructions.Instr.{Instr}
-use Rattle.ec_isa.specs.declared.instructions.Instr.TheVariants.{Subi, Sbci, Andi, Ori, Cpi, Ldi, Mov}
+use Rattle.ec_isa.specs.declared.instructions.Instr.TheVariants.{Subi, Sbci, Andi, Ori, Cpi, Ldi, Mov, Movw}
 use Rattle.ec_asm.specs.declared.items.AsmItem.{AsmItem}
 use Rattle.ec_asm.specs.declared.items.AsmItem.TheVariants.{Plain, LoadObj, StoreObj}
 use Rattle.ec_asm.specs.declared.pieces.Location.{Location}
@@ -12,9 +13,27 @@ use Rattle.ec_asm.specs.declared.pieces.Operator.{Operator}
 use Rattle.ec_asm.specs.declared.pieces.Operator.TheVariants.{Difference, BitAnd, BitOr}
 use Rattle.ec_asm.specs.Items.{chain}
 use Rattle.ec_asm.specs.Pieces.{compares}
-use Rattle.ec_select_bytes.specs.Values.{byte_of}
+use Rattle.ec_select_bytes.specs.Values.{byte_of, constant_code}
 use Rattle.ec_select_numbers.specs.declared.operators.ByNumber.{ByNumber}
 use Rattle.ec_select_numbers.specs.declared.operators.ByNumber.TheVariants.{Subtract, Mask, Set}
+
+-- ---- two bytes in registers below R16
+
+-- n bytes in registers, of which the first two are below R16 and are reached by one MOVW
+abbrev pub is_low_pair : (r n : ℕ) → Bool
+is_low_pair r n = nat_lt r 16 && (r % 2 == 0 && nat_le 2 n)
+
+-- ---- a number put to a place
+
+abbrev pub put_pair_code : (r number : ℕ) → List AsmItem
+put_pair_code r number = Plain (Ldi 30 (byte_of number 0)) ∷ Plain (Ldi 31 (byte_of number 1)) ∷ Plain (Movw r 30) ∷ []
+
+-- n bytes of it
+abbrev pub put_code : Location → (number n : ℕ) → List AsmItem
+put_code (InRegisters r) number n =
+    if is_low_pair r n then put_pair_code r number ++ constant_code (InRegisters (r + 2)) (number / 65536) (n - 2)
+    else constant_code (InRegisters r) number n
+put_code (InMemory o k) number n = constant_code (InMemory o k) number n
 
 -- ---- operators
 
@@ -47,9 +66,31 @@ immediate_byte op (InMemory o j) k i = LoadObj 30 o (j + i) ∷ Plain (op 30 k) 
 abbrev pub changed_byte : ByNumber → Location → (k i : ℕ) → List AsmItem
 changed_byte op p k i = if is_neutral op k then [] else immediate_byte (immediate op i) p k i
 
+-- n bytes of a place are changed by those of a number, one after another
+abbrev pub each_changed : ByNumber → Location → (number n : ℕ) → List AsmItem
+each_changed op p number n = chain (λ i. changed_byte op p (byte_of number i) i) n
+
+-- two bytes are changed in R30 and R31
+abbrev pub changed_pair : ByNumber → (r number : ℕ) → List AsmItem
+changed_pair op r number =
+    Plain (Movw 30 r) ∷ Plain (immediate op 0 30 (byte_of number 0)) ∷ Plain (immediate op 1 31 (byte_of number 1))
+    ∷ Plain (Movw r 30) ∷ []
+
+-- n bytes behind them
+abbrev pub rest_changed : ByNumber → (r number n : ℕ) → List AsmItem
+rest_changed op r number n = chain (λ i. changed_byte op (InRegisters r) (byte_of number (2 + i)) (2 + i)) n
+
+-- which is fewer steps where both bytes of the number change something
+abbrev pub changes_pair : ByNumber → (r number n : ℕ) → Bool
+changes_pair op r number n =
+    is_low_pair r n && (not (is_neutral op (byte_of number 0)) && not (is_neutral op (byte_of number 1)))
+
 -- n bytes of a place are changed by those of a number
 abbrev pub changed_code : ByNumber → Location → (number n : ℕ) → List AsmItem
-changed_code op p number n = chain (λ i. changed_byte op p (byte_of number i) i) n
+changed_code op (InRegisters r) number n =
+    if changes_pair op r number n then changed_pair op r number ++ rest_changed op r number (n - 2)
+    else each_changed op (InRegisters r) number n
+changed_code op (InMemory o k) number n = each_changed op (InMemory o k) number n
 
 -- what is subtracted where a number is added: modulo 256 ^ n, for up to 16 bytes, both together are 0
 abbrev pub negated : ℕ → ℕ

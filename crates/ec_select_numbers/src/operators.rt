@@ -3,9 +3,11 @@ ghost use Rattle.std.specs.Prelude.{◌≡◌, ◌≤◌, ◌<◌, ◌+◌, ◌+
 ghost use Rattle.ec_runs.specs.Behaviours.{BeginWith};
 ghost use Rattle.ec_asm.specs.Pieces.{HasByte, HasBytes};
 ghost use Rattle.ec_select_bytes.specs.Values.{byte_of};
-ghost use Rattle.ec_select_numbers.specs.ByNumber.{immediate, is_neutral, immediate_byte, changed_byte, changed_code};
+ghost use Rattle.ec_select_numbers.specs.ByNumber.{immediate, is_neutral, immediate_byte, changed_byte, each_changed};
+ghost use Rattle.ec_select_numbers.specs.ByNumber.{changed_pair, rest_changed, changes_pair, changed_code};
 ghost use Rattle.ec_select_numbers.specs.ByNumber.{negated, added_code};
 
+use crate::pairs::is_low_pair;
 use ec_asm::{AsmItem, Location};
 use ec_isa::Instr;
 use ec_space::{NoMemory, Seq};
@@ -110,6 +112,67 @@ fn changed_byte(
     }
 }
 
+/// Appends code that changes so many bytes of a place by a known number, one after another.
+fn change_each(
+    out: &mut Seq<AsmItem>,
+    op: ByNumber,
+    to: Location,
+    number: u128,
+    bytes: u8,
+) -> Result<(), NoMemory>
+    requires to { HasBytes to bytes }
+    requires most { bytes ≤ 16 }
+    ensures ok { OnOk result (out.new.items ≡ out.old.items ++ each_changed op to number bytes) }
+    ensures err { OnErr result (BeginWith out.old.items out.new.items) }
+{
+    for i in 0..bytes {
+        changed_byte(out, op, to, byte_of(number, i), i)?;
+    }
+    Ok(())
+}
+
+/// Appends code that changes two bytes in registers by a known number, in R30 and R31.
+fn change_pair(out: &mut Seq<AsmItem>, op: ByNumber, r: u8, number: u128) -> Result<(), NoMemory>
+    ensures ok { OnOk result (out.new.items ≡ out.old.items ++ changed_pair op r number) }
+    ensures err { OnErr result (out.new.items ≡ out.old.items) }
+{
+    out.extend_from_slice(&[
+        AsmItem::Plain(Instr::Movw { d: 30, r }),
+        AsmItem::Plain(immediate(op, 0, 30, byte_of(number, 0))),
+        AsmItem::Plain(immediate(op, 1, 31, byte_of(number, 1))),
+        AsmItem::Plain(Instr::Movw { d: r, r: 30 }),
+    ])
+}
+
+/// Appends code that changes so many bytes behind two in registers by the bytes of a known number behind its lowest two.
+fn change_rest(
+    out: &mut Seq<AsmItem>,
+    op: ByNumber,
+    r: u8,
+    number: u128,
+    bytes: u8,
+) -> Result<(), NoMemory>
+    requires to { r + (2 + bytes) ≤ 32 }
+    requires most { bytes ≤ 14 }
+    ensures ok { OnOk result (out.new.items ≡ out.old.items ++ rest_changed op r number bytes) }
+    ensures err { OnErr result (BeginWith out.old.items out.new.items) }
+{
+    for i in 0..bytes {
+        let k = byte_of(number, 2 + i);
+        changed_byte(out, op, Location::InRegisters(r), k, 2 + i)?;
+    }
+    Ok(())
+}
+
+/// Whether two bytes below R16 are changed by one MOVW each way: both bytes of the number change something.
+fn changes_pair(op: ByNumber, r: u8, number: u128, bytes: u8) -> bool
+    ensures { result ≡ changes_pair op r number bytes }
+{
+    is_low_pair(r, bytes)
+        && !is_neutral(op, byte_of(number, 0))
+        && !is_neutral(op, byte_of(number, 1))
+}
+
 /// Appends code that changes so many bytes of a place by a known number. Where memory runs out, a part of the code is
 /// appended.
 pub fn change_by(
@@ -124,10 +187,13 @@ pub fn change_by(
     ensures ok { OnOk result (out.new.items ≡ out.old.items ++ changed_code op to number bytes) }
     ensures err { OnErr result (BeginWith out.old.items out.new.items) }
 {
-    for i in 0..bytes {
-        changed_byte(out, op, to, byte_of(number, i), i)?;
+    match to {
+        Location::InRegisters(r) if changes_pair(op, r, number, bytes) => {
+            change_pair(out, op, r, number)?;
+            change_rest(out, op, r, number, bytes - 2)
+        }
+        _ => change_each(out, op, to, number, bytes),
     }
-    Ok(())
 }
 
 /// What is subtracted where a number is added.

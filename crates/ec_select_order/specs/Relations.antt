@@ -1,4 +1,4 @@
--- Whether one number of several bytes stands in a relation to another one: the code that leaves it in R30, as 0 or 1.
+-- Whether one number of several bytes stands in a relation to another one: the code that leaves it in a register, as 0 or 1.
 use Rattle.std.specs.Prelude.{ℕ, ◌==◌, nat_lt, Bool, true, false, not, pos, List, [], ◌∷◌, ◌++◌}
 use Rattle.ec_isa.specs.declared.instructions.Instr.TheVariants.{Ldi}
 use Rattle.ec_asm.specs.declared.items.AsmItem.{AsmItem}
@@ -41,13 +41,20 @@ is_set NotLess = false
 is_set Equal = true
 is_set NotEqual = false
 
--- R30 becomes 0 where a branch over one word is not taken
+-- register d becomes 0 where a branch over one word is not taken
+abbrev pub truth_in_code : (d : ℕ) → Relation → Bool → List AsmItem
+truth_in_code d r signed =
+    Plain (Ldi d 1) ∷ Plain (branch_if (is_set r) (flag_of r signed) (pos 1)) ∷ Plain (Ldi d 0) ∷ []
+
 abbrev pub truth_code : Relation → Bool → List AsmItem
-truth_code r signed =
-    Plain (Ldi 30 1) ∷ Plain (branch_if (is_set r) (flag_of r signed) (pos 1)) ∷ Plain (Ldi 30 0) ∷ []
+truth_code r signed = truth_in_code 30 r signed
 
 abbrev pub relation_code : Relation → Bool → (left right : Location) → ℕ → List AsmItem
 relation_code r signed left right n = compare_code right left n ++ truth_code r signed
+
+-- or in another register, which may be one of an operand
+abbrev pub relation_in_code : (d : ℕ) → Relation → Bool → (left right : Location) → ℕ → List AsmItem
+relation_in_code d r signed left right n = compare_code right left n ++ truth_in_code d r signed
 
 -- behind a comparison: a branch that is taken where the relation does not hold
 abbrev pub unless_code : Relation → Bool → ℕ → List AsmItem

@@ -3,7 +3,8 @@ ghost use Rattle.std.specs.Prelude.{◌≡◌, ◌++◌, ◌∷◌, [], pos, OnO
 ghost use Rattle.ec_runs.specs.Behaviours.{BeginWith};
 ghost use Rattle.ec_asm.specs.Items.{branch_if};
 ghost use Rattle.ec_asm.specs.Pieces.{HasBytes};
-ghost use Rattle.ec_select_order.specs.Relations.{flag_of, is_set, truth_code, relation_code, unless_code};
+ghost use Rattle.ec_select_order.specs.Relations.{flag_of, is_set, truth_in_code, relation_code, relation_in_code};
+ghost use Rattle.ec_select_order.specs.Relations.{unless_code};
 
 use ec_asm::{AsmItem, Location, compare};
 use ec_isa::Instr;
@@ -47,15 +48,20 @@ fn skip_if(set: bool, flag: u8) -> Instr
     }
 }
 
-/// Appends code that leaves in R30 what the flags tell of a relation: 1 where it holds, and else 0.
-fn truth(out: &mut Seq<AsmItem>, relation: Relation, signed: bool) -> Result<(), NoMemory>
-    ensures ok { OnOk result (out.new.items ≡ out.old.items ++ truth_code relation signed) }
+/// Appends code that leaves in a register what the flags tell of a relation: 1 where it holds, and else 0.
+pub fn truth_in(
+    out: &mut Seq<AsmItem>,
+    register: u8,
+    relation: Relation,
+    signed: bool,
+) -> Result<(), NoMemory>
+    ensures ok { OnOk result (out.new.items ≡ out.old.items ++ truth_in_code register relation signed) }
     ensures err { OnErr result (out.new.items ≡ out.old.items) }
 {
     out.extend_from_slice(&[
-        AsmItem::Plain(Instr::Ldi { d: 30, k: 1 }),
+        AsmItem::Plain(Instr::Ldi { d: register, k: 1 }),
         AsmItem::Plain(skip_if(is_set(relation), flag_of(relation, signed))),
-        AsmItem::Plain(Instr::Ldi { d: 30, k: 0 }),
+        AsmItem::Plain(Instr::Ldi { d: register, k: 0 }),
     ])
 }
 
@@ -74,8 +80,28 @@ pub fn relate(
     ensures ok { OnOk result (out.new.items ≡ out.old.items ++ relation_code relation signed left right bytes) }
     ensures err { OnErr result (BeginWith out.old.items out.new.items) }
 {
+    relate_in(out, 30, relation, signed, left, right, bytes)
+}
+
+/// Appends such code that leaves it in a register, which may be one of an operand. Where memory runs out, a part of the code
+/// is appended.
+pub fn relate_in(
+    out: &mut Seq<AsmItem>,
+    register: u8,
+    relation: Relation,
+    signed: bool,
+    left: Location,
+    right: Location,
+    bytes: u8,
+) -> Result<(), NoMemory>
+    requires left { HasBytes left bytes }
+    requires right { HasBytes right bytes }
+    ensures ok { OnOk result (out.new.items
+        ≡ out.old.items ++ relation_in_code register relation signed left right bytes) }
+    ensures err { OnErr result (BeginWith out.old.items out.new.items) }
+{
     compare(out, right, left, bytes)?;
-    truth(out, relation, signed)
+    truth_in(out, register, relation, signed)
 }
 
 /// Appends a branch to a label, which behind a comparison is taken where the relation does not hold.

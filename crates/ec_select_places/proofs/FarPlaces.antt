@@ -203,11 +203,15 @@ places_told NotLess n x y h k m = ap (λ t. not t) (far_places_are_in_order x y 
 places_told Equal n x y h k m = far_places_are_numbers x y h k
 places_told NotEqual n x y h k m = ap (λ t. not t) (far_places_are_numbers x y h k)
 
+pub far_places_are_told : (r : Relation) (n a b : ℕ) (x y : Place) (v : View) → IsFarPlace x → IsFarPlace y → MayRelate r x y
+    → value v.at a n ≡ number_of x → value v.at b n ≡ number_of y
+    → stand_so r false n (value v.at a n) (value v.at b n) ≡ places_stand r x y
+far_places_are_told r n a b x y v hx hy m qx qy =
+    let s = stand_so r false n in
+    ap (λ i. s i (value v.at b n)) qx ∙ ap (λ i. s (number_of x) i) qy ∙ places_told r n x y hx hy m
+
 pub far_pointers_are_compared : RelationsAreTold → FarPointersAreCompared
 far_pointers_are_compared told r e left right zero a b pc end x y v l sa sb h hx hy m qx qy at = absurd (omega arith)
 far_pointers_are_compared told r e left right (suc n) a b pc end x y v l sa sb h hx hy m qx qy at =
     let t = told r false e left right n a b pc end v sa sb h at in
-    let s = stand_so r false (suc n) in
-    let is : s (value v.at a (suc n)) (value v.at b (suc n)) ≡ places_stand r x y =
-    ap (λ i. s i (value v.at b (suc n))) qx ∙ ap (λ i. s (number_of x) i) qy ∙ places_told r (suc n) x y hx hy m in
-    subst (λ (truth : Bool). Tells e (3 + 3 * suc n) pc v end truth) is t
+    subst (λ (truth : Bool). Tells e (3 + 3 * suc n) pc v end truth) (far_places_are_told r (suc n) a b x y v hx hy m qx qy) t

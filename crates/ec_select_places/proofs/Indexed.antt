@@ -1,10 +1,10 @@
 -- Pointers in registers are moved by an index as it stands.
 use Rattle.std.proofs.Common.{◌≡◌, ◌≢◌, ℕ, zero, suc, ◌+◌, ◌-◌, ◌*◌, ◌/◌, ◌%◌, ◌<◌, ◌≤◌, ◌==◌, ⊎_elim, Bool, true, false}
-use Rattle.std.proofs.Common.{◌&&◌, List, [], ◌∷◌, refl, sym, ap, ◌∙◌, subst, arith}
+use Rattle.std.proofs.Common.{◌&&◌, ◌∷◌, refl, sym, ap, ◌∙◌, subst, arith}
 use Rattle.std.specs.Prelude.{nat_lt, not, if◌then◌else◌}
 use Rattle.std.specs.Int.{from_bool}
 use Rattle.std.specs.List.{list_all}
-use Rattle.std.proofs.lemmas.Bool.{cases_eq, ne_eqb, eqb-true, eqb-false, ltb-true, lt-ltb, and_parts}
+use Rattle.std.proofs.lemmas.Bool.{cases_eq, ne_eqb, eqb-true, ltb-true, lt-ltb, and_parts}
 use Rattle.std.proofs.lemmas.Nat.{mul-le}
 use Rattle.ec_isa.specs.declared.instructions.Instr.TheVariants.{Ldi, Add, Adc, Sub, Sbc, Mul}
 use Rattle.ec_avr.specs.Flags.{byte_sum, byte_difference}
@@ -13,16 +13,16 @@ use Rattle.ec_asm.specs.declared.items.AsmItem.TheVariants.{Plain}
 use Rattle.ec_asm.specs.declared.pieces.Location.{Location}
 use Rattle.ec_asm.specs.declared.pieces.Location.TheVariants.{InRegisters, InMemory}
 use Rattle.ec_asm.specs.View.{View}
-use Rattle.ec_asm.specs.Change.{Env, Own, change}
+use Rattle.ec_asm.specs.Change.{Env, change}
 use Rattle.ec_asm.specs.Items.{block}
-use Rattle.ec_asm.specs.Pieces.{StandsFrom, Outside, value}
+use Rattle.ec_asm.specs.Pieces.{Outside, value}
 use Rattle.ec_asm.specs.PieceLaws.{HoldsNumbers, NumbersHaveLowParts}
 use Rattle.ec_asm.specs.Valid.{Sizes, is_valid_item}
 use Rattle.ec_asm.proofs.Bytes.{put_here, put_other}
 use Rattle.ec_asm.proofs.Hoare.{block-append, chain_holds}
 use Rattle.ec_select_pointers.proofs.Valid.{both, all_pass, is_plain}
-use Rattle.ec_select_places.specs.Form.{IsShort, HasPlaces}
-use Rattle.ec_select_places.specs.Indexes.{is_addend, can_add, pair_code, add_product_code, byte_index_code, high_code}
+use Rattle.ec_select_places.specs.Form.{IsShort}
+use Rattle.ec_select_places.specs.Indexes.{is_addend, pair_code, add_product_code, byte_index_code, high_code}
 use Rattle.ec_select_places.specs.Indexes.{product_index_code, pairs_code, pair_index_code, add_index_code}
 use Rattle.ec_select_places.specs.IndexLaws.{Adds, IndexesAreAdded, IndexesAreShort, IndexesAreValid, IndexesHaveNoLabel}
 use Rattle.ec_select_places.specs.StepLaws.{index_of, moved_by}
@@ -548,11 +548,14 @@ indexes_are_valid sizes minus signed (InRegisters r) (InRegisters d) n size hp s
     few : size < 256
     few = (size_is_few signed n size addend).1
 
+    room : r + 1 < 32
+    room =
+        ⊎_elim (λ (k : r + n ≤ 30). omega (arith, some)) (λ (k : (r == 30) ≡ true). let z = eqb-true r 30 k in omega (arith, z)) hp
+
     by_bytes : (b : Bool) → (n == 1) ≡ b
         → list_all (is_valid_item sizes) (if b then byte_index_code minus r d size else pair_index_code minus r d size) ≡ true
-    by_bytes true q = byte_valid sizes minus r d size (omega arith) (omega arith) few
-    by_bytes false q =
-        let more = eqb-false n 1 q in word_valid sizes minus r d size (omega (arith, more)) (omega arith) few
+    by_bytes true q = byte_valid sizes minus r d size (omega (arith, room)) (omega arith) few
+    by_bytes false q = word_valid sizes minus r d size room (omega arith) few
 indexes_are_valid sizes minus signed (InRegisters r) (InMemory o k) n size hp some hq can = absurd cc
 indexes_are_valid sizes minus signed (InMemory o k) (InRegisters d) n size hp some hq can = absurd cc
 indexes_are_valid sizes minus signed (InMemory o k) (InMemory u j) n size hp some hq can = absurd cc

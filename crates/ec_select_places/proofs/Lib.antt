@@ -1,14 +1,16 @@
+-- For the crates of the family.
+pub mod Advanced
+pub mod FarPlaces
+-- For this crate alone.
 mod Places
 mod Blocks
 mod Scaled
 mod Multiples
-mod Advanced
 mod Embedded
 mod Short
 mod Valid
 mod Apart
 mod Inverted
 mod Sized
-mod FarPlaces
 mod FarFormed
 mod Indexed

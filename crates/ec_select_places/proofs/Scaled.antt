@@ -1,8 +1,8 @@
 -- A number of elements is loaded to R31:R30, and becomes one of bytes.
 use Rattle.std.proofs.Common.{◌≡◌, ◌≢◌, ℕ, zero, suc, ◌+◌, ◌*◌, ◌/◌, ◌%◌, ◌^◌, ◌<◌, ◌≤◌, ◌==◌, ⊎_elim, Bool, true, false}
-use Rattle.std.proofs.Common.{Some, [], ◌∷◌, refl, sym, ap, ◌∙◌, subst, arith, append-nil}
+use Rattle.std.proofs.Common.{Some, [], ◌∷◌, refl, sym, ap, ◌∙◌, subst, arith, append-nil, ◌++◌}
 use Rattle.std.specs.Prelude.{if◌then◌else◌, nat_lt, Option, None}
-use Rattle.std.proofs.lemmas.Bool.{cases_eq, eqb-true, ne_eqb, ltb-true}
+use Rattle.std.proofs.lemmas.Bool.{cases_eq, eqb-true, ne_eqb, ltb-true, false≢true}
 use native.Mathlib.Nat.{pow-suc}
 use Rattle.ec_isa.specs.declared.instructions.Instr.TheVariants.{Ldi, Movw, Mul, Add, Adc}
 use Rattle.ec_asm.specs.declared.items.AsmItem.TheVariants.{Plain}
@@ -19,8 +19,9 @@ use Rattle.ec_select_bytes.specs.Values.{extend_code, fill_of}
 use Rattle.ec_select_bytes.specs.Laws.{ExtensionsAreRight}
 use Rattle.ec_select_pointers.specs.Accesses.{point_code}
 use Rattle.ec_select_places.specs.Steps.{z_pair, index_code, product_code, byte_product_code, double_z, doublings_code}
+use Rattle.ec_select_places.specs.Steps.{is_in_z}
 use Rattle.ec_select_places.specs.Steps.{doublings_of, scale_by, scale_code}
-use Rattle.ec_select_places.specs.StepLaws.{LeavesZ, index_of, Scales, IndexesAreScaled}
+use Rattle.ec_select_places.specs.StepLaws.{LeavesZ, MayBeInZ, index_of, Scales, IndexesAreScaled}
 use Rattle.ec_select_places.proofs.Blocks.{pair_other, first_bytes, copied_numbers}
 
 -- what is known of the pieces
@@ -113,24 +114,17 @@ fill_is_below : (signed : Bool) (x : ℕ) → x < 256 → fill_of signed x < 256
 fill_is_below true x l = omega arith
 fill_is_below false x l = omega arith
 
-one_loaded : (copies : CopiesAreRight) (extensions : ExtensionsAreRight) (e : Env) (p : Location) (signed : Bool)
-    (a : ℕ) (v : View) → StandsFrom e p 1 a Own → LeavesZ a 1 → HoldsNumbers v
-    → Loads v (value v.at a 1 + 256 * fill_of signed (value v.at a 1))
-    (block e (extend_code signed z_pair 1 2) (block e (copy_code p z_pair 1) v))
-one_loaded copies extensions e p signed a v s z h =
-    let v1 = block e (copy_code p z_pair 1) v in
-    let w = block e (extend_code signed z_pair 1 2) v1 in
-    let c = to_z copies e p 1 1 a v (omega arith) s z in
-    let n1 : HoldsNumbers v1 = copied_numbers v v1 a 30 1 s.clear h c.there c.same in
-    let x = extensions signed e z_pair 0 2 30 v1 (z_stands e 2) (omega arith) n1 in
-    let ua = s.clear in
-    let small : v.at (a + 0) < 256 = h (a + 0) (omega arith) in
-    let low1 : v1.at (30 + 0) ≡ v.at (a + 0) = c.there 0 (omega arith) in
-    let low : w.at (30 + 0) ≡ v.at (a + 0) = x.keeps.same 30 (omega arith) (omega arith) (λ o. absurd (omega arith)) ∙ low1 in
-    let high : w.at (30 + 1) ≡ fill_of signed (v.at (a + 0)) =
-    x.there 1 (omega arith) (omega arith) ∙ ap (λ t. fill_of signed t) low1 in
-    let one : value v.at a 1 ≡ v.at (a + 0) = omega arith in
-    let fill = fill_is_below signed (v.at (a + 0)) small in
+-- one byte that stands in R30
+one_there : (extensions : ExtensionsAreRight) (e : Env) (signed : Bool) (v : View) → HoldsNumbers v
+    → Loads v (value v.at 30 1 + 256 * fill_of signed (value v.at 30 1)) (block e (extend_code signed z_pair 1 2) v)
+one_there extensions e signed v h =
+    let w = block e (extend_code signed z_pair 1 2) v in
+    let x = extensions signed e z_pair 0 2 30 v (z_stands e 2) (omega arith) h in
+    let small : v.at (30 + 0) < 256 = h (30 + 0) (omega arith) in
+    let low : w.at (30 + 0) ≡ v.at (30 + 0) = x.keeps.same 30 (omega arith) (omega arith) (λ o. absurd (omega arith)) in
+    let high : w.at (30 + 1) ≡ fill_of signed (v.at (30 + 0)) = x.there 1 (omega arith) (omega arith) in
+    let one : value v.at 30 1 ≡ v.at (30 + 0) = omega arith in
+    let fill = fill_is_below signed (v.at (30 + 0)) small in
     record {
       number_is = rw (low, high, one) (omega arith);
       numbers = λ k u.
@@ -139,29 +133,99 @@ one_loaded copies extensions e p signed a v s z h =
           (λ (q : k ≢ 31).
           ⊎_elim
           (λ (t : k ≡ 1). absurd (omega arith))
-          (λ (t : k ≢ 1). rw (x.keeps.same k (omega arith) t (λ o. omega (arith, q))) (n1 k u))
+          (λ (t : k ≢ 1). rw (x.keeps.same k (omega arith) t (λ o. omega (arith, q))) (h k u))
           (cases_eq k 1))
           (cases_eq k 31);
-      same = λ k k0 k1 o.
-          x.keeps.same k k0 k1 (λ l. let b = o (omega arith) in omega arith)
-          ∙ c.same k k0 (λ l. let b = o l in omega arith);
-      inputs = x.keeps.inputs ∙ c.inputs;
-      safe = x.keeps.safe ∙ c.safe;
-      seen = x.keeps.seen ∙ (c.seen ∙ append-nil v.seen);
+      same = λ k k0 k1 o. x.keeps.same k k0 k1 (λ l. let b = o (omega arith) in omega arith);
+      inputs = x.keeps.inputs;
+      safe = x.keeps.safe;
+      seen = x.keeps.seen;
     }
 
-index_loads : (lower : Lower) (e : Env) (p : Location) (signed : Bool) (n a : ℕ) (v : View) → StandsFrom e p n a Own
+one_loaded : (copies : CopiesAreRight) (extensions : ExtensionsAreRight) (e : Env) (p : Location) (signed : Bool)
+    (a : ℕ) (v : View) → StandsFrom e p 1 a Own → LeavesZ a 1 → HoldsNumbers v
+    → Loads v (value v.at a 1 + 256 * fill_of signed (value v.at a 1))
+    (block e (extend_code signed z_pair 1 2) (block e (copy_code p z_pair 1) v))
+one_loaded copies extensions e p signed a v s z h =
+    let v1 = block e (copy_code p z_pair 1) v in
+    let c = to_z copies e p 1 1 a v (omega arith) s z in
+    let n1 : HoldsNumbers v1 = copied_numbers v v1 a 30 1 s.clear h c.there c.same in
+    let x = one_there extensions e signed v1 n1 in
+    let low : v1.at (30 + 0) ≡ v.at (a + 0) = c.there 0 (omega arith) in
+    let one : value v1.at 30 1 ≡ value v.at a 1 = (rw low refl) in
+    record {
+      number_is = x.number_is ∙ ap (λ t. t + 256 * fill_of signed t) one;
+      numbers = x.numbers;
+      same = λ k k0 k1 o. x.same k k0 k1 o ∙ c.same k k0 (λ l. let b = o l in omega arith);
+      inputs = x.inputs ∙ c.inputs;
+      safe = x.safe ∙ c.safe;
+      seen = x.seen ∙ (c.seen ∙ append-nil v.seen);
+    }
+
+-- bytes from R30 on are those of R30 and R31
+in_z : (e : Env) (p : Location) (n a : ℕ) → is_in_z p ≡ true → 1 ≤ n → StandsFrom e p n a Own → a ≡ 30
+in_z e (InRegisters r) n a i l s =
+    let first : r + 0 ≡ a + 0 = s.at 0 (omega (arith, l)) in
+    let is : r ≡ 30 = eqb-true r 30 i in
+    omega (arith, first, is)
+in_z e (InMemory o k) n a i l s = absurd cc
+
+-- an index that stands in R30, or in R31:R30
+there_loads : (lower : Lower) (e : Env) (signed : Bool) (n : ℕ) (v : View) → n ≤ 2 → 1 ≤ n → HoldsNumbers v
+    → Loads v (index_of signed n (value v.at 30 n))
+    (block e (if n == 1 then [] ++ extend_code signed z_pair 1 2 else []) v)
+there_loads lower e signed zero v m l h = absurd (omega arith)
+there_loads lower e signed (suc zero) v m l h = one_there lower.extensions e signed v h
+there_loads lower e signed (suc (suc zero)) v m l h =
+    let low : v.at (30 + 0) < 256 = h 30 (omega arith) in
+    let high : v.at (30 + 1) < 256 = h 31 (omega arith) in
+    record {
+      number_is = omega (arith, low, high);
+      numbers = h;
+      same = λ k n0 n1 o. refl;
+      inputs = refl;
+      safe = refl;
+      seen = refl;
+    }
+there_loads lower e signed (suc (suc (suc n))) v m l h = absurd (omega arith)
+
+brought_loads : (lower : Lower) (e : Env) (p : Location) (signed : Bool) (n a : ℕ) (v : View) → StandsFrom e p n a Own
     → LeavesZ a n → 1 ≤ n → HoldsNumbers v
-    → Loads v (index_of signed n (value v.at a n)) (block e (index_code p signed n) v)
-index_loads lower e p signed zero a v s z l h = absurd (omega arith)
-index_loads lower e p signed (suc zero) a v s z l h =
+    → Loads v (index_of signed n (value v.at a n))
+    (block e (if n == 1 then copy_code p z_pair 1 ++ extend_code signed z_pair 1 2 else point_code p) v)
+brought_loads lower e p signed zero a v s z l h = absurd (omega arith)
+brought_loads lower e p signed (suc zero) a v s z l h =
     rw (block-append e (copy_code p z_pair 1) (extend_code signed z_pair 1 2) v)
     (one_loaded lower.copies lower.extensions e p signed a v s z h)
-index_loads lower e p signed (suc (suc n)) a v s z l h =
+brought_loads lower e p signed (suc (suc n)) a v s z l h =
     let ua = s.clear in
     let low : value v.at a (suc (suc n)) % 65536 ≡ value v.at a 2 =
     lower.low v.at a 2 (suc (suc n)) (omega arith) (λ j m. h (a + j) (omega arith)) in
     rw (ne_eqb (suc (suc n)) 1 (omega arith), low) (pair_loaded lower.copies e p (suc (suc n)) a v (omega arith) s z h)
+
+index_loads : (lower : Lower) (e : Env) (p : Location) (signed : Bool) (n a : ℕ) (v : View) → StandsFrom e p n a Own
+    → MayBeInZ p a n → 1 ≤ n → HoldsNumbers v
+    → Loads v (index_of signed n (value v.at a n)) (block e (index_code p signed n) v)
+index_loads lower e p signed n a v s z l h = by_place (is_in_z p) refl
+  where
+    -- bytes that leave R30 and R31 alone do not stand there
+    few : is_in_z p ≡ true → n ≤ 2
+    few i =
+        ⊎_elim
+        (λ (k : LeavesZ a n). let is = in_z e p n a i l s in let b = k.low (omega (arith, is)) in absurd (omega (arith, b, is, l)))
+        (λ (k : (is_in_z p ≡ true) × (n ≤ 2)). k.1) z
+
+    by_place : (b : Bool) → is_in_z p ≡ b
+        → Loads v (index_of signed n (value v.at a n))
+        (block e (if n == 1 then (if b then [] else copy_code p z_pair 1) ++ extend_code signed z_pair 1 2
+        else (if b then [] else point_code p)) v)
+    by_place true i =
+        subst (λ c. Loads v (index_of signed n (value v.at c n))
+        (block e (if n == 1 then [] ++ extend_code signed z_pair 1 2 else []) v)) (sym (in_z e p n a i l s))
+        (there_loads lower e signed n v (few i) l h)
+    by_place false i =
+        ⊎_elim (λ (k : LeavesZ a n). brought_loads lower e p signed n a v s k l h)
+        (λ (k : (is_in_z p ≡ true) × (n ≤ 2)). absurd (false≢true (sym i ∙ k.0))) z
 
 -- ---- scaled
 

@@ -15,7 +15,8 @@ use Rattle.ec_asm.proofs.Hoare.{straight-append, steps-append}
 use Rattle.ec_select_bytes.specs.Values.{extend_code}
 use Rattle.ec_select_order.specs.Laws.{RelationsHaveWords}
 use Rattle.ec_select_pointers.specs.Accesses.{point_code}
-use Rattle.ec_select_places.specs.Steps.{z_pair, index_code, scale_code, advance_code, compared_bytes}
+use Rattle.ec_select_places.specs.Steps.{z_pair, index_code, scale_code, advance_code, compared_bytes, is_in_z}
+use Rattle.ec_select_places.specs.Steps.{to_z_code}
 use Rattle.ec_select_places.specs.Conversions.{embed_code}
 use Rattle.ec_select_places.specs.Distances.{halve_z, halvings_code, distance_code}
 use Rattle.ec_select_places.specs.Form.{DistancesAreShort}
@@ -79,12 +80,25 @@ extend_short : (signed : Bool) → IsShort (extend_code signed z_pair 1 2) 0 5 8
 extend_short true = record { straight = refl; at_least = omega arith; at_most = omega arith; words_are = omega arith }
 extend_short false = record { straight = refl; at_least = omega arith; at_most = omega arith; words_are = omega arith }
 
-index_short : (p : Location) (signed : Bool) (n : ℕ) → IsShort (index_code p signed n) 1 9 14
+none_short : (most words : ℕ) → IsShort [] 0 most words
+none_short most words = record { straight = refl; at_least = omega arith; at_most = omega arith; words_are = omega arith }
+
+to_z_one : (p : Location) → IsShort (to_z_code p 1) 0 2 4
+to_z_one p =
+    by_test (is_in_z p) [] (copy_code p z_pair 1) 0 2 4 (none_short 2 4)
+    (within _ 0 1 2 2 4 4 (omega arith) (omega arith) (omega arith) (copy_one p))
+
+to_z_short : (p : Location) → IsShort (to_z_code p 2) 0 4 8
+to_z_short p =
+    by_test (is_in_z p) [] (point_code p) 0 4 8 (none_short 4 8)
+    (within _ 0 1 4 4 8 8 (omega arith) (omega arith) (omega arith) (point_short p))
+
+index_short : (p : Location) (signed : Bool) (n : ℕ) → IsShort (index_code p signed n) 0 9 14
 index_short p signed n =
-    by_test (n == 1) (copy_code p z_pair 1 ++ extend_code signed z_pair 1 2) (point_code p) 1 9 14
-    (within _ 1 1 7 9 12 14 (omega arith) (omega arith) (omega arith)
-    (joined (copy_code p z_pair 1) (extend_code signed z_pair 1 2) 1 0 2 5 4 8 (copy_one p) (extend_short signed)))
-    (within _ 1 1 4 9 8 14 (omega arith) (omega arith) (omega arith) (point_short p))
+    by_test (n == 1) (to_z_code p 1 ++ extend_code signed z_pair 1 2) (to_z_code p 2) 0 9 14
+    (within _ 0 0 7 9 12 14 (omega arith) (omega arith) (omega arith)
+    (joined (to_z_code p 1) (extend_code signed z_pair 1 2) 0 0 2 5 4 8 (to_z_one p) (extend_short signed)))
+    (within _ 0 0 4 9 8 14 (omega arith) (omega arith) (omega arith) (to_z_short p))
 
 scale_short : (size : ℕ) → IsShort (scale_code size) 0 10 10
 scale_short size =
@@ -129,7 +143,7 @@ halvings_short (suc n) =
 
 pub steps_are_short : StepsAreShort
 steps_are_short p q signed minus n size =
-    (joined (index_code p signed n) (scale_code size) 1 0 9 10 14 10 (index_short p signed n) (scale_short size), advance_short minus q)
+    (joined (index_code p signed n) (scale_code size) 0 0 9 10 14 10 (index_short p signed n) (scale_short size), advance_short minus q)
 
 pub conversions_are_short : ConversionsAreShort
 conversions_are_short to_data p q = (embed_short to_data q, copy_short p q)

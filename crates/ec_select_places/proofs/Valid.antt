@@ -1,6 +1,6 @@
 -- The items of the code are valid, and have no labels.
-use Rattle.std.proofs.Common.{◌≡◌, ℕ, zero, suc, ◌+◌, ◌/◌, ◌%◌, ◌<◌, ◌≤◌, ◌==◌, Bool, true, false, List}
-use Rattle.std.proofs.Common.{[], ◌∷◌, ◌++◌, refl, ◌∙◌, arith}
+use Rattle.std.proofs.Common.{◌≡◌, ℕ, zero, suc, ◌+◌, ◌/◌, ◌%◌, ◌<◌, ◌≤◌, ◌==◌, Bool, true, false, List, [], ◌∷◌, ◌++◌}
+use Rattle.std.proofs.Common.{refl, ◌∙◌, arith, ⊎_elim}
 use Rattle.std.specs.Prelude.{count_by, cond, if◌then◌else◌}
 use Rattle.std.specs.List.{list_all}
 use Rattle.std.proofs.lemmas.Bool.{lt-ltb, eqb-true, eqb-false}
@@ -19,12 +19,12 @@ use Rattle.ec_select_order.specs.declared.relations.Relation.TheVariants.{Less, 
 use Rattle.ec_select_order.specs.Relations.{truth_code, relation_code}
 use Rattle.ec_select_pointers.specs.Accesses.{point_code}
 use Rattle.ec_select_pointers.proofs.Valid.{both, all_pass, is_plain, no_use, no_place, passing}
-use Rattle.ec_select_places.specs.Steps.{z_pair, index_code, product_code, scale_code, scale_index_code}
+use Rattle.ec_select_places.specs.Steps.{z_pair, is_in_z, to_z_code, index_code, product_code, scale_code, scale_index_code}
 use Rattle.ec_select_places.specs.Steps.{advance_code}
 use Rattle.ec_select_places.specs.Steps.{order_code, compared_bytes}
 use Rattle.ec_select_places.specs.Conversions.{embed_code, narrow_code}
 use Rattle.ec_select_places.proofs.Multiples.{of_each}
-use Rattle.ec_select_places.specs.Form.{HasPlaces, HasNoLabel, StepsAreValid, OrdersAreValid, ConversionsAreValid}
+use Rattle.ec_select_places.specs.Form.{HasPlaces, HasPlacesOrZ, HasNoLabel, StepsAreValid, OrdersAreValid, ConversionsAreValid}
 use Rattle.ec_select_places.specs.Distances.{halve_z, halvings_code, distance_code}
 use Rattle.ec_select_places.specs.Form.{PlacesHaveNoLabel, DistancesAreValid, DistancesHaveNoLabel}
 
@@ -109,11 +109,19 @@ module _ (sizes : Sizes) where
   extend_valid true = refl
   extend_valid false = refl
 
-  index_valid : (p : Location) (signed : Bool) (n : ℕ) (b : Bool) → (n == 1) ≡ b → 1 ≤ n → HasPlaces sizes p n
-      → list_all valid (if b then copy_code p z_pair 1 ++ extend_code signed z_pair 1 2 else point_code p) ≡ true
+  -- what is brought to R30 unless it stands there already
+  brought_valid : (p : Location) (n : ℕ) (code : List AsmItem) → HasPlacesOrZ sizes p n
+      → (HasPlaces sizes p n → list_all valid code ≡ true) → list_all valid (if is_in_z p then [] else code) ≡ true
+  brought_valid p n code h f =
+      ⊎_elim (λ (k : HasPlaces sizes p n). by_test valid (is_in_z p) [] code refl (f k)) (λ (k : is_in_z p ≡ true). rw k refl) h
+
+  index_valid : (p : Location) (signed : Bool) (n : ℕ) (b : Bool) → (n == 1) ≡ b → 1 ≤ n → HasPlacesOrZ sizes p n
+      → list_all valid (if b then to_z_code p 1 ++ extend_code signed z_pair 1 2 else to_z_code p 2) ≡ true
   index_valid p signed n true e l h =
-      both valid (copy_code p z_pair 1) (extend_code signed z_pair 1 2) (one_valid p n l h) (extend_valid signed)
-  index_valid p signed n false e l h = let q = eqb-false n 1 e in pair_valid p n (omega (arith, q)) h
+      both valid (to_z_code p 1) (extend_code signed z_pair 1 2) (brought_valid p n (copy_code p z_pair 1) h (one_valid p n l))
+      (extend_valid signed)
+  index_valid p signed n false e l h =
+      let q = eqb-false n 1 e in brought_valid p n (point_code p) h (pair_valid p n (omega (arith, q)))
 
   product_valid : (size : ℕ) → size < 65536 → list_all valid (product_code size) ≡ true
   product_valid size l = rw (lt-ltb (size % 256) 256 (omega arith), lt-ltb (size / 256) 256 (omega arith)) refl
@@ -211,9 +219,10 @@ extend_plain false = refl
 
 index_plain : (p : Location) (signed : Bool) (n : ℕ) → list_all is_plain (index_code p signed n) ≡ true
 index_plain p signed n =
-    by_test is_plain (n == 1) (copy_code p z_pair 1 ++ extend_code signed z_pair 1 2) (point_code p)
-    (both is_plain (copy_code p z_pair 1) (extend_code signed z_pair 1 2) (one_plain p) (extend_plain signed))
-    (pair_plain p)
+    by_test is_plain (n == 1) (to_z_code p 1 ++ extend_code signed z_pair 1 2) (to_z_code p 2)
+    (both is_plain (to_z_code p 1) (extend_code signed z_pair 1 2)
+    (by_test is_plain (is_in_z p) [] (copy_code p z_pair 1) refl (one_plain p)) (extend_plain signed))
+    (by_test is_plain (is_in_z p) [] (point_code p) refl (pair_plain p))
 
 scale_plain : (size : ℕ) → list_all is_plain (scale_code size) ≡ true
 scale_plain size = of_each (λ (code : List AsmItem). list_all is_plain code ≡ true) size refl refl refl refl (λ small. refl) refl

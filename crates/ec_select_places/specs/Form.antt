@@ -1,5 +1,5 @@
 -- The form of the code: straight code, its steps and its words, and items that can be placed.
-use Rattle.std.specs.Prelude.{◌≡◌, ℕ, ◌+◌, ◌*◌, ◌<◌, ◌≤◌, Bool, true, List, IsTrue, count_by}
+use Rattle.std.specs.Prelude.{◌≡◌, ℕ, ◌+◌, ◌*◌, ◌<◌, ◌≤◌, Bool, true, List, IsTrue, count_by, ◌⊎◌}
 use Rattle.std.specs.List.{list_all}
 use Rattle.ec_asm.specs.declared.items.AsmItem.{AsmItem}
 use Rattle.ec_asm.specs.declared.pieces.Location.{Location}
@@ -7,7 +7,7 @@ use Rattle.ec_asm.specs.declared.pieces.Location.TheVariants.{InRegisters, InMem
 use Rattle.ec_asm.specs.Items.{all_straight, code_steps, code_words}
 use Rattle.ec_asm.specs.Valid.{Sizes, is_offset, is_valid_item, used_label, is_label, is_placed}
 use Rattle.ec_select_order.specs.declared.relations.Relation.{Relation}
-use Rattle.ec_select_places.specs.Steps.{scale_index_code, advance_code, order_code, compared_bytes}
+use Rattle.ec_select_places.specs.Steps.{is_in_z, scale_index_code, advance_code, order_code, compared_bytes}
 use Rattle.ec_select_places.specs.Distances.{distance_code, elements_code}
 use Rattle.ec_select_places.specs.Conversions.{embed_code, narrow_code}
 
@@ -23,7 +23,7 @@ pub record IsShort (code : List AsmItem) (least most words : ℕ) : Type 0 where
 abbrev pub StepsAreShort : Type 0
 StepsAreShort =
     (p q : Location) (signed minus : Bool) (n size : ℕ)
-    → IsShort (scale_index_code p signed n size) 1 19 24 × IsShort (advance_code minus q) 2 8 14
+    → IsShort (scale_index_code p signed n size) 0 19 24 × IsShort (advance_code minus q) 2 8 14
 
 abbrev pub ConversionsAreShort : Type 0
 ConversionsAreShort =
@@ -53,10 +53,14 @@ HasPlaces sizes (InMemory o k) n = (i : ℕ) → i < n → IsTrue (is_offset siz
 abbrev pub ItemsAreValid : Sizes → List AsmItem → Type 0
 ItemsAreValid sizes items = IsTrue (list_all (is_valid_item sizes) items)
 
+-- such are those of a number that may stand from R30 on
+abbrev pub HasPlacesOrZ : Sizes → Location → ℕ → Type 0
+HasPlacesOrZ sizes p n = HasPlaces sizes p n ⊎ (is_in_z p ≡ true)
+
 -- the fields of all items are in range where those of the bytes are
 abbrev pub StepsAreValid : Type 0
 StepsAreValid =
-    (sizes : Sizes) (p q : Location) (signed minus : Bool) (n size : ℕ) → HasPlaces sizes p n → 1 ≤ n → size < 65536
+    (sizes : Sizes) (p q : Location) (signed minus : Bool) (n size : ℕ) → HasPlacesOrZ sizes p n → 1 ≤ n → size < 65536
     → HasPlaces sizes q 2
     → ItemsAreValid sizes (scale_index_code p signed n size) × ItemsAreValid sizes (advance_code minus q)
 

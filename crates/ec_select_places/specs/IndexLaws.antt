@@ -7,7 +7,7 @@ use Rattle.ec_asm.specs.Items.{block}
 use Rattle.ec_asm.specs.Pieces.{StandsFrom, Outside, value}
 use Rattle.ec_asm.specs.PieceLaws.{HoldsNumbers}
 use Rattle.ec_asm.specs.Valid.{Sizes}
-use Rattle.ec_select_places.specs.Form.{IsShort, HasPlaces, ItemsAreValid, HasNoLabel}
+use Rattle.ec_select_places.specs.Form.{IsShort, HasPlaces, HasPlacesOrZ, ItemsAreValid, HasNoLabel}
 use Rattle.ec_select_places.specs.Indexes.{can_add, add_index_code}
 use Rattle.ec_select_places.specs.StepLaws.{index_of, moved_by}
 
@@ -36,7 +36,7 @@ IndexesAreShort =
 
 abbrev pub IndexesAreValid : Type 0
 IndexesAreValid =
-    (sizes : Sizes) (minus signed : Bool) (p q : Location) (n size : ℕ) → HasPlaces sizes p n → 1 ≤ n → HasPlaces sizes q 2
+    (sizes : Sizes) (minus signed : Bool) (p q : Location) (n size : ℕ) → HasPlacesOrZ sizes p n → 1 ≤ n → HasPlaces sizes q 2
     → can_add signed p q n size ≡ true → ItemsAreValid sizes (add_index_code minus p q n size)
 
 abbrev pub IndexesHaveNoLabel : Type 0

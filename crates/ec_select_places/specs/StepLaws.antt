@@ -1,5 +1,5 @@
 -- Laws of the code of pointers that are moved and compared.
-use Rattle.std.specs.Prelude.{◌≡◌, ◌≢◌, ℕ, ◌+◌, ◌-◌, ◌*◌, ◌%◌, ◌<◌, ◌≤◌, ◌==◌, Bool, if◌then◌else◌}
+use Rattle.std.specs.Prelude.{◌≡◌, ◌≢◌, ℕ, ◌+◌, ◌-◌, ◌*◌, ◌%◌, ◌<◌, ◌≤◌, ◌==◌, Bool, true, if◌then◌else◌, ◌⊎◌}
 use Rattle.ec_asm.specs.declared.pieces.Location.{Location}
 use Rattle.ec_asm.specs.View.{View}
 use Rattle.ec_asm.specs.Change.{Env, Own}
@@ -10,7 +10,7 @@ use Rattle.ec_select_bytes.specs.Values.{fill_of}
 use Rattle.ec_select_order.specs.declared.relations.Relation.{Relation}
 use Rattle.ec_select_order.specs.Laws.{Tells}
 use Rattle.ec_select_places.specs.Numbers.{Place, number_of, IsPlace, places_stand}
-use Rattle.ec_select_places.specs.Steps.{scale_index_code, advance_code, order_code}
+use Rattle.ec_select_places.specs.Steps.{is_in_z, scale_index_code, advance_code, order_code}
 
 -- n bytes of which none is R30 or R31
 pub record LeavesZ (a n : ℕ) : Type 0 where
@@ -32,10 +32,14 @@ pub record Scales (v : View) (number : ℕ) (w : View) : Type 0 where
   pub safe : w.safe ≡ v.safe
   pub seen : w.seen ≡ v.seen
 
+-- n bytes of which none is R30 or R31, or one or two bytes that stand from R30 on
+abbrev pub MayBeInZ : Location → (a n : ℕ) → Type 0
+MayBeInZ p a n = LeavesZ a n ⊎ ((is_in_z p ≡ true) × (n ≤ 2))
+
 -- a number of elements becomes one of bytes, modulo 65,536
 abbrev pub IndexesAreScaled : Type 0
 IndexesAreScaled =
-    (e : Env) (p : Location) (signed : Bool) (n size a : ℕ) (v : View) → StandsFrom e p n a Own → LeavesZ a n → 1 ≤ n
+    (e : Env) (p : Location) (signed : Bool) (n size a : ℕ) (v : View) → StandsFrom e p n a Own → MayBeInZ p a n → 1 ≤ n
     → size < 65536 → HoldsNumbers v
     → Scales v (index_of signed n (value v.at a n) * size % 65536) (block e (scale_index_code p signed n size) v)
 

@@ -5,7 +5,7 @@ use Rattle.ec_asm.specs.declared.items.AsmItem.{AsmItem}
 use Rattle.ec_asm.specs.declared.items.AsmItem.TheVariants.{Plain}
 use Rattle.ec_asm.specs.Items.{chain}
 use Rattle.ec_asm.specs.declared.pieces.Location.{Location}
-use Rattle.ec_asm.specs.declared.pieces.Location.TheVariants.{InRegisters}
+use Rattle.ec_asm.specs.declared.pieces.Location.TheVariants.{InRegisters, InMemory}
 use Rattle.ec_asm.specs.declared.pieces.Operator.{Operator}
 use Rattle.ec_asm.specs.declared.pieces.Operator.TheVariants.{Sum, Difference}
 use Rattle.ec_asm.specs.Pieces.{copy_code, operate_code}
@@ -21,10 +21,18 @@ z_pair = InRegisters 30
 
 -- ---- sums
 
+-- a number that stands from R30 on
+abbrev pub is_in_z : Location → Bool
+is_in_z (InRegisters r) = r == 30
+is_in_z (InMemory o k) = false
+
+-- one byte or two are brought there; this is no code where they stand there already
+abbrev pub to_z_code : Location → ℕ → List AsmItem
+to_z_code p n = if is_in_z p then [] else (if n == 1 then copy_code p z_pair 1 else point_code p)
+
 -- the low two bytes of a number of n bytes, or one byte with its sign or 0 above it
 abbrev pub index_code : Location → Bool → ℕ → List AsmItem
-index_code p signed n =
-    if n == 1 then copy_code p z_pair 1 ++ extend_code signed z_pair 1 2 else point_code p
+index_code p signed n = if n == 1 then to_z_code p 1 ++ extend_code signed z_pair 1 2 else to_z_code p 2
 
 -- R31:R30 times a constant: the product of the low bytes, and those of a low and a high byte above it
 abbrev pub product_code : ℕ → List AsmItem

@@ -2,7 +2,7 @@
 ghost use Rattle.std.specs.Prelude.{◌≡◌, ◌<◌, ◌≤◌, ◌++◌, OnOk, OnErr};
 ghost use Rattle.ec_runs.specs.Behaviours.{BeginWith};
 ghost use Rattle.ec_asm.specs.Pieces.{HasBytes};
-ghost use Rattle.ec_select_places.specs.Steps.{z_pair, index_code, product_code, scale_code, scale_index_code};
+ghost use Rattle.ec_select_places.specs.Steps.{z_pair, is_in_z, to_z_code, index_code, product_code, scale_code, scale_index_code};
 ghost use Rattle.ec_select_places.specs.Steps.{byte_product_code, double_z, doublings_code, doublings_of, multiply_code};
 ghost use Rattle.ec_select_places.specs.Steps.{advance_code, compared_bytes, order_code};
 
@@ -20,6 +20,34 @@ pub(crate) fn z_pair() -> Location
     Location::InRegisters(30)
 }
 
+/// Whether a number stands from R30 on.
+fn is_in_z(at: Location) -> bool
+    ensures { result ≡ is_in_z at }
+{
+    match at {
+        Location::InRegisters(r) => r == 30,
+        Location::InMemory { .. } => false,
+    }
+}
+
+/// Appends code that brings one byte or two to R30 and R31; none where they stand there already.
+fn bring_to_z(out: &mut Seq<AsmItem>, from: Location, bytes: u8) -> Result<(), NoMemory>
+    requires from { HasBytes from bytes }
+    requires some { 1 ≤ bytes }
+    requires most { bytes ≤ 2 }
+    ensures ok { OnOk result (out.new.items ≡ out.old.items ++ to_z_code from bytes) }
+    ensures err { OnErr result (BeginWith out.old.items out.new.items) }
+{
+    if is_in_z(from) {
+        return Ok(());
+    }
+    if bytes == 1 {
+        copy(out, from, z_pair(), 1)
+    } else {
+        point(out, from)
+    }
+}
+
 /// Appends code that loads R31:R30 with a number of so many bytes, modulo 65,536.
 fn load_index(
     out: &mut Seq<AsmItem>,
@@ -33,10 +61,10 @@ fn load_index(
     ensures err { OnErr result (BeginWith out.old.items out.new.items) }
 {
     if bytes == 1 {
-        copy(out, from, z_pair(), 1)?;
+        bring_to_z(out, from, 1)?;
         extend(out, signed, z_pair(), 1, 2)
     } else {
-        point(out, from)
+        bring_to_z(out, from, 2)
     }
 }
 

@@ -19,7 +19,7 @@ use Rattle.ec_asm.proofs.Bytes.{put_here, put_other}
 use Rattle.ec_select_pointers.specs.Accesses.{data_byte, flash_byte, store_byte}
 use Rattle.ec_select_pointers.specs.AccessLaws.{each, Brings}
 use Rattle.ec_select_pointers.specs.Far.{far_byte}
-use Rattle.ec_select_pointers.specs.Fetched.{member_byte}
+use Rattle.ec_select_pointers.specs.Fetched.{member_byte, store_member_byte}
 use Rattle.ec_select_pointers.proofs.Blocks.{outside_ne, fewer}
 
 -- ---- one byte
@@ -100,6 +100,14 @@ pub byte_is_stored : (e : Env) (p : Location) (i a t : ℕ) (v : View) → addre
 byte_is_stored e (InRegisters r) i a t v p k z kt low high =
     rw (p, z, kt) (at_once t (v.at a) (Write t (v.at a)) v low high)
 byte_is_stored e (InMemory o j) i a t v p k z kt low high =
+    rw (p, k, z, kt) (by_r0 t (v.at a) (v.at a) (Write t (v.at a)) v low high)
+
+pub member_is_stored : (e : Env) (d : ℕ) (p : Location) (i a t : ℕ) (v : View) → address e p i ≡ a → KindIs e p a Own
+    → (pair v.at 30 + (d + i)) % 65536 ≡ t → e.kind t ≡ Object → t ≢ 30 → t ≢ 31
+    → BringsByte v (block e (store_member_byte d p i) v) t (v.at a) (Write t (v.at a)) (pair v.at 30)
+member_is_stored e d (InRegisters r) i a t v p k z kt low high =
+    rw (p, z, kt) (at_once t (v.at a) (Write t (v.at a)) v low high)
+member_is_stored e d (InMemory o j) i a t v p k z kt low high =
     rw (p, k, z, kt) (by_r0 t (v.at a) (v.at a) (Write t (v.at a)) v low high)
 
 -- ---- a byte of a load from the flash bank, which moves Z

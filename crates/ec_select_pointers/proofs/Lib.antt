@@ -8,6 +8,7 @@ mod Brought
 mod Accessed
 mod Short
 mod Tagged
+mod TaggedInZ
 mod FarLoaded
 mod FarTagged
 mod FarFormed

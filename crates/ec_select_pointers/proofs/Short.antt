@@ -13,8 +13,9 @@ use Rattle.ec_asm.specs.Items.{all_straight, code_steps, code_words, item_words,
 use Rattle.ec_asm.specs.Pieces.{StandsFrom, copy_code}
 use Rattle.ec_asm.proofs.Hoare.{straight-append, steps-append}
 use Rattle.ec_asm.proofs.ItemWords.{chain_words, all_far, chain_far, own_far}
-use Rattle.ec_select_pointers.specs.Addresses.{pointer_bytes, part_byte, tag_code, address_code, rest_of}
-use Rattle.ec_select_pointers.specs.Addresses.{subtract_byte, field_code}
+use Rattle.ec_select_pointers.specs.Addresses.{is_low_pair, pointer_bytes, part_byte, parts_code, parts_pair, both_parts}
+use Rattle.ec_select_pointers.specs.Addresses.{tag_code, address_code, rest_of, subtract_byte, subtract_each, subtract_pair}
+use Rattle.ec_select_pointers.specs.Addresses.{subtract_both, field_code}
 use Rattle.ec_select_pointers.specs.Accesses.{point_code, data_byte, data_bytes, flash_byte, flash_bytes, bytes_words}
 use Rattle.ec_select_pointers.specs.Accesses.{tag_test, over, either_bytes, load_data_code, load_flash_code}
 use Rattle.ec_select_pointers.specs.Accesses.{load_table_code, load_any_code, store_byte, store_bytes}
@@ -83,11 +84,20 @@ two_or_three : (tag : Option ℕ) → 2 ≤ pointer_bytes tag
 two_or_three None = omega arith
 two_or_three (Some tag) = omega arith
 
+both_parts_short : (o k : ℕ) (q : Location) → IsShort (both_parts o k q) 2 4 6
+both_parts_short o k (InMemory p j) =
+    joined (part_byte o k (InMemory p j) 0) (part_byte o k (InMemory p j) 1) 1 1 2 2 3 3 (part_short o k (InMemory p j) 0)
+    (part_short o k (InMemory p j) 1)
+both_parts_short o k (InRegisters r) =
+    by_test (is_low_pair r) (parts_pair o k r) (parts_code o k (InRegisters r)) 2 4 6
+    (record { straight = refl; at_least = omega arith; steps_are = omega arith; words_are = omega arith })
+    (joined (part_byte o k (InRegisters r) 0) (part_byte o k (InRegisters r) 1) 1 1 2 2 3 3 (part_short o k (InRegisters r) 0)
+    (part_short o k (InRegisters r) 1))
+
 address_short : (o k : ℕ) (tag : Option ℕ) (q : Location)
     → IsShort (address_code o k tag q) (pointer_bytes tag) (2 * pointer_bytes tag) (3 * pointer_bytes tag)
 address_short o k tag q =
-    let t = joined (part_byte o k q 1) (tag_code tag q) 1 _ 2 _ 3 _ (part_short o k q 1) (tag_short tag q) in
-    let j = joined (part_byte o k q 0) (part_byte o k q 1 ++ tag_code tag q) 1 _ 2 _ 3 _ (part_short o k q 0) t in
+    let j = joined (both_parts o k q) (tag_code tag q) 2 _ 4 _ 6 _ (both_parts_short o k q) (tag_short tag q) in
     let m = two_or_three tag in
     let x = j.at_least in
     let s = j.steps_are in
@@ -113,12 +123,23 @@ subtract_short k (InMemory o j) zero =
 subtract_short k (InMemory o j) (suc i) =
     record { straight = refl; at_least = omega arith; steps_are = omega arith; words_are = omega arith }
 
+subtract_each_short : (k : ℕ) (q : Location) → IsShort (subtract_each k q) 0 6 10
+subtract_each_short k q =
+    joined (subtract_byte (k % 256) q 0) (subtract_byte (k / 256) q 1) 0 0 3 3 5 5 (subtract_short (k % 256) q 0)
+    (subtract_short (k / 256) q 1)
+
+subtract_both_short : (k : ℕ) (q : Location) → IsShort (subtract_both k q) 0 6 10
+subtract_both_short k (InMemory o j) = subtract_each_short k (InMemory o j)
+subtract_both_short k (InRegisters r) =
+    by_test (is_low_pair r) (subtract_pair k r) (subtract_each k (InRegisters r)) 0 6 10
+    (record { straight = refl; at_least = omega arith; steps_are = omega arith; words_are = omega arith })
+    (subtract_each_short k (InRegisters r))
+
 field_short : (q : Location) (offset : ℕ) → IsShort (field_code q offset) 0 6 10
 field_short q offset =
-    by_test (offset % 65536 == 0) [] (subtract_byte (rest_of offset % 256) q 0 ++ subtract_byte (rest_of offset / 256) q 1) 0 6 10
+    by_test (offset % 65536 == 0) [] (subtract_both (rest_of offset) q) 0 6 10
     (record { straight = refl; at_least = omega arith; steps_are = omega arith; words_are = omega arith })
-    (joined (subtract_byte (rest_of offset % 256) q 0) (subtract_byte (rest_of offset / 256) q 1) 0 0 3 3 5 5
-    (subtract_short (rest_of offset % 256) q 0) (subtract_short (rest_of offset / 256) q 1))
+    (subtract_both_short (rest_of offset) q)
 
 -- ---- accesses
 

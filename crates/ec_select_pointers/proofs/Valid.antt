@@ -1,7 +1,7 @@
 -- The items of the code are valid, and have no labels.
 use Rattle.std.proofs.Common.{◌≡◌, ℕ, zero, suc, ◌+◌, ◌/◌, ◌%◌, ◌<◌, ◌≤◌, ◌==◌, Bool, true, false, List, [], ◌∷◌}
 use Rattle.std.proofs.Common.{◌++◌, Option, Some, None, refl, ◌∙◌, arith}
-use Rattle.std.specs.Prelude.{nat_le, count_by, cond, if◌then◌else◌}
+use Rattle.std.specs.Prelude.{nat_le, nat_lt, count_by, cond, if◌then◌else◌}
 use Rattle.std.specs.List.{list_all}
 use Rattle.std.proofs.lemmas.Bool.{lt-ltb, le-leb, eqb-true, eqb-false, ne_eqb, false≢true, and_parts}
 use Rattle.std.proofs.lemmas.List.Folds.{list_all-append, sum_by-zero}
@@ -14,8 +14,9 @@ use Rattle.ec_asm.specs.declared.pieces.Location.TheVariants.{InRegisters, InMem
 use Rattle.ec_asm.specs.Items.{chain}
 use Rattle.ec_asm.specs.Pieces.{copy_byte}
 use Rattle.ec_asm.specs.Valid.{Sizes, is_offset, is_valid_item, used_label, is_label, is_placed}
-use Rattle.ec_select_pointers.specs.Addresses.{pointer_bytes, part_byte, tag_code, address_code, rest_of}
-use Rattle.ec_select_pointers.specs.Addresses.{subtracts, subtract_byte, field_code}
+use Rattle.ec_select_pointers.specs.Addresses.{is_low_pair, pointer_bytes, part_byte, parts_code, parts_pair, both_parts}
+use Rattle.ec_select_pointers.specs.Addresses.{tag_code, address_code, rest_of, subtracts, subtract_byte, subtract_each}
+use Rattle.ec_select_pointers.specs.Addresses.{subtract_pair, subtract_both, field_code}
 use Rattle.ec_select_pointers.specs.Accesses.{point_code, data_byte, data_bytes, flash_byte, flash_bytes, bytes_words}
 use Rattle.ec_select_pointers.specs.Accesses.{tag_test, over, either_bytes, load_data_code, load_flash_code}
 use Rattle.ec_select_pointers.specs.Accesses.{load_table_code, load_any_code, store_byte, store_bytes}
@@ -43,27 +44,20 @@ by_test t false a c h k = k
 -- ---- a test that each piece of the code passes
 
 record PassAddresses (t : AsmItem → Bool) (o k : ℕ) (q : Location) (n : ℕ) (tag : Option ℕ) : Type 0 where
-  part : (i : ℕ) → i < 2 → list_all t (part_byte o k q i) ≡ true
+  parts : list_all t (both_parts o k q) ≡ true
   tagged : list_all t (tag_code tag q) ≡ true
-  less : (i x : ℕ) → i < 2 → x < 256 → list_all t (subtract_byte x q i) ≡ true
+  less : (x : ℕ) → x < 65536 → list_all t (subtract_both x q) ≡ true
 
 module _ (t : AsmItem → Bool) (o k : ℕ) (q : Location) (n : ℕ) (tag : Option ℕ) (h : PassAddresses t o k q n tag) where
   address_passes : list_all t (address_code o k tag q) ≡ true
-  address_passes =
-      both t (part_byte o k q 0) (part_byte o k q 1 ++ tag_code tag q) (h.part 0 (omega arith))
-      (both t (part_byte o k q 1) (tag_code tag q) (h.part 1 (omega arith)) h.tagged)
+  address_passes = both t (both_parts o k q) (tag_code tag q) h.parts h.tagged
 
   field_passes : list_all t (field_code q k) ≡ true
   field_passes = by_size (k % 65536 == 0) refl
     where
-      by_size : (b : Bool) → (k % 65536 == 0) ≡ b
-          → list_all t (if b then [] else subtract_byte (rest_of k % 256) q 0 ++ subtract_byte (rest_of k / 256) q 1) ≡ true
+      by_size : (b : Bool) → (k % 65536 == 0) ≡ b → list_all t (if b then [] else subtract_both (rest_of k) q) ≡ true
       by_size true e = refl
-      by_size false e =
-          let z = eqb-false (k % 65536) 0 e in
-          both t (subtract_byte (rest_of k % 256) q 0) (subtract_byte (rest_of k / 256) q 1)
-          (h.less 0 (rest_of k % 256) (omega arith) (omega arith))
-          (h.less 1 (rest_of k / 256) (omega arith) (omega (arith, z)))
+      by_size false e = let z = eqb-false (k % 65536) 0 e in h.less (rest_of k) (omega (arith, z))
 
 record PassAccesses (t : AsmItem → Bool) (p q : Location) (n : ℕ) : Type 0 where
   point : list_all t (point_code p) ≡ true
@@ -126,17 +120,52 @@ module _ (sizes : Sizes) where
   subtract_valid (InMemory o j) n i x h l m =
       rw (h i l, subtracts_valid i 30 x refl (omega arith) m) refl
 
+  -- both bytes of an address
+  both_parts_valid : (o k : ℕ) (q : Location) (n : ℕ) → HasPlaces sizes q n → 2 ≤ n → is_offset sizes o k ≡ true
+      → list_all valid (both_parts o k q) ≡ true
+  both_parts_valid o k q n h two s = by_place q h
+    where
+      each : (q : Location) → HasPlaces sizes q n → list_all valid (parts_code o k q) ≡ true
+      each q h =
+          both valid (part_byte o k q 0) (part_byte o k q 1) (part_valid o k q n 0 h (omega (arith, two)) (omega arith) s)
+          (part_valid o k q n 1 h (omega (arith, two)) (omega arith) s)
+
+      by_place : (q : Location) → HasPlaces sizes q n → list_all valid (both_parts o k q) ≡ true
+      by_place (InMemory p j) h = each (InMemory p j) h
+      by_place (InRegisters r) h =
+          by_test valid (is_low_pair r) (parts_pair o k r) (parts_code o k (InRegisters r))
+          (λ e. let even = (and_parts (nat_lt r 16) (r % 2 == 0) e).1 in rw (s, lt-ltb r 32 (omega (arith, h, two)), even) refl)
+          (each (InRegisters r) h)
+
+  -- two bytes subtracted
+  both_less_valid : (q : Location) (n x : ℕ) → HasPlaces sizes q n → 2 ≤ n → x < 65536 → list_all valid (subtract_both x q) ≡ true
+  both_less_valid q n x h two m = by_place q h
+    where
+      each : (q : Location) → HasPlaces sizes q n → list_all valid (subtract_each x q) ≡ true
+      each q h =
+          both valid (subtract_byte (x % 256) q 0) (subtract_byte (x / 256) q 1)
+          (subtract_valid q n 0 (x % 256) h (omega (arith, two)) (omega arith))
+          (subtract_valid q n 1 (x / 256) h (omega (arith, two)) (omega (arith, m)))
+
+      by_place : (q : Location) → HasPlaces sizes q n → list_all valid (subtract_both x q) ≡ true
+      by_place (InMemory p j) h = each (InMemory p j) h
+      by_place (InRegisters r) h =
+          by_test valid (is_low_pair r) (subtract_pair x r) (subtract_each x (InRegisters r))
+          (λ e. let even = (and_parts (nat_lt r 16) (r % 2 == 0) e).1 in
+          rw (lt-ltb r 32 (omega (arith, h, two)), even, lt-ltb (x % 256) 256 (omega arith), lt-ltb (x / 256) 256 (omega (arith, m))) refl)
+          (each (InRegisters r) h)
+
   addresses_pass : (o k : ℕ) (q : Location) (tag : Option ℕ) → HasPlaces sizes q (pointer_bytes tag)
       → is_offset sizes o k ≡ true → IsTag tag → PassAddresses valid o k q (pointer_bytes tag) tag
   addresses_pass o k q None h s t = record {
-    part = λ i l. part_valid o k q 2 i h l l s;
+    parts = both_parts_valid o k q 2 h (omega arith) s;
     tagged = refl;
-    less = λ i x l m. subtract_valid q 2 i x h l m;
+    less = λ x m. both_less_valid q 2 x h (omega arith) m;
   }
   addresses_pass o k q (Some tag) h s t = record {
-    part = λ i l. part_valid o k q 3 i h (omega arith) l s;
+    parts = both_parts_valid o k q 3 h (omega arith) s;
     tagged = tag_valid (Some tag) q h t;
-    less = λ i x l m. subtract_valid q 3 i x h (omega arith) m;
+    less = λ x m. both_less_valid q 3 x h (omega arith) m;
   }
 
   pub point_valid : (p : Location) → HasPlaces sizes p 2 → list_all valid (point_code p) ≡ true
@@ -155,7 +184,7 @@ module _ (sizes : Sizes) where
   data_valid (InRegisters r) n i m h l = rw (lt-ltb (r + i) 32 (omega arith), lt-ltb i 64 (omega arith)) refl
   data_valid (InMemory o k) n i m h l = rw (lt-ltb i 64 (omega arith), h i l) refl
 
-  flash_valid : (q : Location) (n i : ℕ) → HasPlaces sizes q n → i < n → list_all valid (flash_byte q i) ≡ true
+  pub flash_valid : (q : Location) (n i : ℕ) → HasPlaces sizes q n → i < n → list_all valid (flash_byte q i) ≡ true
   flash_valid (InRegisters r) n i h l =
       rw (lt-ltb (r + i) 32 (omega arith), ne_eqb (r + i) 30 (omega arith), ne_eqb (r + i) 31 (omega arith)) refl
   flash_valid (InMemory o k) n i h l = rw (h i l) refl
@@ -271,8 +300,26 @@ pub subtract_plain : (x : ℕ) (q : Location) (i : ℕ) → list_all is_plain (s
 subtract_plain x (InRegisters r) i = by_test is_plain (nat_le 16 (r + i)) _ _ (λ e. refl) refl
 subtract_plain x (InMemory o j) i = refl
 
+both_parts_plain : (o k : ℕ) (q : Location) → list_all is_plain (both_parts o k q) ≡ true
+both_parts_plain o k (InMemory p j) = refl
+both_parts_plain o k (InRegisters r) =
+    by_test is_plain (is_low_pair r) (parts_pair o k r) (parts_code o k (InRegisters r)) (λ e. refl)
+    (both is_plain (part_byte o k (InRegisters r) 0) (part_byte o k (InRegisters r) 1) (part_plain o k (InRegisters r) 0)
+    (part_plain o k (InRegisters r) 1))
+
+both_less_plain : (x : ℕ) (q : Location) → list_all is_plain (subtract_both x q) ≡ true
+both_less_plain x (InMemory o j) = refl
+both_less_plain x (InRegisters r) =
+    by_test is_plain (is_low_pair r) (subtract_pair x r) (subtract_each x (InRegisters r)) (λ e. refl)
+    (both is_plain (subtract_byte (x % 256) (InRegisters r) 0) (subtract_byte (x / 256) (InRegisters r) 1)
+    (subtract_plain (x % 256) (InRegisters r) 0) (subtract_plain (x / 256) (InRegisters r) 1))
+
 plain_addresses : (o k : ℕ) (q : Location) (tag : Option ℕ) → PassAddresses is_plain o k q 2 tag
-plain_addresses o k q tag = record { part = λ i l. part_plain o k q i; tagged = tag_plain tag q; less = λ i x l m. subtract_plain x q i }
+plain_addresses o k q tag = record {
+  parts = both_parts_plain o k q;
+  tagged = tag_plain tag q;
+  less = λ x m. both_less_plain x q;
+}
 
 pub point_plain : (p : Location) → list_all is_plain (point_code p) ≡ true
 point_plain (InRegisters r) = by_test is_plain (r % 2 == 0) _ _ (λ e. refl) refl
@@ -282,7 +329,7 @@ pub data_plain : (q : Location) (i : ℕ) → list_all is_plain (data_byte q i) 
 data_plain (InRegisters r) i = refl
 data_plain (InMemory o k) i = refl
 
-flash_plain : (q : Location) (i : ℕ) → list_all is_plain (flash_byte q i) ≡ true
+pub flash_plain : (q : Location) (i : ℕ) → list_all is_plain (flash_byte q i) ≡ true
 flash_plain (InRegisters r) i = refl
 flash_plain (InMemory o k) i = refl
 

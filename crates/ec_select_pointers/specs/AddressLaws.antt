@@ -8,11 +8,11 @@ use Rattle.ec_asm.specs.Pieces.{StandsFrom, Outside, value}
 use Rattle.ec_asm.specs.PieceLaws.{HoldsNumbers}
 use Rattle.ec_select_pointers.specs.Addresses.{pointer_bytes, address_code, field_code}
 
--- n bytes from a have a number, and all else is kept but R30 and the flags
+-- n bytes from a have a number, and all else is kept but R30, R31 and the flags
 pub record HasPut (v : View) (a n number : ℕ) (w : View) : Type 0 where
   pub number_is : value w.at a n ≡ number
   pub numbers : HoldsNumbers v → HoldsNumbers w
-  pub same : (k : ℕ) → k ≢ 30 → Outside a n k → w.at k ≡ v.at k
+  pub same : (k : ℕ) → k ≢ 30 → k ≢ 31 → Outside a n k → w.at k ≡ v.at k
   pub inputs : w.inputs ≡ v.inputs
   pub safe : w.safe ≡ v.safe
   pub seen : w.seen ≡ v.seen

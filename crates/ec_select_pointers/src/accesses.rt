@@ -72,7 +72,7 @@ fn flash_byte(out: &mut Seq<AsmItem>, to: Location, i: u8) -> Result<(), NoMemor
     }
 }
 
-fn flash_bytes(out: &mut Seq<AsmItem>, to: Location, bytes: u8) -> Result<(), NoMemory>
+pub(crate) fn flash_bytes(out: &mut Seq<AsmItem>, to: Location, bytes: u8) -> Result<(), NoMemory>
     requires { HasBytes to bytes }
     ensures ok { OnOk result (out.new.items ≡ out.old.items ++ flash_bytes to bytes) }
     ensures err { OnErr result (BeginWith out.old.items out.new.items) }

@@ -2,8 +2,9 @@
 ghost use Rattle.std.specs.Prelude.{◌≡◌, ◌++◌, OnOk, OnErr, Option};
 ghost use Rattle.ec_runs.specs.Behaviours.{BeginWith};
 ghost use Rattle.ec_asm.specs.Pieces.{HasByte, HasBytes};
-ghost use Rattle.ec_select_pointers.specs.Addresses.{part_byte, tag_code, address_code, subtracts, subtract_byte};
-ghost use Rattle.ec_select_pointers.specs.Addresses.{field_code, pointer_bytes};
+ghost use Rattle.ec_select_pointers.specs.Addresses.{part_byte, parts_pair, both_parts, tag_code, address_code, subtracts};
+ghost use Rattle.ec_select_pointers.specs.Addresses.{subtract_byte, subtract_pair, subtract_both, field_code, pointer_bytes};
+ghost use Rattle.ec_select_pointers.specs.Addresses.{is_low_pair};
 
 use crate::memory::{load, store};
 use ec_asm::{AsmItem, Location};
@@ -54,6 +55,55 @@ pub(crate) fn part_byte(
     }
 }
 
+/// Whether two bytes in registers are below R16 and are reached by one MOVW.
+fn is_low_pair(r: u8) -> bool
+    ensures { result ≡ is_low_pair r }
+{
+    r < 16 && r % 2 == 0
+}
+
+/// Appends code that puts the address of a place to two registers, by R30 and R31.
+fn parts_pair(out: &mut Seq<AsmItem>, object: u16, offset: u32, r: u8) -> Result<(), NoMemory>
+    ensures ok { OnOk result (out.new.items ≡ out.old.items ++ parts_pair object offset r) }
+    ensures err { OnErr result (out.new.items ≡ out.old.items) }
+{
+    out.extend_from_slice(&[
+        AsmItem::LoadPart {
+            d: 30,
+            object,
+            offset,
+            part: 0,
+        },
+        AsmItem::LoadPart {
+            d: 31,
+            object,
+            offset,
+            part: 1,
+        },
+        AsmItem::Plain(Instr::Movw { d: r, r: 30 }),
+    ])
+}
+
+/// Appends code that puts both bytes of the address of a place to the first two of a pointer.
+fn both_parts(
+    out: &mut Seq<AsmItem>,
+    object: u16,
+    offset: u32,
+    to: Location,
+) -> Result<(), NoMemory>
+    requires { HasBytes to 2 }
+    ensures ok { OnOk result (out.new.items ≡ out.old.items ++ both_parts object offset to) }
+    ensures err { OnErr result (BeginWith out.old.items out.new.items) }
+{
+    match to {
+        Location::InRegisters(r) if is_low_pair(r) => parts_pair(out, object, offset, r),
+        _ => {
+            part_byte(out, object, offset, to, 0)?;
+            part_byte(out, object, offset, to, 1)
+        }
+    }
+}
+
 /// Appends code that puts a tag to the third byte of a pointer, or nothing for a pointer without a tag.
 fn tag_byte(out: &mut Seq<AsmItem>, tag: Option<u8>, to: Location) -> Result<(), NoMemory>
     requires { HasBytes to (pointer_bytes tag) }
@@ -91,8 +141,7 @@ pub fn address(
     ensures ok { OnOk result (out.new.items ≡ out.old.items ++ address_code object offset tag to) }
     ensures err { OnErr result (BeginWith out.old.items out.new.items) }
 {
-    part_byte(out, object, offset, to, 0)?;
-    part_byte(out, object, offset, to, 1)?;
+    both_parts(out, object, offset, to)?;
     tag_byte(out, tag, to)
 }
 
@@ -135,6 +184,40 @@ pub(crate) fn subtract_byte(
     }
 }
 
+/// Appends code that subtracts a constant from two registers, in R30 and R31.
+fn subtract_pair(out: &mut Seq<AsmItem>, k: u16, r: u8) -> Result<(), NoMemory>
+    ensures ok { OnOk result (out.new.items ≡ out.old.items ++ subtract_pair k r) }
+    ensures err { OnErr result (out.new.items ≡ out.old.items) }
+{
+    out.extend_from_slice(&[
+        AsmItem::Plain(Instr::Movw { d: 30, r }),
+        AsmItem::Plain(Instr::Subi {
+            d: 30,
+            k: (k % 256) as u8,
+        }),
+        AsmItem::Plain(Instr::Sbci {
+            d: 31,
+            k: (k / 256) as u8,
+        }),
+        AsmItem::Plain(Instr::Movw { d: r, r: 30 }),
+    ])
+}
+
+/// Appends code that subtracts a constant from the first two bytes of a place.
+fn subtract_both(out: &mut Seq<AsmItem>, k: u16, at: Location) -> Result<(), NoMemory>
+    requires { HasBytes at 2 }
+    ensures ok { OnOk result (out.new.items ≡ out.old.items ++ subtract_both k at) }
+    ensures err { OnErr result (BeginWith out.old.items out.new.items) }
+{
+    match at {
+        Location::InRegisters(r) if is_low_pair(r) => subtract_pair(out, k, r),
+        _ => {
+            subtract_byte(out, (k % 256) as u8, at, 0)?;
+            subtract_byte(out, (k / 256) as u8, at, 1)
+        }
+    }
+}
+
 /// Appends code that adds an offset to the address in a pointer, modulo 65,536, and keeps its tag. Where memory runs
 /// out, a part of the code is appended.
 pub fn field(out: &mut Seq<AsmItem>, pointer: Location, offset: u32) -> Result<(), NoMemory>
@@ -146,6 +229,5 @@ pub fn field(out: &mut Seq<AsmItem>, pointer: Location, offset: u32) -> Result<(
         return Ok(());
     }
     let rest = 65536 - offset % 65536;
-    subtract_byte(out, (rest % 256) as u8, pointer, 0)?;
-    subtract_byte(out, (rest / 256) as u8, pointer, 1)
+    subtract_both(out, rest as u16, pointer)
 }

@@ -11,18 +11,21 @@ ghost use Rattle.ec_select_pointers.specs.FarLaws.{FarFlashIsLoadedByTop, FarAdd
 ghost use Rattle.ec_select_pointers.specs.FarForm.{FarPointersAreStraight, FarPointersTake, FarPointersHave};
 ghost use Rattle.ec_select_pointers.specs.FarForm.{FarAddressesAreValid, FarTablesAreValid, FarAccessesAreValid};
 ghost use Rattle.ec_select_pointers.specs.FarForm.{FarPointersHaveNoLabel};
-ghost use Rattle.ec_select_pointers.specs.FetchedLaws.{PointersAreFetched, ZIsSet, MembersAreLoaded};
-ghost use Rattle.ec_select_pointers.specs.FetchedLaws.{FetchesAreShort, MembersAreShort, PointIsShort};
-ghost use Rattle.ec_select_pointers.specs.FetchedLaws.{FetchesAreValid, PointIsValid, MembersAreValid, FetchesHaveNoLabel};
+ghost use Rattle.ec_select_pointers.specs.FetchedLaws.{PointersAreFetched, ZIsSet, MembersAreLoaded, FetchesAreShort};
+ghost use Rattle.ec_select_pointers.specs.FetchedLaws.{MembersAreShort, PointIsShort, FetchesAreValid, PointIsValid};
+ghost use Rattle.ec_select_pointers.specs.FetchedLaws.{MembersAreValid, FetchesHaveNoLabel, FurtherIsLoaded};
+ghost use Rattle.ec_select_pointers.specs.FetchedLaws.{DataIsLoadedFromZ, FlashIsLoadedFromZ, FurtherIsShort};
+ghost use Rattle.ec_select_pointers.specs.FetchedLaws.{TaggedHas, FurtherIsValid, MembersKeepZ, MembersAreStored};
+ghost use Rattle.ec_select_pointers.specs.FetchedLaws.{StoresAreShort, StoresAreValid};
 
 use ec_asm::laws::{copies_are_right, jumps_go, parts_stand, runs_join, straight_code_goes};
 
-/// The code of `address` puts the address of a place to a pointer, and keeps all else but R30.
+/// The code of `address` puts the address of a place to a pointer, and keeps all else but R30 and R31.
 pub fn addresses_are_right()
     ensures { AddressesAreRight }
 {}
 
-/// The code of `field` adds an offset to the address in a pointer, and keeps all else but R30 and the flags.
+/// The code of `field` adds an offset to the address in a pointer, and keeps all else but R30, R31 and the flags.
 pub fn fields_are_right()
     ensures { FieldsAreRight }
 {}
@@ -109,7 +112,7 @@ pub fn far_loads_by_top_are_right()
 }
 
 /// The code of `far_address` puts the whole address of a place to a pointer of three bytes, and keeps all else but R30.
-/// That of `far_field` adds an offset to all three bytes, and keeps all else but R30 and the flags.
+/// That of `far_field` adds an offset to all three bytes, and keeps all else but R30, R31 and the flags.
 pub fn far_addresses_are_right()
     ensures addresses { FarAddressesAreRight }
     ensures fields { FarFieldsAreRight }
@@ -132,22 +135,44 @@ pub fn far_pointers_are_valid()
 {}
 
 /// The code of `fetch` reads each byte of a pointer once and leaves its address in Z, and that of `point` sets Z without
-/// being noted. All else is kept but R0. The code of `load_member` brings the bytes at a displacement from Z, each by one
-/// read, by rising address.
+/// being noted. All else is kept but R0, which has the third byte where that is the last one. The code of `load_member`
+/// brings the bytes at a displacement from Z, each by one read, by rising address, and keeps Z; that of `load_further` brings
+/// those of the flash bank, and that of `store_member` brings bytes to the data bank, each by one write.
 pub fn pointers_stay_in_z()
     ensures fetched { PointersAreFetched }
     ensures set { ZIsSet }
     ensures loaded { MembersAreLoaded }
+    ensures further { FurtherIsLoaded }
+    ensures kept { MembersKeepZ }
+    ensures stored { MembersAreStored }
 {}
 
-/// It is straight, takes at least and at most so many steps and has at most so many words. Its items can be placed, and
-/// have no labels.
+/// From its first word to its end the code of `load_tagged` does so from the bank that the tag in R0 tells, in at least and at
+/// most so many steps.
+pub fn loads_from_z_by_tag_are_right()
+    ensures from_data { DataIsLoadedFromZ }
+    ensures from_flash { FlashIsLoadedFromZ }
+{
+    copies_are_right();
+    parts_stand();
+    straight_code_goes();
+    runs_join();
+    jumps_go();
+}
+
+/// It is straight but for that of `load_tagged`, takes at least and at most so many steps and has at most so many words. Its
+/// items can be placed, and have no labels.
 pub fn pointers_in_z_are_formed()
     ensures fetches { FetchesAreShort }
     ensures members { MembersAreShort }
+    ensures further { FurtherIsShort }
+    ensures tagged { TaggedHas }
+    ensures stores { StoresAreShort }
     ensures point { PointIsShort }
     ensures fetches_valid { FetchesAreValid }
     ensures point_valid { PointIsValid }
     ensures members_valid { MembersAreValid }
+    ensures further_valid { FurtherIsValid }
+    ensures stores_valid { StoresAreValid }
     ensures labels { FetchesHaveNoLabel }
 {}

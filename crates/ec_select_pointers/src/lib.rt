@@ -7,8 +7,8 @@
 //! `specs/AddressLaws.antt`, `specs/AccessLaws.antt` and `specs/Form.antt` what they do. R0, R30 and R31 are work
 //! registers.
 //!
-//! A pointer may stay in Z over loads at a displacement. `specs/Fetched.antt` has the pieces for this, and
-//! `specs/FetchedLaws.antt` what they do.
+//! A pointer may stay in Z over loads and a store at a displacement, and R0 may have its third byte.
+//! `specs/Fetched.antt` has the pieces for this, and `specs/FetchedLaws.antt` what they do.
 //!
 //! On a core with RAMPZ a pointer of three bytes into flash has the whole address. `specs/Far.antt` has the pieces for
 //! these, `specs/FarLaws.antt` and `specs/FarForm.antt` what they do.
@@ -24,4 +24,4 @@ mod memory;
 pub use accesses::{load_any, load_data, load_flash, load_table, point, store_data};
 pub use addresses::{address, field};
 pub use far::{far_address, far_field, load_any_far, load_far, load_far_table};
-pub use fetched::{fetch, load_member};
+pub use fetched::{fetch, load_further, load_member, load_tagged, store_member};
