@@ -1,6 +1,6 @@
 -- The code of operations is one, whichever least tables tell what is needed.
 use Rattle.std.proofs.Common.{◌≡◌, ℕ, zero, suc, ◌+◌, ◌<◌, ◌≤◌, List, [], ◌∷◌, ◌++◌, length, map, Option, Some, None, refl, sym}
-use Rattle.std.proofs.Common.{◌∙◌, ap, subst, arith}
+use Rattle.std.proofs.Common.{◌∙◌, ap, subst, arith, Bool}
 use Rattle.std.specs.Prelude.{slice_get}
 use Rattle.std.specs.List.{AllByRecursion}
 use Rattle.std.proofs.lemmas.Bool.Decides.{nat_tests}
@@ -17,6 +17,7 @@ use Rattle.ec_ir.specs.Valid.{count, Results, ValidOperation, ValidIrFunction, V
 use Rattle.ec_ir_known.specs.Known.{right_numbers}
 use Rattle.ec_select_operations.specs.Code.{wanted_bytes}
 use Rattle.ec_select_operations.specs.Needs.{Need, IsLive, facts_of}
+use Rattle.ec_select_operations.specs.Pointers.{has_tables}
 use Rattle.ec_select_operations.specs.Written.{written_function, NeededFunctionsAreWritten}
 use Rattle.ec_select_live.specs.Laws.{ValidOperationsHavePlaces}
 use Rattle.ec_select_live.specs.Least.{IsLeast}
@@ -42,8 +43,8 @@ count_more l i code = omega arith
 counted : (l : ℕ) (code : List PlainIr) → 1 ≤ count l (label l ∷ code)
 counted l code = grind (arith, nat_tests)
 
-module _ (s : ℕ) (here there : ℕ → Need) (all : List PlainIr) (here_live : IsLive here all) (there_live : IsLive there all)
-    (here_least : IsLeast s here all) (there_least : IsLeast s there all) where
+module _ (s : ℕ) (in_flash : Bool) (here there : ℕ → Need) (all : List PlainIr) (here_live : IsLive in_flash here all)
+    (there_live : IsLive in_flash there all) (here_least : IsLeast in_flash s here all) (there_least : IsLeast in_flash s there all) where
   label_same : (l : ℕ) → 1 ≤ count l all → AreSame s (here l) (there l)
   label_same l some place within =
       let a = here_least there there_live l some place within in
@@ -74,16 +75,21 @@ pub record Laws : Type 0 where
 
 module _ (laws : Laws) (core : Core) (cells : ℕ) (p : PlainIrProgram) (results : ℕ → ℕ) (f : ℕ) (g : PlainIrFunction)
     (v : ValidIrFunction cells p results f g)
-    (here there : ℕ → Need) (here_live : IsLive here g.code) (there_live : IsLive there g.code)
-    (here_least : IsLeast g.slots here g.code) (there_least : IsLeast g.slots there g.code) where
+    (here there : ℕ → Need)
+    (here_live : IsLive (has_tables (data_of p).objects) here g.code) (there_live : IsLive (has_tables (data_of p).objects) there g.code)
+    (here_least : IsLeast (has_tables (data_of p).objects) g.slots here g.code)
+    (there_least : IsLeast (has_tables (data_of p).objects) g.slots there g.code) where
+  abbrev in_flash : Bool
+  in_flash = has_tables (data_of p).objects
+
   tell : AllByRecursion (TellSame g.slots here there) g.code
   tell =
-      all_tell_same g.slots here there g.code here_live there_live here_least there_least cells p results f g.code
+      all_tell_same g.slots in_flash here there g.code here_live there_live here_least there_least cells p results f g.code
       (λ l. omega arith) v.code
 
   -- what is needed of each result
-  bytes_same : wanted_bytes (facts_of here g.code) g.code ≡ wanted_bytes (facts_of there g.code) g.code
-  bytes_same = wanted_same g.slots here there g.code g.code (laws.places cells p results f g v) tell
+  bytes_same : wanted_bytes (facts_of in_flash here g.code) g.code ≡ wanted_bytes (facts_of in_flash there g.code) g.code
+  bytes_same = wanted_same g.slots in_flash here there g.code g.code (laws.places cells p results f g v) tell
 
   uses_same : function_uses core p here f g ≡ function_uses core p there f g
   uses_same = λ j. uses_in core (data_of p) (homes_of f g.code) (bytes_same j) (right_numbers g.code) g.code
@@ -93,7 +99,7 @@ module _ (laws : Laws) (core : Core) (cells : ℕ) (p : PlainIrProgram) (results
       let k = linkage_of core p function_label f g.slots (made_with p routines here f g) in
       sym (laws.written (data_of p) k routines f here g.code)
       ∙ (λ j. written_function (data_of p) k f (bytes_same j)
-      (rows_same g.slots here there g.code g.code (laws.places cells p results f g v) tell j) (right_numbers g.code)
+      (rows_same g.slots in_flash here there g.code g.code (laws.places cells p results f g v) tell j) (right_numbers g.code)
       (map routines g.code) g.code)
       ∙ laws.written (data_of p) k routines f there g.code
 

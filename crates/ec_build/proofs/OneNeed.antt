@@ -1,7 +1,9 @@
 -- What is needed before operations, by two tables that tell the same at all labels.
 use Rattle.std.proofs.Common.{◌≡◌, ℕ, zero, suc, ◌+◌, ◌<◌, ◌≤◌, Bool, true, false, List, [], ◌∷◌, Option, Some, None, ◌||◌, refl, arith}
-use Rattle.std.specs.Prelude.{◌==◌, if◌then◌else◌, min, max, ⊤, ℤ}
+use Rattle.std.specs.Prelude.{◌==◌, if◌then◌else◌, min, max, ⊤}
 use Rattle.std.specs.List.{AllByRecursion}
+use Rattle.ec_space.specs.declared.space.SpaceId.{SpaceId}
+use Rattle.ec_space.specs.declared.space.SpaceId.TheVariants.{Flash, FarFlash, Data, Generic}
 use Rattle.ec_ir.specs.declared.operations.Temp.{Temp}
 use Rattle.ec_ir.specs.Operations.{PlainIr, constant, copy, address, field, load_at, store_at, load_object}
 use Rattle.ec_ir.specs.Operations.{store_object, binary_op, unary_op, conversion, label, jump, branch_zero}
@@ -11,7 +13,8 @@ use Rattle.ec_ir_known.specs.declared.known.RightNumber.{RightNumber}
 use Rattle.ec_select_operations.specs.Needs.{Need, at_least, without, either, wanted, is_fixed, is_whole, first_wanted}
 use Rattle.ec_select_operations.specs.Needs.{second_wanted, family_of, is_apart}
 use Rattle.ec_select_operations.specs.Needs.{only_wanted, index_needed, without_result, number_taken, takes_whole, right_taken}
-use Rattle.ec_select_operations.specs.Needs.{right_needed, before}
+use Rattle.ec_select_operations.specs.Needs.{right_needed, before, moves_pointer, masked_bytes, joined_bytes, moved_wanted, narrowed}
+use Rattle.ec_select_operations.specs.Needs.{loaded_bytes}
 use Rattle.ec_select_operations.specs.Needs.{compared_bytes, facts_of, known_right, needs}
 use Rattle.ec_select_operations.specs.Written.{row_from, kept_row, kept_rows}
 use Rattle.ec_select_live.specs.Places.{HasPlace, HasPlaces, HavePlaces}
@@ -58,7 +61,7 @@ same_right : (s : ℕ) (taken : Option RightNumber) (to : Temp) (at : ℕ) (f : 
 same_right s None to at f a b l h = same_value s to at f a b l h
 same_right s (Some k) to at f a b l h = same_without s to.at a b h
 
-module _ (s : ℕ) (here there : ℕ → Need) where
+module _ (s : ℕ) (in_flash : Bool) (here there : ℕ → Need) where
   before_same : (n : Option RightNumber) (i : PlainIr) (a b : Need) → HasPlaces s i → TellSame s here there i → AreSame s a b
       → AreSame s (before here n i a) (before there n i b)
   before_same n (constant t x) a b l k h = same_without s t.at a b h
@@ -69,8 +72,10 @@ module _ (s : ℕ) (here there : ℕ → Need) where
       let w = is_apart (family_of op) mode ty xty yty in
       let taken = number_taken n w op in
       let right = right_taken n (takes_whole op mode ty xty yty to y) w op in
-      let first = first_wanted w op (compared_bytes taken x.bytes) in
-      let second = second_wanted w op (compared_bytes taken y.bytes) in
+      let first =
+      λ (n : ℕ). moved_wanted (moves_pointer op xty yty) n (first_wanted w op (compared_bytes taken x.bytes) (masked_bytes taken op n)) in
+      let second =
+      λ (n : ℕ). moved_wanted (moves_pointer op yty xty) n (second_wanted w op (compared_bytes taken y.bytes) (joined_bytes taken n)) in
       same_least s x.at (first (wanted a to)) (first (wanted b to))
       (right_needed right y.at (second (wanted a to)) (without to.at a))
       (right_needed right y.at (second (wanted b to)) (without to.at b))
@@ -86,12 +91,12 @@ module _ (s : ℕ) (here there : ℕ → Need) where
   before_same n (label q) a b l k h = k
   before_same n (jump q) a b l k h = k
   before_same n (address t o offset) a b l k h = same_without s t.at a b h
-  before_same n (field ptr space offset) a b l k h = same_least s ptr.at ptr.bytes ptr.bytes a b refl h
+  before_same n (field ptr space offset) a b l k h = same_least s ptr.at 2 2 a b refl h
   before_same n (load_at to ptr space) a b l k h =
       same_least s ptr.at ptr.bytes ptr.bytes (without to.at a) (without to.at b) refl (same_without s to.at a b h)
   before_same n (store_at ptr space from) a b l k h =
-      same_least s from.at from.bytes from.bytes (at_least ptr.at ptr.bytes a) (at_least ptr.at ptr.bytes b) refl
-      (same_least s ptr.at ptr.bytes ptr.bytes a b refl h)
+      same_least s from.at from.bytes from.bytes (at_least ptr.at 2 a) (at_least ptr.at 2 b) refl
+      (same_least s ptr.at 2 2 a b refl h)
   before_same n (call_function f to) a b l k h = same_result s to a b h
   before_same n (port_in to port index width) a b l k h =
       same_index s index (without to.at a) (without to.at b) (same_without s to.at a b h)
@@ -133,22 +138,45 @@ module _ (s : ℕ) (here there : ℕ → Need) where
       → wanted_behind here a i ≡ wanted_behind there b i
   behind_same (branch_zero t q) a b l k h =
       same_wanted s t (either a (here q)) (either b (there q)) l (same_either s a b (here q) (there q) h k)
+  behind_same (store_at ptr space from) a b l k h = same_wanted s ptr a b l.0 h
   behind_same i a b l k h = result_same i a b l h
 
   -- ---- all operations
 
+  -- an operation that takes less of its pointer has the same places, and the same label
+  loaded_most : (space : SpaceId) (bytes : ℕ) → bytes ≤ 16 → loaded_bytes space in_flash bytes ≤ 16
+  loaded_most Generic bytes l = by_flash in_flash
+    where
+      by_flash : (x : Bool) → loaded_bytes Generic x bytes ≤ 16
+      by_flash true = l
+      by_flash false = omega arith
+  loaded_most Flash bytes l = l
+  loaded_most FarFlash bytes l = l
+  loaded_most Data bytes l = l
+
+  narrowed_places : (i : PlainIr) → HasPlaces s i → HasPlaces s (narrowed i in_flash)
+  narrowed_places (load_at to ptr space) h = (h.0, (h.1.0, loaded_most space ptr.bytes h.1.1))
+  narrowed_places i h = h
+
+  narrowed_tell : (i : PlainIr) → TellSame s here there i → TellSame s here there (narrowed i in_flash)
+  narrowed_tell (load_at to ptr space) h = h
+  narrowed_tell i h = h
+
   needs_same : (all code : List PlainIr) → HavePlaces s code → AllByRecursion (TellSame s here there) code
-      → AreSame s (needs (facts_of here all) code) (needs (facts_of there all) code)
+      → AreSame s (needs (facts_of in_flash here all) code) (needs (facts_of in_flash there all) code)
   needs_same all [] l k = λ place q. refl
   needs_same all (i ∷ code) l k =
-      before_same (known_right all (i ∷ code)) i (needs (facts_of here all) code) (needs (facts_of there all) code) l.0 k.0
+      before_same (known_right all (i ∷ code)) (narrowed i in_flash) (needs (facts_of in_flash here all) code)
+      (needs (facts_of in_flash there all) code)
+      (narrowed_places i l.0) (narrowed_tell i k.0)
       (needs_same all code l.1 k.1)
 
   pub wanted_same : (all code : List PlainIr) → HavePlaces s code → AllByRecursion (TellSame s here there) code
-      → wanted_bytes (facts_of here all) code ≡ wanted_bytes (facts_of there all) code
+      → wanted_bytes (facts_of in_flash here all) code ≡ wanted_bytes (facts_of in_flash there all) code
   wanted_same all [] l k = refl
   wanted_same all (i ∷ code) l k =
-      λ j. behind_same i (needs (facts_of here all) code) (needs (facts_of there all) code) l.0 k.0 (needs_same all code l.1 k.1) j
+      λ j. behind_same i (needs (facts_of in_flash here all) code) (needs (facts_of in_flash there all) code) l.0 k.0
+      (needs_same all code l.1 k.1) j
       ∷ wanted_same all code l.1 k.1 j
 
   row_same : (count place : ℕ) (a b : Need) → place + count ≤ s → AreSame s a b → row_from count place a ≡ row_from count place b
@@ -158,15 +186,17 @@ module _ (s : ℕ) (here there : ℕ → Need) where
       let more : suc place + count ≤ s = omega (arith, l) in
       λ j. h place here_is j ∷ row_same count (suc place) a b more h j
 
-  row_kept : (i : PlainIr) (a b : Need) → AreSame s a b → kept_row s a i ≡ kept_row s b i
-  row_kept (call_function f to) a b h =
+  row_kept : (i : PlainIr) (a b : Need) → HasPlaces s i → AreSame s a b → kept_row s a i ≡ kept_row s b i
+  row_kept (call_function f to) a b l h =
       let few : 0 + register_places s ≤ s = omega arith in
       row_same (register_places s) 0 (without_result to a) (without_result to b) few (same_result s to a b h)
-  row_kept i a b h = refl
+  row_kept (binary_op op ty mode to x xty z zty) a b l h = λ j. if moves_pointer op xty zty then h z.at l.2.0 j ∷ [] else []
+  row_kept i a b l h = refl
 
   pub rows_same : (all code : List PlainIr) → HavePlaces s code → AllByRecursion (TellSame s here there) code
-      → kept_rows s (facts_of here all) code ≡ kept_rows s (facts_of there all) code
+      → kept_rows s (facts_of in_flash here all) code ≡ kept_rows s (facts_of in_flash there all) code
   rows_same all [] l k = refl
   rows_same all (i ∷ code) l k =
-      λ j. row_kept i (needs (facts_of here all) code) (needs (facts_of there all) code) (needs_same all code l.1 k.1) j
+      λ j. row_kept i (needs (facts_of in_flash here all) code) (needs (facts_of in_flash there all) code) l.0
+      (needs_same all code l.1 k.1) j
       ∷ rows_same all code l.1 k.1 j

@@ -19,6 +19,7 @@ use Rattle.ec_select_live.specs.Tables.{needs_of}
 use Rattle.ec_ir_known.specs.Known.{right_numbers, numbers_left, HasResultPlace, HaveResultPlaces}
 use Rattle.ec_select_live.specs.Places.{HasPlaces, HavePlaces}
 use Rattle.ec_select_operations.specs.Needs.{Need, facts_of, IsLive}
+use Rattle.ec_select_operations.specs.Pointers.{has_tables}
 use Rattle.ec_select_operations.specs.declared.calls.Linking.{Linking}
 use Rattle.ec_select_operations.specs.Code.{Linkage, wanted_bytes, function_code}
 use Rattle.ec_select_operations.specs.Emitted.{linkage}
@@ -67,14 +68,15 @@ module _ (p : PlainIrProgram) (ts : List (List (List ℕ))) (g : PlainIrFunction
         subst (λ (m : ℕ → Need). P m h) (ap needs_of (sym (get_before ts t [] k s))) (each k h s q)
 
 pub one_more_table : (p : PlainIrProgram) (f : ℕ) (ts new : List (List (List ℕ))) (t : List (List ℕ)) (g : PlainIrFunction)
-    → length ts ≡ f → slice_get p.functions f ≡ Some g → new ≡ ts ++ t ∷ [] → IsLive (needs_of t) g.code
-    → IsLeast g.slots (needs_of t) g.code → AreTables p (tables_in ts) f → AreTables p (tables_in new) (f + 1)
+    → length ts ≡ f → slice_get p.functions f ≡ Some g → new ≡ ts ++ t ∷ [] → IsLive (has_tables (data_of p).objects) (needs_of t) g.code
+    → IsLeast (has_tables (data_of p).objects) g.slots (needs_of t) g.code → AreTables p (tables_in ts) f
+    → AreTables p (tables_in new) (f + 1)
 one_more_table p f ts new t g len e q live least are =
     subst (λ (n : ℕ). AreTables p (tables_in new) (n + 1)) len
     (subst (λ (xs : List (List (List ℕ))). AreTables p (tables_in xs) (length ts + 1)) (sym q)
     (record {
-      live = with_more p ts g here t (λ m h. IsLive m h.code) live before.live;
-      least = with_more p ts g here t (λ m h. IsLeast h.slots m h.code) least before.least;
+      live = with_more p ts g here t (λ m h. IsLive (has_tables (data_of p).objects) m h.code) live before.live;
+      least = with_more p ts g here t (λ m h. IsLeast (has_tables (data_of p).objects) h.slots m h.code) least before.least;
     }))
   where
     here : slice_get p.functions (length ts) ≡ Some g
@@ -151,12 +153,12 @@ pub added : (core : Core) (p : PlainIrProgram) (routines : PlainIr → Option �
       slots = g.slots;
       is_main = f == p.main;
     }
-    → let at = facts_of labels g.code in
+    → let at = facts_of (has_tables (data_of p).objects) labels g.code in
     written_function (data_of p) (linkage k) f (wanted_bytes at g.code) (kept_rows g.slots at g.code) (right_numbers g.code)
     (map routines g.code) g.code
     ≡ code_of core p routines labels f (Some g)
 added core p routines f first g k labels written e q =
-    let at = facts_of labels g.code in
+    let at = facts_of (has_tables (data_of p).objects) labels g.code in
     let w = written (data_of p) (linkage k) routines f labels g.code in
     let slots : k.slots ≡ g.slots = ap (λ (x : Linking). x.slots) q in
     let link : routed (linkage k) routines ≡ linkage_of core p function_label f g.slots (made_with p routines labels f g) =

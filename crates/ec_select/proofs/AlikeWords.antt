@@ -1,15 +1,17 @@
 -- Code of an operation that has a shape is alike wherever the same number is known: what the next operation is told does not make
 -- it longer.
-use Rattle.std.proofs.Common.{◌≡◌, ℕ, ◌≤◌, Bool, true, false, not, List, [], ◌∷◌, refl, sym, subst, arith, inl, inr}
-use Rattle.std.specs.Prelude.{⊤, ◌||◌, ◌&&◌, Option, Some, None, if◌then◌else◌}
-use Rattle.std.proofs.lemmas.Bool.{false≢true}
+use Rattle.std.proofs.Common.{◌≡◌, ◌⊎◌, ℕ, ◌≤◌, Bool, true, false, not, List, [], ◌∷◌, ◌++◌, refl, sym, subst, arith, inl, inr}
+use Rattle.std.specs.Prelude.{⊤, max, ◌==◌, ◌||◌, ◌&&◌, Option, Some, None, if◌then◌else◌}
+use Rattle.std.proofs.lemmas.Bool.{and_parts, false≢true}
 use Rattle.ec_asm.specs.declared.items.AsmItem.{AsmItem}
 use Rattle.ec_asm.specs.declared.pieces.Location.{Location}
 use Rattle.ec_asm.specs.Items.{code_words}
+use Rattle.ec_asm.specs.Pieces.{compare_code}
 use Rattle.ec_space.specs.declared.Core.{Core}
 use Rattle.ec_core.specs.declared.expressions.BinOp.{BinOp}
 use Rattle.ec_core.specs.declared.expressions.BinOp.TheVariants.{Add, Sub, Mul, Div, Rem, And, Or, Xor, Lt, Gt, Le, Ge}
 use Rattle.ec_core.specs.declared.expressions.BinOp.TheVariants.{Eq, Ne, Shl, Shr}
+use Rattle.ec_core.specs.Accesses.{element_size}
 use Rattle.ec_core.specs.Plain.{PlainType, void, integer, fixed, pointer, array, struct, PlainProgram}
 use Rattle.ec_core.specs.Words.{widest}
 use Rattle.ec_core_shapes.specs.Shapes.{Shape, binary_shape}
@@ -27,19 +29,29 @@ use Rattle.ec_ir_shapes.specs.Costs.{is_fixed as counts_fixed, is_pointer as cou
 use Rattle.ec_select_fixed.proofs.Suits.{operands_suit}
 use Rattle.ec_select_fixed.specs.Codes.{fixed_binary_code}
 use Rattle.ec_select_fixed.specs.Types.{AreFixedOperands}
+use Rattle.ec_select_order.specs.declared.relations.Relation.{Relation}
+use Rattle.ec_select_order.specs.Relations.{relation_in_code, truth_in_code}
+use Rattle.ec_select_operations.specs.declared.families.Family.{Family}
+use Rattle.ec_select_operations.specs.declared.families.Family.TheVariants.{Combined, Compared}
 use Rattle.ec_select_operations.specs.declared.families.Told.{Told}
+use Rattle.ec_select_operations.specs.Code.{own_telling}
 use Rattle.ec_select_operations.specs.Code.{Linkage, operation_code, family_of, is_signed, is_on_integers, has_one_format, by_kind}
 use Rattle.ec_select_operations.specs.declared.families.Family.TheVariants.{Divided}
 use Rattle.ec_select_operations.specs.Code.{fixed_binary, pointer_binary, integer_binary, operator_code, is_placed, same_location}
 use Rattle.ec_select_operations.specs.Code.{taking_code}
 use Rattle.ec_select_functions.proofs.ByRoutine.{divided_number}
+use Rattle.ec_select_places.specs.Steps.{z_pair}
 use Rattle.ec_select_operations.specs.Code.{placed_binary, answer_code, answer_location, work_location}
-use Rattle.ec_select_operations.specs.Needs.{Need, is_fixed}
+use Rattle.ec_select_operations.specs.Code.{truth_register, truth_at_code, ordered_code, pointers_code, related_bytes}
+use Rattle.ec_select_operations.specs.Code.{is_index, is_difference, offset_code}
+use Rattle.ec_select_operations.specs.Needs.{Need, nothing, is_fixed, moves_pointer}
 use Rattle.ec_select_operations.specs.Pointers.{is_pointer}
-use Rattle.ec_select_functions.specs.Covered.{IsCovered, IsBinary, AreIntegers, AreCompared, AreShifted}
+use Rattle.ec_select_functions.specs.Covered.{IsCovered, IsBinary, IsFixedBinary, IsPointerBinary, AreIntegers, AreCompared, AreShifted}
 use Rattle.ec_select.proofs.CountedTypes.{same_format, never_exact}
 use Rattle.ec_select.proofs.FixedTypes.{either_fixed, no_fixed}
+use Rattle.ec_select.proofs.Indexed.{kind_words, moves_pointers, moved_shape}
 use Rattle.ec_select.proofs.PointerTypes.{pointers_only, no_pointer}
+use Rattle.ec_select.proofs.Words.{joined_words}
 
 -- the types of a binary operator are those of a valid operation
 abbrev pub HasOperandTypes : PlainIr → Type 0
@@ -220,6 +232,39 @@ integer_alike slots to a b ty aty bty known telling left right p q r n Rem mode 
 integer_alike slots to a b ty aty bty known telling left right p q r n op mode s i h e =
     absurd (other_op slots to a b ty aty bty op mode s i h tt e)
 
+-- a comparison of pointers alone is a part of the code of one that is told otherwise
+ordered_alike : (telling : Option Told) (r : Relation) (left right to : Location) (bytes n : ℕ)
+    → code_words (ordered_code telling r left right to bytes n) ≤ code_words (ordered_code None r left right to bytes n)
+ordered_alike None r left right to bytes n = omega arith
+ordered_alike (Some told) r left right to bytes n = by_need (n == 0)
+  where
+    by_need : (x : Bool) → code_words (if x then [] else compare_code right left bytes)
+        ≤ code_words (if x then [] else relation_in_code (truth_register to) r false left right bytes ++ truth_at_code to n)
+    by_need true = omega arith
+    by_need false =
+        omega (
+          arith,
+          joined_words (relation_in_code (truth_register to) r false left right bytes) (truth_at_code to n),
+          joined_words (compare_code right left bytes) (truth_in_code (truth_register to) r false),
+        )
+
+pointers_alike : (telling : Option Told) (core : Core) (f : Family) (p q r : Location) (bytes size n : ℕ)
+    → code_words (pointers_code telling core f p q r bytes size n) ≤ code_words (pointers_code None core f p q r bytes size n)
+pointers_alike telling core (Combined op) p q r bytes size n = omega arith
+pointers_alike telling core (Compared o false) p q r bytes size n = ordered_alike telling o p q r (related_bytes core o bytes) n
+pointers_alike telling core (Compared o true) p q r bytes size n = ordered_alike telling o q p r (related_bytes core o bytes) n
+pointers_alike telling core f p q r bytes size n = omega arith
+
+pointed_alike : (known : Option RightNumber) (telling : Option Told) (core : Core) (left right : Bool) (p : PlainProgram) (op : BinOp)
+    (aty bty : PlainType) (a b to : Location) (bytes index_bytes n : ℕ)
+    → code_words (pointer_binary known telling core left right p op aty bty a b to bytes index_bytes n)
+    ≤ code_words (pointer_binary known None core left right p op aty bty a b to bytes index_bytes n)
+pointed_alike known telling core true true p op aty bty a b to bytes index_bytes n =
+    pointers_alike telling core (family_of op) a b to bytes (element_size p aty) n
+pointed_alike known telling core true false p op aty bty a b to bytes index_bytes n = omega arith
+pointed_alike known telling core false true p op aty bty a b to bytes index_bytes n = omega arith
+pointed_alike known telling core false false p op aty bty a b to bytes index_bytes n = omega arith
+
 other_code : (x : Bool) (a b c : List AsmItem) → x ≡ false → code_words (if x then a else c) ≤ code_words (if x then b else c)
 other_code x a b c e = rw e (omega arith)
 
@@ -235,24 +280,28 @@ second_kind : (x y : Bool) (a b c d g e : List AsmItem) → x ≡ false → y �
     → code_words (by_kind x a (by_kind y b c)) ≤ code_words (by_kind x d (by_kind y g e))
 second_kind x y a b c d g e n m h = rw (n, m) h
 
--- for one core
-pub alike : (p : PlainProgram) (results : ℕ → ℕ) (f : ℕ) (called : List ℕ) (slots : ℕ) (at : Temp → Location) (k l : Linkage)
-    (told telling : Option Told) (known : Option RightNumber) (n : ℕ) (kept others : Need) (i : PlainIr) (s : Shape)
-    → k.core ≡ l.core → IsCovered p results f called slots i → HasOperandTypes i → op_shapes i ≡ s ∷ []
-    → code_words (operation_code p at k told telling known n kept i) ≤ code_words (operation_code p at l None None known n others i)
-alike p results f called slots at k l told telling known n kept others (binary_op op ty mode to a aty b bty) s c (inl i) h e =
-    let pointed = λ (core : Core). pointer_binary known core (is_pointer aty) (is_pointer bty) p op aty bty (at a) (at b) (at to) a.bytes
-    b.bytes n in
+-- a binary operator that has not been told an index
+binary_alike : (p : PlainProgram) (slots : ℕ) (at : Temp → Location) (k l : Linkage) (telling : Option Told)
+    (known : Option RightNumber) (n : ℕ) (op : BinOp) (ty : PlainType) (mode : Mode) (to a : Temp) (aty : PlainType) (b : Temp)
+    (bty : PlainType) (s : Shape) → k.core ≡ l.core
+    → IsBinary (family_of op) slots to a b ty aty bty
+    ⊎ (IsFixedBinary slots op to a b ty aty bty ⊎ IsPointerBinary p slots op to a b ty aty bty)
+    → HaveOperationTypes op ty aty bty → op_shapes (binary_op op ty mode to a aty b bty) ≡ s ∷ []
+    → code_words (operation_code p at k None telling known n nothing (binary_op op ty mode to a aty b bty))
+    ≤ code_words (operation_code p at l None None known n nothing (binary_op op ty mode to a aty b bty))
+binary_alike p slots at k l telling known n op ty mode to a aty b bty s c (inl i) h e =
+    let pointed = λ (core : Core) (y : Option Told). pointer_binary known y core (is_pointer aty) (is_pointer bty) p op aty bty (at a)
+    (at b) (at to) a.bytes b.bytes n in
     none_kind (is_fixed aty || is_fixed bty) (is_pointer aty || is_pointer bty)
-    (fixed_binary known telling op ty aty bty mode (at a) (at b) (at to) a.bytes n) (pointed k.core)
+    (fixed_binary known telling op ty aty bty mode (at a) (at b) (at to) a.bytes n) (pointed k.core telling)
     (integer_binary known telling op (is_signed aty) (is_signed bty) (at a) (at b) (at to) a.bytes n)
-    (fixed_binary known None op ty aty bty mode (at a) (at b) (at to) a.bytes n) (pointed l.core)
+    (fixed_binary known None op ty aty bty mode (at a) (at b) (at to) a.bytes n) (pointed l.core None)
     (integer_binary known None op (is_signed aty) (is_signed bty) (at a) (at b) (at to) a.bytes n)
     (no_fixed (family_of op) slots to a b ty aty bty i) (no_pointer (family_of op) slots to a b ty aty bty i)
     (integer_alike slots to a b ty aty bty known telling (is_signed aty) (is_signed bty) (at a) (at b) (at to) n op mode s i h e)
-alike p results f called slots at k l told telling known n kept others (binary_op op ty mode to a aty b bty) s c (inr (inl i)) h e =
+binary_alike p slots at k l telling known n op ty mode to a aty b bty s c (inr (inl i)) h e =
     let rest = λ (core : Core) (y : Option Told). by_kind (is_pointer aty || is_pointer bty)
-    (pointer_binary known core (is_pointer aty) (is_pointer bty) p op aty bty (at a) (at b) (at to) a.bytes b.bytes n)
+    (pointer_binary known y core (is_pointer aty) (is_pointer bty) p op aty bty (at a) (at b) (at to) a.bytes b.bytes n)
     (integer_binary known y op (is_signed aty) (is_signed bty) (at a) (at b) (at to) a.bytes n) in
     let whole = λ (y : Option Told). integer_binary known y op (is_signed aty) (is_signed bty) (at a) (at b) (at to) a.bytes n in
     let other = if is_placed op mode ty aty bty && not (same_location (at b) (at to))
@@ -265,16 +314,31 @@ alike p results f called slots at k l told telling known n kept others (binary_o
     (not_on_integers op mode ty aty bty i.types
     (not_exact op (are_exact op mode ty (aty ∷ bty ∷ [])) (counts_fixed ty || any_fixed (aty ∷ bty ∷ []))
     (counts_pointer ty || any_pointer (aty ∷ bty ∷ [])) (widest (ty ∷ aty ∷ bty ∷ [])) (binary_shape op ty mode aty bty) s e)))
-alike p results f called slots at k l told telling known n kept others (binary_op op ty mode to a aty b bty) s c (inr (inr i)) h e =
-    let pointed = λ (core : Core). pointer_binary known core (is_pointer aty) (is_pointer bty) p op aty bty (at a) (at b) (at to) a.bytes
-    b.bytes n in
+binary_alike p slots at k l telling known n op ty mode to a aty b bty s c (inr (inr i)) h e =
+    let pointed = λ (core : Core) (y : Option Told). pointer_binary known y core (is_pointer aty) (is_pointer bty) p op aty bty (at a)
+    (at b) (at to) a.bytes b.bytes n in
     second_kind (is_fixed aty || is_fixed bty) (is_pointer aty || is_pointer bty)
-    (fixed_binary known telling op ty aty bty mode (at a) (at b) (at to) a.bytes n) (pointed k.core)
+    (fixed_binary known telling op ty aty bty mode (at a) (at b) (at to) a.bytes n) (pointed k.core telling)
     (integer_binary known telling op (is_signed aty) (is_signed bty) (at a) (at b) (at to) a.bytes n)
-    (fixed_binary known None op ty aty bty mode (at a) (at b) (at to) a.bytes n) (pointed l.core)
+    (fixed_binary known None op ty aty bty mode (at a) (at b) (at to) a.bytes n) (pointed l.core None)
     (integer_binary known None op (is_signed aty) (is_signed bty) (at a) (at b) (at to) a.bytes n)
     (pointers_only op ty aty bty i.pointer i.types).0 i.pointer
-    (subst (λ core. code_words (pointed k.core) ≤ code_words (pointed core)) c (omega arith))
+    (subst (λ core. code_words (pointed k.core telling) ≤ code_words (pointed core None)) c
+    (pointed_alike known telling k.core (is_pointer aty) (is_pointer bty) p op aty bty (at a) (at b) (at to) a.bytes b.bytes n))
+
+-- for one core
+pub alike : (p : PlainProgram) (results : ℕ → ℕ) (f : ℕ) (called : List ℕ) (slots : ℕ) (at : Temp → Location) (k l : Linkage)
+    (told telling : Option Told) (known : Option RightNumber) (n : ℕ) (kept others : Need) (i : PlainIr) (s : Shape)
+    → k.core ≡ l.core → IsCovered p results f called slots i → HasOperandTypes i → op_shapes i ≡ s ∷ []
+    → code_words (operation_code p at k told telling known n kept i) ≤ code_words (operation_code p at l None None known n others i)
+alike p results f called slots at k l told telling known n kept others (binary_op op ty mode to a aty b bty) s c i h e =
+    kind_words (is_index told b.bytes && moves_pointer op aty bty)
+    (offset_code k.core (is_difference op) (is_signed bty) (at a) z_pair (at to) (max 2 n) b.bytes (element_size p aty) n) _
+    (code_words (operation_code p at l None None known n others (binary_op op ty mode to a aty b bty)))
+    (λ q.
+    let moves = (and_parts (is_index told b.bytes) (moves_pointer op aty bty) q).1 in
+    absurd (moved_shape p slots op mode to a b ty aty bty s (moves_pointers p slots op to a b ty aty bty i moves) moves e))
+    (binary_alike p slots at k l (own_telling told telling) known n op ty mode to a aty b bty s c i h e)
 alike p results f called slots at k l told telling known n kept others (unary_op op ty mode to a) s c i h e = omega arith
 alike p results f called slots at k l told telling known n kept others (conversion to ty mode a aty) s c i h e = omega arith
 alike p results f called slots at k l told telling known n kept others i s c j h e = absurd cc

@@ -1,7 +1,10 @@
 -- Operators with a known number: their items, and their words.
-use Rattle.std.proofs.Common.{◌≡◌, ℕ, zero, suc, ◌+◌, ◌*◌, ◌<◌, ◌≤◌, Bool, true, false, ◌&&◌, [], ◌∷◌, refl, subst, arith}
-use Rattle.std.specs.Prelude.{nat_le, if◌then◌else◌}
-use Rattle.std.proofs.lemmas.Bool.{lt-ltb}
+use Rattle.std.proofs.Common.{◌≡◌, ℕ, zero, suc, ◌+◌, ◌-◌, ◌*◌, ◌/◌, ◌%◌, ◌<◌, ◌≤◌, Bool, true, false, not, [], ◌∷◌, ◌++◌}
+use Rattle.std.proofs.Common.{refl, subst}
+use Rattle.std.proofs.Common.{arith}
+use Rattle.std.specs.Prelude.{nat_le, nat_lt, if◌then◌else◌, ◌==◌, ◌&&◌}
+use Rattle.std.proofs.lemmas.Bool.{lt-ltb, and_parts}
+use Rattle.std.proofs.lemmas.Bool.Decides.{nat_tests}
 use Rattle.ec_isa.specs.declared.instructions.Instr.TheVariants.{Cpi, Ldi, Mov}
 use Rattle.ec_isa.specs.Table.{in_table}
 use Rattle.ec_asm.specs.declared.items.AsmItem.TheVariants.{Plain}
@@ -12,15 +15,20 @@ use Rattle.ec_asm.specs.declared.pieces.Operator.TheVariants.{Sum, Difference, B
 use Rattle.ec_asm.specs.Items.{code_words}
 use Rattle.ec_asm.specs.Pieces.{compares}
 use Rattle.ec_asm.specs.Valid.{Sizes, is_offset}
-use Rattle.ec_select_bytes.specs.Values.{byte_of}
+use Rattle.ec_select_bytes.specs.Values.{byte_of, constant_code, test_code}
+use Rattle.ec_select_bytes.specs.Laws.{ValuesHave}
 use Rattle.ec_select_numbers.specs.declared.operators.ByNumber.{ByNumber}
 use Rattle.ec_select_numbers.specs.declared.operators.ByNumber.TheVariants.{Subtract, Mask, Set}
-use Rattle.ec_select_numbers.specs.ByNumber.{immediate, is_neutral, immediate_byte, changed_byte, changed_code, negated}
+use Rattle.ec_select_numbers.specs.ByNumber.{is_low_pair, put_pair_code, put_code, immediate, is_neutral, immediate_byte}
+use Rattle.ec_select_numbers.specs.ByNumber.{changed_byte, each_changed, changed_pair, rest_changed, changes_pair, changed_code, negated}
 use Rattle.ec_select_numbers.specs.ByNumber.{compared_byte, compared_code as compared_with_code}
 use Rattle.ec_select_numbers.specs.Laws.{NumbersAreStraight}
-use Rattle.ec_select_operations.specs.Code.{changed_by_code, same_location, masked_at, masked_code}
-use Rattle.ec_select.proofs.Fitting.{fits, Fit, chained, ByteFits, BytesFit, reg}
-use Rattle.ec_select.proofs.Pieces.{compares_fits}
+use Rattle.ec_select_operations.specs.Code.{changed_by_code, same_location, masked_at, masked_code, truth_register}
+use Rattle.ec_select.proofs.Fitting.{fits, Fit, chained, ByteFits, BytesFit, reg, joined}
+use Rattle.ec_select.proofs.Pieces.{compares_fits, constant_fits, test_fits, truth_in_fits}
+use Rattle.ec_select_order.specs.Relations.{truth_in_code}
+use Rattle.ec_select_operations.specs.declared.bounds.Bound.{Bound}
+use Rattle.ec_select_operations.specs.Bounds.{is_equality, bounded_code, truth_by_code}
 
 module _ (sizes : Sizes) where
   -- an immediate fits a register of R16 and above
@@ -46,10 +54,67 @@ module _ (sizes : Sizes) where
     by_test true = refl
     by_test false = byte_fits op p k i b x
 
-  changed_fits : (op : ByNumber) (p : Location) (number n : ℕ) → BytesFit sizes p n → Fit sizes (changed_code op p number n)
-  changed_fits op p number n x =
+  -- two bytes below R16 are changed in R30 and R31
+  low_parts : (r n : ℕ) → is_low_pair r n ≡ true → ((r % 2 == 0) ≡ true) × (2 ≤ n)
+  low_parts r n q =
+      let t = and_parts (r % 2 == 0) (nat_le 2 n) (and_parts (nat_lt r 16) (r % 2 == 0 && nat_le 2 n) q).1 in
+      let y = t.1 in
+      (t.0, grind (arith, nat_tests, y))
+
+  pair_fits : (op : ByNumber) (r number n : ℕ) → is_low_pair r n ≡ true → BytesFit sizes (InRegisters r) n
+      → Fit sizes (changed_pair op r number)
+  pair_fits op r number n low x =
+      let h = low_parts r n low in
+      let first = x 0 (omega (arith, h.1)) in
+      let a = immediate_fits op 0 30 (byte_of number 0) refl (omega arith) (omega arith) in
+      let b = immediate_fits op 1 31 (byte_of number 1) refl (omega arith) (omega arith) in
+      rw (reg r (omega (arith, first)), h.0, a, b) refl
+
+  each_fits : (op : ByNumber) (p : Location) (number n : ℕ) → BytesFit sizes p n → Fit sizes (each_changed op p number n)
+  each_fits op p number n x =
       chained (fits sizes) (λ i. changed_byte op p (byte_of number i) i) n
       (λ i l. changed_byte_fits op p (byte_of number i) i (omega arith) (x i l))
+
+  rest_fits : (op : ByNumber) (r number n : ℕ) → 2 ≤ n → BytesFit sizes (InRegisters r) n
+      → Fit sizes (rest_changed op r number (n - 2))
+  rest_fits op r number n two x =
+      chained (fits sizes) (λ i. changed_byte op (InRegisters r) (byte_of number (2 + i)) (2 + i)) (n - 2)
+      (λ i l. changed_byte_fits op (InRegisters r) (byte_of number (2 + i)) (2 + i) (omega arith) (x (2 + i) (omega (arith, l, two))))
+
+  changed_fits : (op : ByNumber) (p : Location) (number n : ℕ) → BytesFit sizes p n → Fit sizes (changed_code op p number n)
+  changed_fits op (InMemory o k) number n x = each_fits op (InMemory o k) number n x
+  changed_fits op (InRegisters r) number n x = by_pair (changes_pair op r number n) refl where
+    by_pair : (b : Bool) → changes_pair op r number n ≡ b
+        → Fit sizes (if b then changed_pair op r number ++ rest_changed op r number (n - 2) else each_changed op (InRegisters r) number n)
+    by_pair false q = each_fits op (InRegisters r) number n x
+    by_pair true q =
+        let low = (and_parts (is_low_pair r n) (not (is_neutral op (byte_of number 0)) && not (is_neutral op (byte_of number 1))) q).0 in
+        joined (fits sizes) (changed_pair op r number) (rest_changed op r number (n - 2)) (pair_fits op r number n low x)
+        (rest_fits op r number n (low_parts r n low).1 x)
+
+  -- a number that is put to a place
+  put_pair_fits : (r number n : ℕ) → is_low_pair r n ≡ true → BytesFit sizes (InRegisters r) n → Fit sizes (put_pair_code r number)
+  put_pair_fits r number n low x =
+      let h = low_parts r n low in
+      let first = x 0 (omega (arith, h.1)) in
+      rw (reg r (omega (arith, first)), h.0, lt-ltb (byte_of number 0) 256 (omega arith), lt-ltb (byte_of number 1) 256 (omega arith)) refl
+
+  pub put_fits : (p : Location) (number n : ℕ) → BytesFit sizes p n → Fit sizes (put_code p number n)
+  put_fits (InMemory o k) number n x = constant_fits sizes (InMemory o k) number n x
+  put_fits (InRegisters r) number n x = by_pair (is_low_pair r n) refl where
+    rest : Location
+    rest = InRegisters (r + 2)
+
+    rest_fit : 2 ≤ n → BytesFit sizes rest (n - 2)
+    rest_fit two i l = let y = x (2 + i) (omega (arith, l, two)) in omega (arith, y)
+
+    by_pair : (b : Bool) → is_low_pair r n ≡ b
+        → Fit sizes (if b then put_pair_code r number ++ constant_code rest (number / 65536) (n - 2)
+        else constant_code (InRegisters r) number n)
+    by_pair false q = constant_fits sizes (InRegisters r) number n x
+    by_pair true q =
+        joined (fits sizes) (put_pair_code r number) (constant_code rest (number / 65536) (n - 2)) (put_pair_fits r number n q x)
+        (constant_fits sizes rest (number / 65536) (n - 2) (rest_fit (low_parts r n q).1))
 
   pub changed_by_fits : (op : Operator) (p : Location) (number n : ℕ) → BytesFit sizes p n
       → Fit sizes (changed_by_code op p number n)
@@ -91,6 +156,19 @@ module _ (sizes : Sizes) where
       let first = subst (λ (i : ℕ). is_offset sizes o i ≡ true) begin (x 0 (omega arith)) in
       rw (first, lt-ltb k 256 b) refl
 
+  -- a relation to a number, and its truth value
+  pub bounded_fits : (b : Bound) (p : Location) (n : ℕ) → BytesFit sizes p n → Fit sizes (bounded_code b p n)
+  bounded_fits b p n x = by_test (b.number == 0 && is_equality b.relation) where
+    by_test : (t : Bool) → Fit sizes (if t then test_code p n else compared_with_code p b.number n)
+    by_test true = test_fits sizes p n x
+    by_test false = compared_with_fits p b.number n x
+
+  pub truth_by_fits : (to : Location) (b : Bound) (p : Location) (n : ℕ) → BytesFit sizes p n → ByteFits sizes to 0
+      → Fit sizes (truth_by_code (truth_register to) b p n)
+  truth_by_fits to b p n x z =
+      joined (fits sizes) (bounded_code b p n) (truth_in_code (truth_register to) b.relation b.signed) (bounded_fits b p n x)
+      (truth_in_fits sizes to b.relation b.signed z)
+
 -- ---- words
 
 pub masked_words : (p q : Location) (k : ℕ) → code_words (masked_code p q k) ≤ 3
@@ -110,3 +188,11 @@ changed_by_words laws BitXor p number n = omega arith
 
 pub compared_with_words : NumbersAreStraight → (p : Location) (number n : ℕ) → code_words (compared_with_code p number n) ≤ 4 * n
 compared_with_words laws p number n = (laws Subtract p number n).1.few_words
+
+pub bounded_words : NumbersAreStraight → ValuesHave → (b : Bound) (p : Location) (n : ℕ) → code_words (bounded_code b p n) ≤ 4 * n
+bounded_words laws values b p n = by_test n (b.number == 0 && is_equality b.relation)
+  where
+    by_test : (n : ℕ) (t : Bool) → code_words (if t then test_code p n else compared_with_code p b.number n) ≤ 4 * n
+    by_test zero true = omega arith
+    by_test (suc n) true = let few = (values p 0 0 (suc n)).1 in omega (arith, few)
+    by_test n false = compared_with_words laws p b.number n

@@ -28,6 +28,7 @@ use Rattle.ec_select_operations.specs.Homes.{home}
 use Rattle.ec_select_functions.proofs.Cells.{UsesCells, functions_use}
 use Rattle.ec_select_functions.specs.Laws.{linkage_of}
 use Rattle.ec_select_operations.specs.Needs.{Need, Facts, facts_of, needs}
+use Rattle.ec_select_operations.specs.Pointers.{has_tables}
 use Rattle.ec_select.specs.Labels.{label_count, function_label, first_label}
 use Rattle.ec_select.specs.Program.{made_with, code_of, functions_code}
 use Rattle.ec_select.specs.Selected.{ValidWithCells, HasCode}
@@ -267,7 +268,7 @@ module _ (core : Core) (p : PlainIrProgram) (valid : ValidWithCells p) (has : Ha
       ≡ placed_in x (link f g).label_of code
   code_places x f g e at told [] h u = refl
   code_places x f g e at told (i ∷ code) h u =
-      let next = tells_next (data_of p) at told i code in
+      let next = tells_next core (data_of p) (home (link f g).homes) at told i code in
       let here = operation_places x f g e told next (at.known (i ∷ code)) (needs at code) i h.0 u.0 in
       let rest = code_places x f g e at next code h.1 u.1 in
       joined_count x (op_code (data_of p) (home (link f g).homes) (link f g) told next (at.known (i ∷ code)) (needs at code) i)
@@ -277,7 +278,7 @@ module _ (core : Core) (p : PlainIrProgram) (valid : ValidWithCells p) (has : Ha
       → count_by (is_label x) (code_of core p (routine_of core p tables) (tables f) f (Some g))
       ≡ cond (1 + f == x) 1 0 + placed_in x (link f g).label_of g.code
   function_places x f g e =
-      let at = facts_of (tables f) g.code in
+      let at = facts_of (has_tables (data_of p).objects) (tables f) g.code in
       let rest = code_places x f g e at None g.code (has.functions f g e) (functions_use valid.0 p valid.1 f g e) in
       let ops = ops_code (data_of p) (home (link f g).homes) (link f g) at None g.code in
       let parts = joined_count x (Label (1 + f) ∷ []) ops in

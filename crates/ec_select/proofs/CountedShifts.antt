@@ -3,7 +3,6 @@ use Rattle.std.proofs.Common.{◌≡◌, ◌≢◌, ◌⊎◌, inl, inr, ℕ, su
 use Rattle.std.proofs.Common.{ap, ◌∙◌, subst, arith}
 use Rattle.std.specs.Prelude.{◌&&◌, ◌||◌, not, nat_le, if◌then◌else◌, Option, None}
 use Rattle.std.proofs.lemmas.Bool.{and_parts, false≢true, leb-true, ne_eqb}
-use Rattle.ec_asm.specs.declared.pieces.Location.{Location}
 use Rattle.ec_asm.specs.declared.pieces.Location.TheVariants.{InRegisters, InMemory}
 use Rattle.ec_asm.specs.declared.items.AsmItem.{AsmItem}
 use Rattle.ec_asm.specs.Items.{code_words}
@@ -147,7 +146,8 @@ module _ (calls : CallsHave) (core : Core) (p : PlainProgram) (results : ℕ →
           let own = own_kind (is_fixed aty || is_fixed bty)
           (fixed_binary known None op ty aty bty mode (home h a) (home h b) (home h to) a.bytes n)
           (by_kind (is_pointer aty || is_pointer bty)
-          (pointer_binary known core (is_pointer aty) (is_pointer bty) p op aty bty (home h a) (home h b) (home h to) a.bytes b.bytes n)
+          (pointer_binary known None core (is_pointer aty) (is_pointer bty) p op aty bty (home h a) (home h b) (home h to) a.bytes
+          b.bytes n)
           (integer_binary known None op (is_signed aty) (is_signed bty) (home h a) (home h b) (home h to) a.bytes n))
           (12 + 14 * wide) either (fixed_counted op mode to a b ty aty bty fixed (counted_is op mode ty aty bty to b counted)) in
           let exact = are_exact op mode ty (aty ∷ bty ∷ []) in

@@ -8,7 +8,7 @@ use Rattle.std.proofs.lemmas.Bool.{false≢true}
 use Rattle.ec_asm.specs.Pieces.{HasBytes}
 use Rattle.ec_core.specs.Layout.{size_of_type}
 use Rattle.ec_core.specs.declared.expressions.BinOp.{BinOp}
-use Rattle.ec_core.specs.declared.expressions.BinOp.TheVariants.{Add, Sub, And, Or, Lt, Ge, Eq, Ne, Shl, Shr}
+use Rattle.ec_core.specs.declared.expressions.BinOp.TheVariants.{Add, Sub, And, Or, Lt, Gt, Le, Ge, Eq, Ne, Shl, Shr}
 use Rattle.ec_core.specs.Plain.{PlainType, PlainStorage, static, local, param, register, PlainObject}
 use Rattle.ec_core.specs.TypeLaws.{LeavesFillTheirTypes}
 use Rattle.ec_core.specs.Valid.{IsObject, IsStored}
@@ -112,6 +112,8 @@ module _ (p : PlainIrProgram) (valid : ValidWithCells p) (leaves : LeavesFillThe
     takes_has And to a b ty aty bty i q = let x = i.left_bytes in let z = i.right_bytes in let m = i.left.most in (omega arith, omega arith)
     takes_has Or to a b ty aty bty i q = let x = i.left_bytes in let z = i.right_bytes in let m = i.left.most in (omega arith, omega arith)
     takes_has Lt to a b ty aty bty i q = let x = i.same_bytes in let m = i.left.most in (omega arith, omega arith)
+    takes_has Gt to a b ty aty bty i q = let x = i.same_bytes in let m = i.left.most in (omega arith, omega arith)
+    takes_has Le to a b ty aty bty i q = let x = i.same_bytes in let m = i.left.most in (omega arith, omega arith)
     takes_has Ge to a b ty aty bty i q = let x = i.same_bytes in let m = i.left.most in (omega arith, omega arith)
     takes_has Eq to a b ty aty bty i q = let x = i.same_bytes in let m = i.left.most in (omega arith, omega arith)
     takes_has Ne to a b ty aty bty i q = let x = i.same_bytes in let m = i.left.most in (omega arith, omega arith)
@@ -208,7 +210,7 @@ module _ (p : PlainIrProgram) (valid : ValidWithCells p) (leaves : LeavesFillThe
     emits need (call_function g to) code h v l =
         let c = valid.1.function_count in let d = v.0 in (taken_has need g to h, omega arith)
     emits need (return_from from) code h v l = result_has from h
-    emits need (address t o offset) code h v l = h.size
+    emits need (address t o offset) code h v l = (h.size, omega arith)
     emits need (field ptr space offset) code h v l =
         let e = h.1 in let two = some_width space in omega (arith, e, two)
     emits need (load_at to ptr space) code h v l = h.1.1

@@ -7,6 +7,7 @@ mod FixedTypes
 mod FixedItems
 mod PointerTypes
 mod PointerItems
+mod Indexed
 mod PortItems
 mod InPlace
 mod Carried
@@ -32,6 +33,7 @@ mod Zeros
 mod Runs
 mod OperationCode
 mod CountedTypes
+mod CombinedWords
 mod OwnWords
 mod UseWords
 mod CalledWords

@@ -1,7 +1,7 @@
 -- The code that stops a sum or a difference at the ends of its range: its items fit, and its words.
-use Rattle.std.proofs.Common.{ℕ, suc, ◌+◌, ◌-◌, ◌*◌, ◌<◌, ◌≤◌, ◌==◌, Bool, true, false, [], ◌++◌, pos, refl}
-use Rattle.std.proofs.Common.{arith}
-use Rattle.std.specs.Prelude.{if◌then◌else◌}
+use Rattle.std.proofs.Common.{◌≡◌, ℕ, suc, ◌+◌, ◌-◌, ◌*◌, ◌<◌, ◌≤◌, ◌==◌, Bool, true, false, [], ◌++◌, pos, refl}
+use Rattle.std.proofs.Common.{subst, arith}
+use Rattle.std.specs.Prelude.{◌&&◌, if◌then◌else◌}
 use Rattle.std.proofs.lemmas.Bool.{lt-ltb}
 use Rattle.ec_isa.specs.declared.instructions.Instr.TheVariants.{Brbc}
 use Rattle.ec_asm.specs.declared.items.AsmItem.TheVariants.{Plain}
@@ -13,10 +13,11 @@ use Rattle.ec_asm.specs.Valid.{Sizes}
 use Rattle.ec_asm.proofs.ItemWords.{words_cons}
 use Rattle.ec_fxcode.specs.Clamps.{put_byte, fills_code}
 use Rattle.ec_fxcode_limits.specs.Limits.{past_flag, fill_code, top_code, end_code, end_words, limit_code, operator_of, limited_code}
+use Rattle.ec_fxcode_limits.specs.Limits.{opposite_code}
 use Rattle.ec_fxcode_limits.proofs.Ends.{end_has}
 use Rattle.ec_fxcode_limits.proofs.Limited.{limits_have}
 use Rattle.ec_select_bytes.specs.Values.{constant_code}
-use Rattle.ec_select_operations.specs.Code.{move_code, stopped_code, aside_location, negated_code, negated_unary}
+use Rattle.ec_select_operations.specs.Code.{move_code, stopped_code, aside_location, from_zero_code, negated_code, negated_unary}
 use Rattle.ec_select.proofs.Fitting.{fits, Fit, joined, chained, ByteFits, BytesFit, registers_fit, fewer_fit, reg}
 use Rattle.ec_select.proofs.Pieces.{copy_fits, constant_fits, operate_fits}
 use Rattle.ec_select.proofs.Words.{joined_words, copy_words_most, operate_words_most}
@@ -45,12 +46,11 @@ stopped_words minus signed a b to top moved =
 
 -- a negation, where so many bytes are needed
 pub negated_words : (signed : Bool) (a to : Location) (bytes n most : ℕ) → 1 ≤ bytes → code_words (constant_code to 0 bytes) ≤ 3 * bytes
-    → 16 * bytes + 4 ≤ most → code_words (negated_unary signed a to bytes n) ≤ most
-negated_words signed a to bytes n most some zero room = by_count (n == 0)
+    → 16 * bytes + 4 ≤ most → ((q : Location) → code_words (move_code a q 1) ≤ 4) → code_words (negated_unary signed a to bytes n) ≤ most
+negated_words signed a to bytes n most some zero room moved = by_count (n == 0)
   where
-    by_count : (b : Bool) → code_words (if b then [] else negated_code signed a to bytes) ≤ most
-    by_count true = omega arith
-    by_count false =
+    others : code_words (from_zero_code signed a to bytes) ≤ most
+    others =
         let put = constant_code to 0 bytes in
         let limited = limited_code true signed aside_location to (bytes - 1) in
         let x = copy_words_most a aside_location bytes in
@@ -65,6 +65,21 @@ negated_words signed a to bytes n most some zero room = by_count (n == 0)
           some,
           room,
         )
+
+    by_place : (q : Location) → to ≡ q → code_words (negated_code signed a q bytes) ≤ most
+    by_place (InMemory o k) is = subst (λ (q : Location). code_words (from_zero_code signed a q bytes) ≤ most) is others
+    by_place (InRegisters r) is = by_kind (signed && bytes == 1)
+      where
+        by_kind : (b : Bool) → code_words (if b then move_code a (InRegisters r) 1 ++ opposite_code r
+            else from_zero_code signed a (InRegisters r) bytes) ≤ most
+        by_kind true =
+            let x = moved (InRegisters r) in
+            omega (arith, joined_words (move_code a (InRegisters r) 1) (opposite_code r), x, some, room)
+        by_kind false = subst (λ (q : Location). code_words (from_zero_code signed a q bytes) ≤ most) is others
+
+    by_count : (b : Bool) → code_words (if b then [] else negated_code signed a to bytes) ≤ most
+    by_count true = omega arith
+    by_count false = by_place to refl
 
 -- ---- items
 
@@ -114,15 +129,15 @@ module _ (sizes : Sizes) where
       (limited_fits minus signed b to top few y z)
 
   pub negated_fits : (signed : Bool) (a to : Location) (bytes n : ℕ) → 1 ≤ bytes → bytes ≤ 6 → BytesFit sizes a bytes
-      → BytesFit sizes to bytes → Fit sizes (negated_unary signed a to bytes n)
-  negated_fits signed a to bytes n some few x z = by_count (n == 0)
+      → BytesFit sizes to bytes → ((q : Location) → BytesFit sizes q 1 → Fit sizes (move_code a q 1))
+      → Fit sizes (negated_unary signed a to bytes n)
+  negated_fits signed a to bytes n some few x z moved = by_count (n == 0)
     where
       aside : (i : ℕ) → i ≤ 6 → BytesFit sizes aside_location i
       aside i l = registers_fit sizes 8 i (omega (arith, l))
 
-      by_count : (b : Bool) → Fit sizes (if b then [] else negated_code signed a to bytes)
-      by_count true = refl
-      by_count false =
+      others : Fit sizes (from_zero_code signed a to bytes)
+      others =
           let put = constant_code to 0 bytes in
           let limited = limited_code true signed aside_location to (bytes - 1) in
           joined (fits sizes) (copy_code a aside_location bytes) (put ++ limited)
@@ -130,3 +145,24 @@ module _ (sizes : Sizes) where
           (joined (fits sizes) put limited (constant_fits sizes to 0 bytes z)
           (limited_fits true signed aside_location to (bytes - 1) (omega (arith, few)) (aside (suc (bytes - 1)) (omega (arith, some, few)))
           (fewer_fit sizes to (suc (bytes - 1)) bytes (omega (arith, some)) z)))
+
+      by_place : (q : Location) → to ≡ q → Fit sizes (negated_code signed a q bytes)
+      by_place (InMemory o k) is = subst (λ (q : Location). Fit sizes (from_zero_code signed a q bytes)) is others
+      by_place (InRegisters r) is = by_kind (signed && bytes == 1)
+        where
+          there : BytesFit sizes (InRegisters r) bytes
+          there = subst (λ (q : Location). BytesFit sizes q bytes) is z
+
+          low : r < 32
+          low = let l : r + 0 < 32 = there 0 some in omega (arith, l)
+
+          by_kind : (b : Bool) → Fit sizes (if b then move_code a (InRegisters r) 1 ++ opposite_code r
+              else from_zero_code signed a (InRegisters r) bytes)
+          by_kind true =
+              joined (fits sizes) (move_code a (InRegisters r) 1) (opposite_code r)
+              (moved (InRegisters r) (fewer_fit sizes (InRegisters r) 1 bytes some there)) (rw (reg r low) refl)
+          by_kind false = subst (λ (q : Location). Fit sizes (from_zero_code signed a q bytes)) is others
+
+      by_count : (b : Bool) → Fit sizes (if b then [] else negated_code signed a to bytes)
+      by_count true = refl
+      by_count false = by_place to refl

@@ -18,6 +18,7 @@ use Rattle.ec_select_operations.specs.declared.homes.Homes.{Homes}
 use Rattle.ec_select_operations.specs.Code.{result_wanted, wanted_behind, wanted_bytes, routine_used}
 use Rattle.ec_select_operations.specs.Emitted.{CanBeCalled, CanBeEmitted, CanBeLinked}
 use Rattle.ec_select_operations.specs.Needs.{Need, Facts, facts_of, needs}
+use Rattle.ec_select_operations.specs.Pointers.{has_tables}
 use Rattle.ec_select_operations.specs.Written.{CanBeWritten}
 use Rattle.ec_select.specs.Labels.{label_count, homes_of}
 use Rattle.ec_select.specs.Seen.{CanBeUses, HasRoutine}
@@ -85,6 +86,7 @@ module _ (p : PlainIrProgram) (valid : ValidWithCells p) (leaves : LeavesFillThe
 
   behind_is : (labels : ℕ → Need) (need : Need) (i : PlainIr) → is_shaped i ≡ true → wanted_behind labels need i ≡ result_wanted need i
   behind_is labels need (branch_zero t l) s = absurd (false≢true s)
+  behind_is labels need (store_at ptr space from) s = absurd (false≢true s)
   behind_is labels need i s = refl
 
   -- what is measured can be written
@@ -143,7 +145,8 @@ module _ (core : Core) (p : PlainIrProgram) (valid : ValidWithCells p) (has : Ha
       let z : f + 0 ≡ f = omega arith in
       let here : slice_get p.functions f ≡ Some g = subst (λ k. slice_get p.functions k ≡ Some g) z (there 0 g refl) in
       joined_all (function_uses core p (tables f) f g) (uses_from core p tables (f + 1) gs)
-      (of_code f g here (homes_of f g.code) (wanted_bytes (facts_of (tables f) g.code) g.code) (right_numbers g.code) g.code
+      (of_code f g here (homes_of f g.code) (wanted_bytes (facts_of (has_tables (data_of p).objects) (tables f) g.code) g.code)
+      (right_numbers g.code) g.code
       (has.functions f g here)
       (function_valid p valid f g here).code)
       (from_function tables (f + 1) gs

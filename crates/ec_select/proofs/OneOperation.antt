@@ -1,11 +1,11 @@
 -- What the items of an operation's code pass.
 use Rattle.std.proofs.Common.{◌≡◌, ◌⊎◌, ℕ, suc, ◌+◌, ◌-◌, ◌*◌, ◌%◌, ◌<◌, ◌≤◌, ◌==◌, Bool, true, false, not, List, []}
 use Rattle.std.proofs.Common.{◌∷◌, ◌++◌}
-use Rattle.std.proofs.Common.{refl, sym, ap, ◌∙◌, subst, arith, leb-true, leb-false, eqb-true, inl, inr, ⊎_elim, ℤ}
-use Rattle.std.specs.Prelude.{⊤, min, nat_le, nat_lt, ◌&&◌, ◌||◌, if◌then◌else◌, Option, Some, None, option_map}
+use Rattle.std.proofs.Common.{refl, sym, ap, ◌∙◌, subst, arith, leb-true, leb-false, inl, inr, ⊎_elim, ℤ}
+use Rattle.std.specs.Prelude.{⊤, min, nat_le, nat_lt, ◌&&◌, ◌||◌, if◌then◌else◌, Option, Some, None, option_map, max}
 use Rattle.std.specs.Prelude.{slice_get}
 use Rattle.std.specs.List.{list_all, AllByRecursion}
-use Rattle.std.proofs.lemmas.Bool.{and_parts}
+use Rattle.std.proofs.lemmas.Bool.{and_parts, eqb-false}
 use Rattle.ec_isa.specs.declared.instructions.Instr.TheVariants.{Ret}
 use Rattle.ec_asm.specs.declared.items.AsmItem.{AsmItem}
 use Rattle.ec_asm.specs.declared.items.AsmItem.TheVariants.{Plain, Label, JumpTo, CallTo, BranchTo}
@@ -14,7 +14,7 @@ use Rattle.ec_asm.specs.declared.pieces.Location.TheVariants.{InRegisters, InMem
 use Rattle.ec_asm.specs.declared.pieces.Operator.{Operator}
 use Rattle.ec_asm.specs.declared.pieces.Operator.TheVariants.{Sum, Difference, BitAnd, BitOr, BitXor}
 use Rattle.ec_select_bytes.specs.Complements.{negation_code}
-use Rattle.ec_asm.specs.Pieces.{copy_code, operate_code}
+use Rattle.ec_asm.specs.Pieces.{compare_code, copy_code, operate_code}
 use Rattle.ec_asm.specs.Valid.{Sizes, is_offset}
 use Rattle.ec_core.specs.declared.expressions.BinOp.{BinOp}
 use Rattle.ec_core.specs.declared.expressions.UnOp.{UnOp}
@@ -30,20 +30,23 @@ use Rattle.ec_ir.specs.Operations.{PlainIr, constant, copy, address, field, load
 use Rattle.ec_ir.specs.Operations.{store_object, binary_op, unary_op, conversion, label, jump, branch_zero}
 use Rattle.ec_ir.specs.Operations.{call_function, return_from, port_in, port_out, load_cell, store_cell, cell_port}
 use Rattle.ec_ir.specs.Temporaries.{low_bytes}
-use Rattle.ec_select_bytes.specs.Values.{constant_code, test_code, extend_code}
+use Rattle.ec_select_bytes.specs.Values.{test_code, extend_code}
+use Rattle.ec_select_numbers.specs.ByNumber.{put_code}
 use Rattle.ec_select_places.specs.Conversions.{embed_code}
 use Rattle.ec_select_places.specs.Distances.{elements_code}
 use Rattle.ec_select_places.specs.Indexes.{can_add, add_index_code}
-use Rattle.ec_select_places.specs.Steps.{scale_index_code}
-use Rattle.ec_select_pointers.specs.Accesses.{store_data_code}
+use Rattle.ec_select_places.specs.Steps.{scale_index_code, z_pair}
+use Rattle.ec_select_pointers.specs.Accesses.{store_data_code, load_table_code}
+use Rattle.ec_select_pointers.specs.Far.{load_far_table_code}
 use Rattle.ec_select_pointers.specs.Form.{HasPlaces as HasPointerPlaces}
 use Rattle.ec_space.specs.Spaces.{width}
 use Rattle.ec_space.specs.declared.space.Home.{Home}
 use Rattle.ec_space.specs.declared.space.SpaceId.{SpaceId}
+use Rattle.ec_space.specs.declared.space.SpaceId.TheVariants.{Flash, FarFlash, Data, Generic}
 use Rattle.ec_space.specs.declared.space.Home.TheVariants.{Flash as FlashHome, Far as FarHome, Data as DataHome}
 use Rattle.ec_select_order.specs.declared.relations.Relation.{Relation}
 use Rattle.ec_select_order.specs.declared.relations.Relation.TheVariants.{Less, NotLess, Equal, NotEqual}
-use Rattle.ec_select_order.specs.Relations.{relation_code, flag_of, is_set}
+use Rattle.ec_select_order.specs.Relations.{relation_in_code, flag_of, is_set}
 use Rattle.ec_select_products.specs.Products.{product_code}
 use Rattle.ec_select_quotients.specs.Signs.{quotient_code}
 use Rattle.ec_select_shifts.specs.declared.shifts.Direction.{Direction}
@@ -53,13 +56,14 @@ use Rattle.ec_select_operations.specs.declared.families.Family.{Family}
 use Rattle.ec_select_operations.specs.declared.families.Family.TheVariants.{Combined, Compared, Multiplied, Shifted}
 use Rattle.ec_select_operations.specs.declared.families.Family.TheVariants.{Divided}
 use Rattle.ec_select_operations.specs.declared.families.Told.{Told}
-use Rattle.ec_select_operations.specs.declared.families.Told.TheVariants.{Operands, InZ}
+use Rattle.ec_select_operations.specs.declared.families.Told.TheVariants.{Operands, InZ, Index}
 use Rattle.ec_select_operations.specs.declared.homes.Homes.{Homes}
-use Rattle.ec_select_numbers.specs.ByNumber.{compared_code as compared_with_code}
+use Rattle.ec_select_operations.specs.declared.bounds.Bound.{Bound}
+use Rattle.ec_select_operations.specs.Bounds.{bound_of, truth_by_code}
 use Rattle.ec_select_operations.specs.Code.{counted_by_code}
 use Rattle.ec_select_operations.specs.Code.{compared_signed, counted_code, same_location, transfer_code, move_code}
 use Rattle.ec_select_operations.specs.Code.{reversed_code, family_of, is_signed}
-use Rattle.ec_select_operations.specs.Code.{conversion_code, combined_code}
+use Rattle.ec_select_operations.specs.Code.{conversion_code, truth_register, truth_at_code, combined_code}
 use Rattle.ec_select_operations.specs.Code.{compared_code, multiplied_code, shift_of, shifted_bytes, turned_code}
 use Rattle.ec_select_operations.specs.Code.{shifted_code, long_code}
 use Rattle.ec_select_operations.specs.Code.{divided_code, binary_code, turn_code, unary_code, branch_code, Linkage}
@@ -77,14 +81,18 @@ use Rattle.ec_select_operations.specs.Code.{negated_unary}
 use Rattle.ec_select_fixed.specs.Types.{format_in}
 use Rattle.ec_select_operations.specs.Emitted.{second_bytes}
 use Rattle.ec_select_operations.proofs.OneFormat.{placed_bytes}
+use Rattle.ec_select_operations.specs.Code.{by_core}
 use Rattle.ec_select_operations.specs.Code.{fixed_conversion, addressed_code, member_code, load_code, banked_code, moved_code, offset_code}
-use Rattle.ec_select_operations.specs.Code.{is_far, takes_index, indexed_code, scaled_code}
-use Rattle.ec_select_operations.specs.Code.{known_bytes, known_offset, offset_by}
-use Rattle.ec_select_operations.specs.Code.{object_code, further_code, displacement, loaded_code, is_in_reach}
+use Rattle.ec_select_operations.specs.Code.{is_far, takes_index, indexed_code, scaled_code, known_bytes, known_offset}
+use Rattle.ec_select_operations.specs.Code.{offset_by, object_code, further_code, displacement, from_z_code}
+use Rattle.ec_select_operations.specs.Code.{loaded_code, stored_code, own_telling}
+use Rattle.ec_select_operations.specs.Code.{is_in_reach, is_index, load_index_code}
 use Rattle.ec_select_pointers.specs.Accesses.{point_code}
-use Rattle.ec_select_pointers.specs.Fetched.{fetch_code, load_member_code}
+use Rattle.ec_select_pointers.specs.Fetched.{fetch_code, load_member_code, load_further_code, load_tagged_code}
+use Rattle.ec_select_pointers.specs.Fetched.{store_member_code}
 use Rattle.ec_select_pointers.specs.FetchedLaws.{IsInRange}
-use Rattle.ec_select_pointers.proofs.InZ.{fetches_are_valid, point_is_valid, members_are_valid, fetches_have_no_label}
+use Rattle.ec_select_pointers.proofs.InZ.{fetches_are_valid, point_is_valid, members_are_valid, further_is_valid}
+use Rattle.ec_select_pointers.proofs.InZ.{fetches_have_no_label, stores_are_valid}
 use Rattle.ec_select_operations.specs.Code.{related_bytes, pointers_code, is_difference, pointer_binary, pointer_conversion}
 use Rattle.ec_select_functions.specs.Covered.{AreIntegers}
 use Rattle.ec_select_functions.specs.Covered.{HasIndex, HasScalarAt, IsBinary, IsFixedBinary, IsFixedUnary}
@@ -97,14 +105,15 @@ use Rattle.ec_select_functions.proofs.OnWholes.{on_wholes}
 use Rattle.ec_select_operations.specs.Homes.{HasHome, depth, home, result_location}
 use Rattle.ec_select_functions.proofs.Taken.{TakesSum, TakesOrder, TakesShift, takes, taken_is, compared_few}
 use Rattle.ec_select_functions.proofs.Taken.{compared_within, compared_some}
-use Rattle.ec_select_operations.specs.Code.{taking_code, integer_binary, changed_by_code, bytes_code}
+use Rattle.ec_select_operations.specs.Code.{taking_code, integer_binary, changed_by_code, bytes_code, masks_low, low_mask_code}
+use Rattle.ec_select_operations.specs.Code.{combined_by_code, leaves_bit, top_bit_code}
 use Rattle.ec_ir_known.specs.declared.known.RightNumber.{RightNumber}
 use Rattle.ec_select_operations.specs.Needs.{Need, Facts, wanted, wanted_result, needs, is_fixed, number_taken}
-use Rattle.ec_select_operations.specs.Needs.{compared_bytes as bytes_compared}
-use Rattle.ec_select_operations.specs.Needs.{takes_count, number_known}
-use Rattle.ec_select.proofs.ByNumber.{changed_by_fits, compared_with_fits, masked_fits}
+use Rattle.ec_select_operations.specs.Needs.{compared_bytes as bytes_compared, takes_count, number_known, moves_pointer}
+use Rattle.ec_select_operations.specs.Needs.{takes_known}
+use Rattle.ec_select.proofs.ByNumber.{put_fits, changed_by_fits, masked_fits, bounded_fits, truth_by_fits}
 use Rattle.ec_select_functions.proofs.Taken.{TakenNumber, as_known, no_number, HasNumber, number_or_none, ComparesSo}
-use Rattle.ec_select_functions.proofs.Taken.{compares}
+use Rattle.ec_select_functions.proofs.Taken.{compares, Joins, joins}
 use Rattle.ec_select_operations.specs.Places.{object_location}
 use Rattle.ec_select_operations.specs.Pointers.{is_pointer, is_into_data, kept_in, has_tables, IsPointerSize}
 use Rattle.ec_select_operations.specs.Ports.{in_code, out_code, first_cell, cell_place, cell_in_code, cell_out_code}
@@ -114,15 +123,18 @@ use Rattle.ec_select.proofs.InPlace.{whole_fits}
 use Rattle.ec_select.proofs.Limits.{negated_fits}
 use Rattle.ec_select.proofs.FixedTypes.{type_fixed, either_fixed, no_fixed, no_fixed_operand, none_converted}
 use Rattle.ec_select.proofs.Fitting.{fits, Fit, joined, chained, passing, and_first, and_second, ByteFits, BytesFit}
-use Rattle.ec_select.proofs.Fitting.{registers_fit, fewer_fit}
-use Rattle.ec_select.proofs.Pieces.{copy_fits, transfer_fits, operate_fits, compare_fits, relation_fits, constant_fits, test_fits}
+use Rattle.ec_select.proofs.Fitting.{registers_fit, fewer_fit, two_fit}
+use Rattle.ec_select.proofs.Pieces.{copy_fits, transfer_fits, operate_fits, compare_fits, relation_in_fits, made_fits}
+use Rattle.ec_select.proofs.Pieces.{constant_fits, test_fits}
 use Rattle.ec_select.proofs.Pieces.{extend_fits}
 use Rattle.ec_select.proofs.Pieces.{complement_fits, negation_fits}
-use Rattle.ec_select.proofs.PointerItems.{PointerItemLaws, fewer_places, few_related, addressed_fits, member_fits}
+use Rattle.ec_select.proofs.PointerItems.{added_there_fits, PointerItemLaws, fewer_places, few_related, addressed_fits, member_fits}
 use Rattle.ec_select.proofs.PointerItems.{load_fits, far_object_fits}
-use Rattle.ec_select.proofs.PointerItems.{store_fits, table_fits, scale_fits, added_fits, moved_fits, elements_fit, embed_fits}
+use Rattle.ec_select.proofs.PointerItems.{store_fits, table_fits, scale_fits, added_fits, moved_fits, elements_fit}
+use Rattle.ec_select.proofs.PointerItems.{embed_fits, scale_there_fits}
+use Rattle.ec_select.proofs.Indexed.{index_few, first_moved, second_moved, moves_pointers, kind_fits}
 use Rattle.ec_select.proofs.PointerTypes.{some_width, two_pointers, first_pointer, second_pointer, pointers_only}
-use Rattle.ec_select.proofs.PointerTypes.{pointer_converted, stays_within, at_least_two, no_pointer, none_pointed}
+use Rattle.ec_select.proofs.PointerTypes.{pointer_converted, at_least_two, no_pointer, none_pointed, made_bytes}
 use Rattle.ec_select.proofs.PortItems.{IndexFits, in_fits, out_fits, cell_in_fits, cell_out_fits}
 use Rattle.ec_select.proofs.Loops.{counted_fits, shift_fits, product_fits, quotient_fits}
 
@@ -212,6 +224,17 @@ module _ (sizes : Sizes) where
     by_count true = refl
     by_count false = h
 
+  where_some : (n : ℕ) (code : List AsmItem) → (0 < n → Fit sizes code) → Fit sizes (if n == 0 then [] else code)
+  where_some n code h = by_count (n == 0) refl where
+    by_count : (none : Bool) → (n == 0) ≡ none → Fit sizes (if none then [] else code)
+    by_count true q = refl
+    by_count false q = let other = eqb-false n 0 q in h (omega (arith, other))
+
+  -- a truth value goes to its place
+  truth_at_fits : (to : Location) (n : ℕ) → 0 < n → BytesFit sizes to n → Fit sizes (truth_at_code to n)
+  truth_at_fits to n some z =
+      convert_fits false (InRegisters (truth_register to)) to 1 n (omega arith) (made_fits sizes to (z 0 some)) z
+
   reversed_fit : (op : Operator) (a to : Location) (n : ℕ) → BytesFit sizes a n → BytesFit sizes to n
       → Fit sizes (reversed_code op a to n)
   reversed_fit Sum a to n x z = operate_fits sizes Sum a to n x z
@@ -235,10 +258,19 @@ module _ (sizes : Sizes) where
   compared_fit : (r : Relation) (signed : Bool) (a b to : Location) (bytes n : ℕ) → BytesFit sizes a bytes
       → BytesFit sizes b bytes → BytesFit sizes to n → Fit sizes (compared_code r signed a b to bytes n)
   compared_fit r signed a b to bytes n x y z =
-      let truth = conversion_code false (InRegisters 30) to 1 n in
-      unless_none n (relation_code r signed a b bytes ++ truth)
-      (joined (fits sizes) (relation_code r signed a b bytes) truth (relation_fits sizes r signed a b bytes x y)
-      (convert_fits false (InRegisters 30) to 1 n (omega arith) (registers_fit sizes 30 1 (omega arith)) z))
+      let compared = relation_in_code (truth_register to) r signed a b bytes in
+      where_some n (compared ++ truth_at_code to n)
+      (λ some.
+      joined (fits sizes) compared (truth_at_code to n) (relation_in_fits sizes to r signed a b bytes x y (z 0 some))
+      (truth_at_fits to n some z))
+
+  truth_by_fit : (bound : Bound) (a to : Location) (bytes n : ℕ) → BytesFit sizes a bytes → BytesFit sizes to n
+      → Fit sizes (if n == 0 then [] else truth_by_code (truth_register to) bound a bytes ++ truth_at_code to n)
+  truth_by_fit bound a to bytes n x z =
+      let own = truth_by_code (truth_register to) bound a bytes in
+      where_some n (own ++ truth_at_code to n)
+      (λ some.
+      joined (fits sizes) own (truth_at_code to n) (truth_by_fits sizes to bound a bytes x (z 0 some)) (truth_at_fits to n some z))
 
   multiplied_fit : (left right : Bool) (a b to : Location) (n : ℕ) → n ≤ 2 → BytesFit sizes a 1 → BytesFit sizes b 1
       → BytesFit sizes to n → Fit sizes (multiplied_code left right a b to n)
@@ -360,12 +392,30 @@ module _ (sizes : Sizes) where
     taking_fits op known telling to a b ty aty bty left right n h l = by_taken (number_taken known false op) refl
       where
         by_sum : (o : Operator) → AreIntegers k.slots to a b ty aty bty → (number : ℕ)
-            → Fit sizes (move_code (home k.homes a) (home k.homes to) n ++ changed_by_code o (home k.homes to) number n)
-        by_sum o i number =
-            let x = i.left_bytes in
-            joined (fits sizes) (move_code (home k.homes a) (home k.homes to) n) (changed_by_code o (home k.homes to) number n)
-            (move_fits (home k.homes a) (home k.homes to) n (low_home a n i.left (omega arith)) (low_home to n i.result l))
-            (changed_by_fits sizes o (home k.homes to) number n (low_home to n i.result l))
+            → Fit sizes (combined_by_code o (home k.homes a) (home k.homes to) number n)
+        by_sum o i number = by_mask (masks_low o number)
+          where
+            moved : (m : ℕ) → m ≤ n → Fit sizes (move_code (home k.homes a) (home k.homes to) m)
+            moved m few =
+                let x = i.left_bytes in
+                move_fits (home k.homes a) (home k.homes to) m (low_home a m i.left (omega (arith, few, x, l)))
+                (low_home to m i.result (omega (arith, few, l)))
+
+            changed : (q : Operator) (m : ℕ) → m ≤ n → Fit sizes (changed_by_code q (home k.homes to) number m)
+            changed q m few = changed_by_fits sizes q (home k.homes to) number m (low_home to m i.result (omega (arith, few, l)))
+
+            by_mask : (x : Bool) → Fit sizes (if x then low_mask_code (home k.homes a) (home k.homes to) number n
+                else move_code (home k.homes a) (home k.homes to) n ++ changed_by_code o (home k.homes to) number n)
+            by_mask true =
+                joined (fits sizes) (move_code (home k.homes a) (home k.homes to) (min n 1))
+                (changed_by_code BitAnd (home k.homes to) number (min n 1) ++ extend_code false (home k.homes to) 1 n)
+                (moved (min n 1) (omega arith))
+                (joined (fits sizes) (changed_by_code BitAnd (home k.homes to) number (min n 1)) (extend_code false (home k.homes to) 1 n)
+                (changed BitAnd (min n 1) (omega arith))
+                (extend_fits sizes false (home k.homes to) 1 n (omega arith) (low_home to n i.result l)))
+            by_mask false =
+                joined (fits sizes) (move_code (home k.homes a) (home k.homes to) n) (changed_by_code o (home k.homes to) number n)
+                (moved n (omega arith)) (changed o n (omega arith))
 
         by_number : (x : TakesSum op ⊎ (TakesOrder op ⊎ TakesShift op)) → (told : Option Told) (number : TakenNumber)
             → Fit sizes (taking_code (Some (as_known number)) told (family_of op) left right (home k.homes a) (home k.homes b)
@@ -383,19 +433,14 @@ module _ (sizes : Sizes) where
             let compared = bytes_compared (Some (as_known number)) a.bytes in
             let few = compared_few (as_known number) a.bytes in
             let sign = compared_signed (Some (as_known number)) left in
-            let first = compared_with_code (home k.homes a) (low_bytes 16 number.number) compared in
-            let second = compared_code x.relation sign (home k.homes a) (home k.homes b) (home k.homes to) 0 n in
-            rw x.is (unless_none n (first ++ second)
-            (joined (fits sizes) first second
-            (compared_with_fits sizes (home k.homes a) (low_bytes 16 number.number) compared (low_home a compared i.left few))
-            (compared_fit x.relation sign (home k.homes a) (home k.homes b) (home k.homes to) 0 n
-            (low_home a 0 i.left (omega arith)) (low_home b 0 i.right (omega arith)) (low_home to n i.result l))))
+            rw x.is (truth_by_fit (bound_of x.relation x.exchanged sign compared (low_bytes 16 number.number)) (home k.homes a)
+            (home k.homes to) compared n (low_home a compared i.left few) (low_home to n i.result l))
         by_number (inr (inl x)) (Some told) number =
             let i = subst (λ z. IsBinary z k.slots to a b ty aty bty) x.is h in
-            let few = compared_few (as_known number) a.bytes in
-            rw x.is (compared_with_fits sizes (home k.homes a) (low_bytes 16 number.number)
-            (bytes_compared (Some (as_known number)) a.bytes)
-            (low_home a (bytes_compared (Some (as_known number)) a.bytes) i.left few))
+            let compared = bytes_compared (Some (as_known number)) a.bytes in
+            let sign = compared_signed (Some (as_known number)) left in
+            rw x.is (bounded_fits sizes (bound_of x.relation x.exchanged sign compared (low_bytes 16 number.number)) (home k.homes a)
+            compared (low_home a compared i.left (compared_few (as_known number) a.bytes)))
         by_number (inr (inr x)) None number =
             let i = (subst (λ z. IsBinary z k.slots to a b ty aty bty) x.is h).0 in
             let compared = bytes_compared (Some (as_known number)) a.bytes in
@@ -419,15 +464,33 @@ module _ (sizes : Sizes) where
                 → Fit sizes (counted_by_code up sign (home k.homes a) (home k.homes to) m n (low_bytes 16 number.number % 256))
             by_direction true sign ia it same m few some = count_fits Left n ia it same (omega (arith, l, same))
             by_direction false sign ia it same m few some =
-                joined (fits sizes) (counted_code (Right sign) (home k.homes a) (home k.homes to) m (low_bytes 16 number.number % 256))
-                (extend_code false (home k.homes to) m n) (count_fits (Right sign) m ia it same few)
-                (extend_fits sizes false (home k.homes to) m n some (low_home to n it l))
-        by_number (inr (inr x)) (Some told) number =
-            let i = (subst (λ z. IsBinary z k.slots to a b ty aty bty) x.is h).0 in
-            let few = compared_few (as_known number) a.bytes in
-            rw x.is (compared_with_fits sizes (home k.homes a) (low_bytes 16 number.number)
-            (bytes_compared (Some (as_known number)) a.bytes)
-            (low_home a (bytes_compared (Some (as_known number)) a.bytes) i.left few))
+                by_bit (leaves_bit sign (home k.homes to) m n (low_bytes 16 number.number % 256))
+              where
+                whole : Fit sizes (counted_code (Right sign) (home k.homes a) (home k.homes to) m (low_bytes 16 number.number % 256)
+                    ++ extend_code false (home k.homes to) m n)
+                whole =
+                    joined (fits sizes) (counted_code (Right sign) (home k.homes a) (home k.homes to) m (low_bytes 16 number.number % 256))
+                    (extend_code false (home k.homes to) m n) (count_fits (Right sign) m ia it same few)
+                    (extend_fits sizes false (home k.homes to) m n some (low_home to n it l))
+
+                bit : (q : Location) → BytesFit sizes q m → Fit sizes (top_bit_code q m)
+                bit (InRegisters r) x =
+                    let first = x 0 (omega (arith, some)) in
+                    let low : r < 32 = omega (arith, first) in
+                    let top = x (m - 1) (omega (arith, some)) in
+                    rw (two_fit (r + (m - 1)) (r + (m - 1)) top top, two_fit r r low low) refl
+                bit (InMemory o j) x = refl
+
+                by_bit : (x : Bool)
+                    → Fit sizes (if x then move_code (home k.homes a) (home k.homes to) m ++ top_bit_code (home k.homes to) m
+                    else counted_code (Right sign) (home k.homes a) (home k.homes to) m (low_bytes 16 number.number % 256)
+                    ++ extend_code false (home k.homes to) m n)
+                by_bit false = whole
+                by_bit true =
+                    joined (fits sizes) (move_code (home k.homes a) (home k.homes to) m) (top_bit_code (home k.homes to) m)
+                    (move_fits (home k.homes a) (home k.homes to) m (low_home a m ia few) (low_home to m it (omega (arith, few, same))))
+                    (bit (home k.homes to) (low_home to m it (omega (arith, few, same))))
+        by_number (inr (inr x)) (Some told) number = rw x.is refl
 
         low_fits : (telling : Option Told) (r : Relation) (x : Bool) (compared : ℕ) → BytesFit sizes (home k.homes a) compared
             → BytesFit sizes (home k.homes b) compared → BytesFit sizes (home k.homes to) n
@@ -449,6 +512,29 @@ module _ (sizes : Sizes) where
             (low_fits telling order.relation order.exchanged compared (low_home a compared i.left few)
             (low_home b compared i.right (omega (arith, few, same))) (low_home to n i.result l))
 
+        -- one byte of the second operand alone
+        by_one : (join : Joins op) (byte : Bool)
+            → Fit sizes (taking_code (Some (no_number byte)) telling (family_of op) left right (home k.homes a) (home k.homes b)
+            (home k.homes to) a.bytes n)
+        by_one join byte =
+            let i = subst (λ z. IsBinary z k.slots to a b ty aty bty) join.is h in
+            let x = i.left_bytes in
+            let y = i.right_bytes in
+            let compared = bytes_compared (Some (no_number byte)) a.bytes in
+            let one = min n 1 in
+            subst (λ f. Fit sizes (bytes_code telling f (home k.homes a) (home k.homes b) (home k.homes to) compared n)) (sym join.is)
+            (joined (fits sizes) (move_code (home k.homes a) (home k.homes to) n)
+            (operate_code join.operator (home k.homes b) (home k.homes to) one)
+            (move_fits (home k.homes a) (home k.homes to) n (low_home a n i.left (omega (arith, x, l))) (low_home to n i.result l))
+            (operate_fits sizes join.operator (home k.homes b) (home k.homes to) one (low_home b one i.right (omega (arith, y, l)))
+            (low_home to one i.result (omega (arith, l)))))
+
+        with_none : (byte : Bool) → takes_known None byte op ≡ true
+            → Fit sizes (taking_code (Some (no_number byte)) telling (family_of op) left right (home k.homes a) (home k.homes b)
+            (home k.homes to) a.bytes n)
+        with_none true q = by_bytes (compares op q) true
+        with_none false q = by_one (joins op q) false
+
         by_taken : (x : Option RightNumber) → number_taken known false op ≡ x
             → Fit sizes (taking_code x telling (family_of op) left right (home k.homes a) (home k.homes b) (home k.homes to) a.bytes n)
         by_taken None q = operator_fits telling (family_of op) to a b ty aty bty left right n h l
@@ -458,7 +544,7 @@ module _ (sizes : Sizes) where
             (λ (x : j ≡ no_number j.in_byte).
             subst (λ z. Fit sizes (taking_code (Some z) telling (family_of op) left right (home k.homes a) (home k.homes b)
             (home k.homes to) a.bytes n)) (sym x)
-            (by_bytes (compares op (taken_is op known (no_number j.in_byte) (q ∙ ap Some x)).1) j.in_byte))
+            (with_none j.in_byte (taken_is op known (no_number j.in_byte) (q ∙ ap Some x)).1))
             (number_or_none j)
           where
             with_number : (number : TakenNumber) → number_taken known false op ≡ Some (as_known number) → j ≡ as_known number
@@ -558,6 +644,8 @@ module _ (sizes : Sizes) where
             (leb-true (scalar_size ty) 6 q)
             (subst (BytesFit sizes (home k.homes a)) h.operand_bytes (at_home a h.operand))
             (subst (BytesFit sizes (home k.homes to)) e (at_home to h.result))
+            (λ (q : Location) y. move_fits (home k.homes a) q 1
+            (fewer_fit sizes (home k.homes a) 1 a.bytes h.operand.some (at_home a h.operand)) y)
         by_size false q =
             let most = h.result.most in let e = h.result_bytes in
             answer_fits sizes room.work code (home k.homes to) n (omega arith)
@@ -618,13 +706,13 @@ module _ (sizes : Sizes) where
     low_leaves t n h l = fewer_places sizes (home k.homes t) n t.bytes l (home_leaves cells k.homes k.slots room t h)
 
     -- a pointer comes to the place of the result, and goes on there
-    offset_fits : (minus signed : Bool) (from index to : Temp) (size n : ℕ) → HasHome k.slots from → HasHome k.slots index
-        → HasHome k.slots to → 2 ≤ from.bytes → to.bytes ≡ from.bytes
+    offset_fits : (minus signed : Bool) (from index to : Temp) (bytes size n : ℕ) → HasHome k.slots from → HasHome k.slots index
+        → HasHome k.slots to → 2 ≤ bytes → bytes ≤ from.bytes → to.bytes ≡ from.bytes
         → Fit sizes (offset_code k.core minus signed (home k.homes from) (home k.homes index)
-        (home k.homes to) from.bytes index.bytes size n)
-    offset_fits minus signed from index to size n x y z some same =
-        unless_none n (if takes_index k.core signed b c from.bytes index.bytes (size % 65536) then indexed else scaled)
-        (by_way (takes_index k.core signed b c from.bytes index.bytes (size % 65536)) refl)
+        (home k.homes to) bytes index.bytes size n)
+    offset_fits minus signed from index to bytes size n x y z some most same =
+        unless_none n (if takes_index k.core signed b c bytes index.bytes (size % 65536) then indexed else scaled)
+        (by_way (takes_index k.core signed b c bytes index.bytes (size % 65536)) refl)
       where
         a : Location
         a = home k.homes from
@@ -636,92 +724,168 @@ module _ (sizes : Sizes) where
         c = home k.homes to
 
         indexed : List AsmItem
-        indexed = indexed_code minus a b c from.bytes index.bytes (size % 65536)
+        indexed = indexed_code minus a b c bytes index.bytes (size % 65536)
 
         scaled : List AsmItem
-        scaled = scaled_code k.core minus signed a b c from.bytes index.bytes (size % 65536)
+        scaled = scaled_code k.core minus signed a b c bytes index.bytes (size % 65536)
 
-        move : Fit sizes (move_code a c from.bytes)
-        move = move_fits a c from.bytes (at_home from x) (low_home to from.bytes z (omega (arith, same)))
+        move : Fit sizes (move_code a c bytes)
+        move = move_fits a c bytes (low_home from bytes x most) (low_home to bytes z (omega (arith, most, same)))
 
         index_leaves : HasPointerPlaces sizes b index.bytes
         index_leaves = home_leaves cells k.homes k.slots room index y
 
         pair : HasPointerPlaces sizes c 2
-        pair = low_leaves to 2 z (omega (arith, some, same))
+        pair = low_leaves to 2 z (omega (arith, some, most, same))
 
-        by_way : (way : Bool) → takes_index k.core signed b c from.bytes index.bytes (size % 65536) ≡ way
+        by_way : (way : Bool) → takes_index k.core signed b c bytes index.bytes (size % 65536) ≡ way
             → Fit sizes (if way then indexed else scaled)
         by_way true e =
-            joined (fits sizes) (move_code a c from.bytes) (add_index_code minus b c index.bytes (size % 65536)) move
+            joined (fits sizes) (move_code a c bytes) (add_index_code minus b c index.bytes (size % 65536)) move
             (added_fits sizes laws.pointers minus signed b c index.bytes (size % 65536) y.some index_leaves pair
-            (and_second (not (is_far k.core from.bytes)) (can_add signed b c index.bytes (size % 65536)) e))
+            (and_second (not (is_far k.core bytes)) (can_add signed b c index.bytes (size % 65536)) e))
         by_way false e =
-            let moved = moved_code k.core from.bytes minus c in
-            joined (fits sizes) (scale_index_code b signed index.bytes (size % 65536)) (move_code a c from.bytes ++ moved)
+            let moved = moved_code k.core bytes minus c in
+            joined (fits sizes) (scale_index_code b signed index.bytes (size % 65536)) (move_code a c bytes ++ moved)
             (scale_fits sizes laws.pointers b c signed index.bytes (size % 65536) y.some (omega arith) index_leaves pair)
-            (joined (fits sizes) (move_code a c from.bytes) moved move
-            (moved_fits sizes laws.pointers k.core c minus from.bytes some (low_leaves to from.bytes z (omega (arith, same)))))
+            (joined (fits sizes) (move_code a c bytes) moved move
+            (moved_fits sizes laws.pointers k.core c minus bytes some (low_leaves to bytes z (omega (arith, most, same)))))
 
-    -- so it does where the number of elements is known
-    offset_by_fits : (known : Option ℤ) (minus signed : Bool) (from index to : Temp) (size n : ℕ) → HasHome k.slots from
-        → HasHome k.slots index → HasHome k.slots to → 2 ≤ from.bytes → to.bytes ≡ from.bytes
-        → Fit sizes (offset_by known k.core minus signed (home k.homes from) (home k.homes index) (home k.homes to) from.bytes index.bytes
-        size n)
-    offset_by_fits None minus signed from index to size n x y z some same = offset_fits minus signed from index to size n x y z some same
-    offset_by_fits (Some number) minus signed from index to size n x y z some same =
+    -- so it does where the number of elements is told
+    indexed_fits : (op : BinOp) (ty aty bty : PlainType) (to a b : Temp) (n : ℕ) → IsPointerBinary p k.slots op to a b ty aty bty
+        → moves_pointer op aty bty ≡ true → n ≤ to.bytes
+        → Fit sizes (offset_code k.core (is_difference op) (is_signed bty) (home k.homes a) z_pair (home k.homes to) (max 2 n) b.bytes
+        (element_size p aty) n)
+    indexed_fits op ty aty bty to a b n h moves l =
+        unless_none n (if takes then indexed else scaled) (by_way takes refl)
+      where
+        from : Location
+        from = home k.homes a
+
+        c : Location
+        c = home k.homes to
+
+        minus : Bool
+        minus = is_difference op
+
+        signed : Bool
+        signed = is_signed bty
+
+        size : ℕ
+        size = element_size p aty % 65536
+
+        bytes : ℕ
+        bytes = max 2 n
+
+        sizes_are : (bytes ≤ a.bytes) × (bytes ≤ to.bytes)
+        sizes_are =
+            let t = first_pointer op ty aty bty (first_moved op aty bty moves) (second_moved op aty bty moves) h.types in
+            let s = t.some in let r = t.result in let i = h.left_bytes in let w = h.result_bytes in
+            (omega (arith, s, r, i, w, l), omega (arith, s, r, i, w, l))
+
+        two : 2 ≤ bytes
+        two = omega arith
+
+        few : bytes ≤ to.bytes
+        few = sizes_are.1
+
+        takes : Bool
+        takes = takes_index k.core signed z_pair c bytes b.bytes size
+
+        indexed : List AsmItem
+        indexed = indexed_code minus from z_pair c bytes b.bytes size
+
+        scaled : List AsmItem
+        scaled = scaled_code k.core minus signed from z_pair c bytes b.bytes size
+
+        move : Fit sizes (move_code from c bytes)
+        move = move_fits from c bytes (low_home a bytes h.left sizes_are.0) (low_home to bytes h.result few)
+
+        by_way : (way : Bool) → takes ≡ way → Fit sizes (if way then indexed else scaled)
+        by_way true e =
+            joined (fits sizes) (move_code from c bytes) (add_index_code minus z_pair c b.bytes size) move
+            (added_there_fits sizes laws.pointers minus signed c b.bytes size h.right.some
+            (low_leaves to 2 h.result (omega (arith, two, few)))
+            (and_second (not (is_far k.core bytes)) (can_add signed z_pair c b.bytes size) e))
+        by_way false e =
+            let moved = moved_code k.core bytes minus c in
+            joined (fits sizes) (scale_index_code z_pair signed b.bytes size) (move_code from c bytes ++ moved)
+            (scale_there_fits sizes laws.pointers c signed b.bytes size h.right.some (omega arith)
+            (low_leaves to 2 h.result (omega (arith, two, few))))
+            (joined (fits sizes) (move_code from c bytes) moved move
+            (moved_fits sizes laws.pointers k.core c minus bytes two (low_leaves to bytes h.result few)))
+
+    -- and where it is known
+    offset_by_fits : (known : Option ℤ) (minus signed : Bool) (from index to : Temp) (bytes size n : ℕ) → HasHome k.slots from
+        → HasHome k.slots index → HasHome k.slots to → 2 ≤ bytes → bytes ≤ from.bytes → to.bytes ≡ from.bytes
+        → Fit sizes (offset_by known k.core minus signed (home k.homes from) (home k.homes index)
+        (home k.homes to) bytes index.bytes size n)
+    offset_by_fits None minus signed from index to bytes size n x y z some most same =
+        offset_fits minus signed from index to bytes size n x y z some most same
+    offset_by_fits (Some number) minus signed from index to bytes size n x y z some most same =
         let a = home k.homes from in let c = home k.homes to in
         let offset = known_offset minus (known_bytes signed index.bytes (low_bytes 16 number) size) in
-        let member = member_code k.core from.bytes c offset in
-        unless_none n (move_code a c from.bytes ++ member)
-        (joined (fits sizes) (move_code a c from.bytes) member
-        (move_fits a c from.bytes (at_home from x) (low_home to from.bytes z (omega (arith, same))))
-        (member_fits sizes laws.pointers k.core c from.bytes offset some (low_home to from.bytes z (omega (arith, same)))))
+        let member = member_code k.core bytes c offset in
+        unless_none n (move_code a c bytes ++ member)
+        (joined (fits sizes) (move_code a c bytes) member
+        (move_fits a c bytes (low_home from bytes x most) (low_home to bytes z (omega (arith, most, same))))
+        (member_fits sizes laws.pointers k.core c bytes offset some (low_home to bytes z (omega (arith, most, same)))))
 
-    pointers_fit : (family : Family) (a b to : Temp) (size n : ℕ) → HasHome k.slots a → HasHome k.slots b
+    pointers_fit : (telling : Option Told) (family : Family) (a b to : Temp) (size n : ℕ) → HasHome k.slots a → HasHome k.slots b
         → HasHome k.slots to → 2 ≤ a.bytes → b.bytes ≡ a.bytes → to.bytes ≡ 2 → n ≤ to.bytes
-        → Fit sizes (pointers_code k.core family (home k.homes a) (home k.homes b) (home k.homes to) a.bytes size n)
-    pointers_fit (Combined op) a b to size n x y z some same two l =
+        → Fit sizes (pointers_code telling k.core family (home k.homes a) (home k.homes b) (home k.homes to) a.bytes size n)
+    pointers_fit telling (Combined op) a b to size n x y z some same two l =
         unless_none n (elements_code (home k.homes a) (home k.homes b) (home k.homes to) size)
         (elements_fit sizes laws.pointers (home k.homes a) (home k.homes b) (home k.homes to) size (low_leaves a 2 x some)
         (low_leaves b 2 y (omega (arith, some, same))) (low_leaves to 2 z (omega (arith, two))))
-    pointers_fit (Compared r false) a b to size n x y z some same two l =
+    pointers_fit None (Compared r false) a b to size n x y z some same two l =
         let few = few_related k.core r a.bytes some in
         compared_fit r false (home k.homes a) (home k.homes b) (home k.homes to) (related_bytes k.core r a.bytes) n
         (low_home a (related_bytes k.core r a.bytes) x few) (low_home b (related_bytes k.core r a.bytes) y (omega (arith, few, same)))
         (low_home to n z l)
-    pointers_fit (Compared r true) a b to size n x y z some same two l =
+    pointers_fit None (Compared r true) a b to size n x y z some same two l =
         let few = few_related k.core r a.bytes some in
         compared_fit r false (home k.homes b) (home k.homes a) (home k.homes to) (related_bytes k.core r a.bytes) n
         (low_home b (related_bytes k.core r a.bytes) y (omega (arith, few, same))) (low_home a (related_bytes k.core r a.bytes) x few)
         (low_home to n z l)
-    pointers_fit Multiplied a b to size n x y z some same two l = refl
-    pointers_fit (Shifted up) a b to size n x y z some same two l = refl
-    pointers_fit (Divided r) a b to size n x y z some same two l = refl
+    pointers_fit (Some told) (Compared r false) a b to size n x y z some same two l =
+        let few = few_related k.core r a.bytes some in
+        unless_none n (compare_code (home k.homes b) (home k.homes a) (related_bytes k.core r a.bytes))
+        (compare_fits sizes (home k.homes b) (home k.homes a) (related_bytes k.core r a.bytes)
+        (low_home b (related_bytes k.core r a.bytes) y (omega (arith, few, same))) (low_home a (related_bytes k.core r a.bytes) x few))
+    pointers_fit (Some told) (Compared r true) a b to size n x y z some same two l =
+        let few = few_related k.core r a.bytes some in
+        unless_none n (compare_code (home k.homes a) (home k.homes b) (related_bytes k.core r a.bytes))
+        (compare_fits sizes (home k.homes a) (home k.homes b) (related_bytes k.core r a.bytes)
+        (low_home a (related_bytes k.core r a.bytes) x few) (low_home b (related_bytes k.core r a.bytes) y (omega (arith, few, same))))
+    pointers_fit telling Multiplied a b to size n x y z some same two l = refl
+    pointers_fit telling (Shifted up) a b to size n x y z some same two l = refl
+    pointers_fit telling (Divided r) a b to size n x y z some same two l = refl
 
-    pointer_binary_fits : (known : Option RightNumber) (op : BinOp) (to a b : Temp) (ty aty bty : PlainType) (n : ℕ)
+    pointer_binary_fits : (known : Option RightNumber) (telling : Option Told) (op : BinOp) (to a b : Temp) (ty aty bty : PlainType) (n : ℕ)
         → IsPointerBinary p k.slots op to a b ty aty bty → n ≤ to.bytes
-        → Fit sizes (pointer_binary known k.core (is_pointer aty) (is_pointer bty) p op aty bty (home k.homes a) (home k.homes b)
+        → Fit sizes (pointer_binary known telling k.core (is_pointer aty) (is_pointer bty) p op aty bty (home k.homes a) (home k.homes b)
         (home k.homes to) a.bytes b.bytes n)
-    pointer_binary_fits known op to a b ty aty bty n h l = by_kinds (is_pointer aty) (is_pointer bty) refl refl where
+    pointer_binary_fits known telling op to a b ty aty bty n h l = by_kinds (is_pointer aty) (is_pointer bty) refl refl where
       by_kinds : (x y : Bool) → is_pointer aty ≡ x → is_pointer bty ≡ y
-          → Fit sizes (pointer_binary known k.core x y p op aty bty (home k.homes a) (home k.homes b) (home k.homes to) a.bytes b.bytes n)
+          → Fit sizes (pointer_binary known telling k.core x y p op aty bty (home k.homes a) (home k.homes b) (home k.homes to) a.bytes
+          b.bytes n)
       by_kinds true true d e =
           let t = two_pointers op ty aty bty d e h.types in
           let s = t.some in let m = t.same in let r = t.result in
           let i = h.left_bytes in let j = h.right_bytes in let w = h.result_bytes in
-          pointers_fit (family_of op) a b to (element_size p aty) n h.left h.right h.result (omega (arith, s, i))
+          pointers_fit telling (family_of op) a b to (element_size p aty) n h.left h.right h.result (omega (arith, s, i))
           (omega (arith, m, i, j)) (omega (arith, r, w)) l
       by_kinds true false d e =
           let t = first_pointer op ty aty bty d e h.types in
           let s = t.some in let r = t.result in let i = h.left_bytes in let w = h.result_bytes in
-          offset_by_fits (number_known known) (is_difference op) (is_signed bty) a b to (element_size p aty) n h.left h.right h.result
-          (omega (arith, s, i)) (omega (arith, r, i, w))
+          offset_by_fits (number_known known) (is_difference op) (is_signed bty) a b to (max 2 n) (element_size p aty) n h.left h.right
+          h.result (omega arith) (omega (arith, s, r, i, w, l)) (omega (arith, r, i, w))
       by_kinds false true d e =
           let t = second_pointer op ty aty bty d e h.types in
           let s = t.some in let r = t.result in let j = h.right_bytes in let w = h.result_bytes in
-          offset_fits false (is_signed aty) b a to (element_size p bty) n h.right h.left h.result
-          (omega (arith, s, j)) (omega (arith, r, j, w))
+          offset_fits false (is_signed aty) b a to (max 2 n) (element_size p bty) n h.right h.left h.result
+          (omega arith) (omega (arith, s, r, j, w, l)) (omega (arith, r, j, w))
       by_kinds false false d e = refl
 
     pointer_conversion_fits : (to a : Temp) (ty aty : PlainType) (n : ℕ) → IsPointerConversion k.slots to a ty aty
@@ -753,13 +917,13 @@ module _ (sizes : Sizes) where
         → Fit sizes (by_kind (is_fixed aty || is_fixed bty)
         (fixed_binary known telling op ty aty bty mode (home k.homes a) (home k.homes b) (home k.homes to) a.bytes n)
         (by_kind (is_pointer aty || is_pointer bty)
-        (pointer_binary known k.core (is_pointer aty) (is_pointer bty) p op aty bty (home k.homes a) (home k.homes b) (home k.homes to)
-        a.bytes b.bytes n)
+        (pointer_binary known telling k.core (is_pointer aty) (is_pointer bty) p op aty bty (home k.homes a) (home k.homes b)
+        (home k.homes to) a.bytes b.bytes n)
         (integer_binary known telling op (is_signed aty) (is_signed bty) (home k.homes a) (home k.homes b) (home k.homes to)
         a.bytes n)))
     of_binary known telling op ty aty bty mode to a b n (inl h) l =
         let own = fixed_binary known telling op ty aty bty mode (home k.homes a) (home k.homes b) (home k.homes to) a.bytes n in
-        let pointed = pointer_binary known k.core (is_pointer aty) (is_pointer bty) p op aty bty (home k.homes a) (home k.homes b)
+        let pointed = pointer_binary known telling k.core (is_pointer aty) (is_pointer bty) p op aty bty (home k.homes a) (home k.homes b)
         (home k.homes to) a.bytes b.bytes n in
         let usual = integer_binary known telling op (is_signed aty) (is_signed bty) (home k.homes a) (home k.homes b)
         (home k.homes to) a.bytes n in
@@ -770,7 +934,7 @@ module _ (sizes : Sizes) where
         (taking_fits op known telling to a b ty aty bty (is_signed aty) (is_signed bty) n h l))
     of_binary known telling op ty aty bty mode to a b n (inr (inl h)) l =
         let own = fixed_binary known telling op ty aty bty mode (home k.homes a) (home k.homes b) (home k.homes to) a.bytes n in
-        let pointed = pointer_binary known k.core (is_pointer aty) (is_pointer bty) p op aty bty (home k.homes a) (home k.homes b)
+        let pointed = pointer_binary known telling k.core (is_pointer aty) (is_pointer bty) p op aty bty (home k.homes a) (home k.homes b)
         (home k.homes to) a.bytes b.bytes n in
         let usual = integer_binary known telling op (is_signed aty) (is_signed bty) (home k.homes a) (home k.homes b)
         (home k.homes to) a.bytes n in
@@ -778,14 +942,14 @@ module _ (sizes : Sizes) where
         (either_fixed aty bty h.types.fixed) (fixed_binary_fits known telling op ty aty bty mode to a b n h l)
     of_binary known telling op ty aty bty mode to a b n (inr (inr h)) l =
         let own = fixed_binary known telling op ty aty bty mode (home k.homes a) (home k.homes b) (home k.homes to) a.bytes n in
-        let pointed = pointer_binary known k.core (is_pointer aty) (is_pointer bty) p op aty bty (home k.homes a) (home k.homes b)
+        let pointed = pointer_binary known telling k.core (is_pointer aty) (is_pointer bty) p op aty bty (home k.homes a) (home k.homes b)
         (home k.homes to) a.bytes b.bytes n in
         let usual = integer_binary known telling op (is_signed aty) (is_signed bty) (home k.homes a) (home k.homes b)
         (home k.homes to) a.bytes n in
         others_fit sizes (is_fixed aty || is_fixed bty) own (by_kind (is_pointer aty || is_pointer bty) pointed usual)
         (pointers_only op ty aty bty h.pointer h.types).0
         (own_fits sizes (is_pointer aty || is_pointer bty) pointed usual h.pointer
-        (pointer_binary_fits known op to a b ty aty bty n h l))
+        (pointer_binary_fits known telling op to a b ty aty bty n h l))
 
     of_unary : (op : UnOp) (ty : PlainType) (mode : Mode) (to a : Temp) (n : ℕ)
         → IsUnary k.slots to a ty ⊎ IsFixedUnary k.slots op to a ty → n ≤ to.bytes
@@ -839,6 +1003,28 @@ module _ (sizes : Sizes) where
     bank_fits DataHome o offset t h s =
         copy_fits sizes (object_location p.objects o offset) (home k.homes t) t.bytes (objects.scalars o offset t.bytes s) (at_home t h)
 
+    from_work : (t : Temp) → t.bytes ≤ 2 → Fit sizes (copy_code (InRegisters 26) z_pair t.bytes)
+    from_work t few =
+        copy_fits sizes (InRegisters 26) z_pair t.bytes (registers_fit sizes 26 t.bytes (omega (arith, few)))
+        (registers_fit sizes 30 t.bytes (omega (arith, few)))
+
+    -- of an index
+    load_index_fits : (kept : Home) (o offset : ℕ) (t : Temp) → HasScalarAt p o offset t.bytes → t.bytes ≤ 2
+        → Fit sizes (load_index_code k.core kept p.objects o offset t.bytes)
+    load_index_fits DataHome o offset t s few =
+        copy_fits sizes (object_location p.objects o offset) z_pair t.bytes (objects.scalars o offset t.bytes s)
+        (registers_fit sizes 30 t.bytes (omega (arith, few)))
+    load_index_fits FlashHome o offset t s few =
+        joined (fits sizes) (load_table_code o offset (InRegisters 26) t.bytes) (copy_code (InRegisters 26) z_pair t.bytes)
+        (table_fits sizes laws.pointers o offset (InRegisters 26) t.bytes (omega (arith, few)) (objects.begins o offset t.bytes s))
+        (from_work t few)
+    load_index_fits FarHome o offset t s few =
+        joined (fits sizes) (by_core k.core (load_table_code o offset (InRegisters 26) t.bytes)
+        (load_far_table_code o offset (InRegisters 26) t.bytes)) (copy_code (InRegisters 26) z_pair t.bytes)
+        (far_object_fits sizes laws.pointers k.core o offset (InRegisters 26) t.bytes (omega (arith, few))
+        (objects.begins o offset t.bytes s))
+        (from_work t few)
+
     -- ---- a pointer that stays in Z
 
     in_range : (q : Location) (i : ℕ) → ByteFits sizes q i → IsInRange sizes q i
@@ -864,22 +1050,67 @@ module _ (sizes : Sizes) where
     further_fits None None ptr offset h two =
         member_fits sizes laws.pointers k.core (home k.homes ptr) ptr.bytes offset two (at_home ptr h)
 
+    member_fits_z : (offset : ℕ) (to : Temp) → HasHome k.slots to → offset + to.bytes ≤ 64
+        → Fit sizes (load_member_code offset (home k.homes to) to.bytes)
+    member_fits_z offset to h l =
+        let q = home k.homes to in
+        let none = (fetches_have_no_label offset q q to.bytes).2 in
+        all_fit sizes (load_member_code offset q to.bytes)
+        (members_are_valid sizes offset q to.bytes l (home_leaves cells k.homes k.slots room to h)) (none.uses []) none.places
+
+    further_fits_z : (offset : ℕ) (to : Temp) → HasHome k.slots to → offset + to.bytes ≤ 64
+        → Fit sizes (load_further_code offset (home k.homes to) to.bytes)
+    further_fits_z offset to h l =
+        let q = home k.homes to in
+        let none = (fetches_have_no_label offset q q to.bytes).3 in
+        all_fit sizes (load_further_code offset q to.bytes)
+        (further_is_valid sizes offset q to.bytes h.some l (home_leaves cells k.homes k.slots room to h)).0 (none.uses []) none.places
+
+    tagged_fits_z : (offset : ℕ) (to : Temp) → HasHome k.slots to → offset + to.bytes ≤ 64
+        → Fit sizes (load_tagged_code offset (home k.homes to) to.bytes)
+    tagged_fits_z offset to h l =
+        let q = home k.homes to in
+        let none = (fetches_have_no_label offset q q to.bytes).4 in
+        all_fit sizes (load_tagged_code offset q to.bytes)
+        (further_is_valid sizes offset q to.bytes h.some l (home_leaves cells k.homes k.slots room to h)).1 (none.uses []) none.places
+
+    from_z_fits : (tables : Bool) (space : SpaceId) (offset : ℕ) (to : Temp) → HasHome k.slots to → offset + to.bytes ≤ 64
+        → Fit sizes (from_z_code tables space offset (home k.homes to) to.bytes)
+    from_z_fits tables Data offset to h l = member_fits_z offset to h l
+    from_z_fits tables Flash offset to h l = further_fits_z offset to h l
+    from_z_fits tables FarFlash offset to h l = further_fits_z offset to h l
+    from_z_fits true Generic offset to h l = tagged_fits_z offset to h l
+    from_z_fits false Generic offset to h l = member_fits_z offset to h l
+
     loaded_fits : (told : Option Told) (space : SpaceId) (to ptr : Temp) → HasHome k.slots to
         → Fit sizes (load_code k.core (has_tables p.objects) space (home k.homes ptr) (home k.homes to) to.bytes)
         → Fit sizes
         (loaded_code (displacement told to.bytes) k.core (has_tables p.objects) space (home k.homes ptr) (home k.homes to) to.bytes)
     loaded_fits None space to ptr h usual = usual
     loaded_fits (Some (Operands r s)) space to ptr h usual = usual
+    loaded_fits (Some Index) space to ptr h usual = usual
     loaded_fits (Some (InZ offset)) space to ptr h usual = by_reach (is_in_reach offset to.bytes) refl where
       by_reach : (b : Bool) → is_in_reach offset to.bytes ≡ b
           → Fit sizes (loaded_code (if b then Some offset else None) k.core (has_tables p.objects) space (home k.homes ptr)
           (home k.homes to) to.bytes)
       by_reach false e = usual
+      by_reach true e = from_z_fits (has_tables p.objects) space offset to h (leb-true (offset + to.bytes) 64 e)
+
+    stored_fits : (told : Option Told) (from ptr : Temp) → HasHome k.slots from
+        → Fit sizes (store_data_code (home k.homes from) (home k.homes ptr) from.bytes)
+        → Fit sizes (stored_code (displacement told from.bytes) (home k.homes from) (home k.homes ptr) from.bytes)
+    stored_fits None from ptr h usual = usual
+    stored_fits (Some (Operands r s)) from ptr h usual = usual
+    stored_fits (Some Index) from ptr h usual = usual
+    stored_fits (Some (InZ offset)) from ptr h usual = by_reach (is_in_reach offset from.bytes) refl where
+      by_reach : (b : Bool) → is_in_reach offset from.bytes ≡ b
+          → Fit sizes (stored_code (if b then Some offset else None) (home k.homes from) (home k.homes ptr) from.bytes)
+      by_reach false e = usual
       by_reach true e =
-          let q = home k.homes to in
-          let none = (fetches_have_no_label offset q q to.bytes).2 in
-          all_fit sizes (load_member_code offset q to.bytes)
-          (members_are_valid sizes offset q to.bytes (leb-true (offset + to.bytes) 64 e) (home_leaves cells k.homes k.slots room to h))
+          let q = home k.homes from in
+          let none = (fetches_have_no_label offset q q from.bytes).5 in
+          all_fit sizes (store_member_code offset q from.bytes)
+          (stores_are_valid sizes offset q from.bytes (leb-true (offset + from.bytes) 64 e) (home_leaves cells k.homes k.slots room from h))
           (none.uses []) none.places
 
     -- ---- calls and returns
@@ -1010,23 +1241,33 @@ module _ (sizes : Sizes) where
           → IsCovered p results f called k.slots i → UsesCells cells i → AcceptsLabels q k i
           → list_all q (own_code p (home k.homes) k told telling known need i) ≡ true
       own_passes results f called told telling known need (constant t n) h u a =
-          by_fit (constant_code (home k.homes t) (low_bytes 16 n) (wanted need t))
-          (constant_fits sizes (home k.homes t) (low_bytes 16 n) (wanted need t) (low_home t (wanted need t) h (omega arith)))
+          by_fit (put_code (home k.homes t) (low_bytes 16 n) (wanted need t))
+          (put_fits sizes (home k.homes t) (low_bytes 16 n) (wanted need t) (low_home t (wanted need t) h (omega arith)))
       own_passes results f called told telling known need (copy to from) h u a =
           let e = h.2 in
           by_fit (move_code (home k.homes from) (home k.homes to) (wanted need to))
           (move_fits (home k.homes from) (home k.homes to) (wanted need to) (low_home from (wanted need to) h.1 (omega arith))
           (low_home to (wanted need to) h.0 (omega arith)))
       own_passes results f called told telling known need (load_object t o offset) h u a =
-          by_fit (object_code telling k.core (kept_in p o) p.objects o offset (home k.homes t) t.bytes)
-          (object_fits telling (kept_in p o) o offset t h.0 h.1)
+          let index = load_index_code k.core (kept_in p o) p.objects o offset t.bytes in
+          let other = object_code (own_telling told telling) k.core (kept_in p o) p.objects o offset (home k.homes t) t.bytes in
+          by_fit (by_kind (is_index telling t.bytes) index other)
+          (kind_fits sizes (is_index telling t.bytes) index other
+          (λ e. load_index_fits (kept_in p o) o offset t h.1 (index_few telling t.bytes e))
+          (object_fits (own_telling told telling) (kept_in p o) o offset t h.0 h.1))
       own_passes results f called told telling known need (store_object o offset t) h u a =
           by_fit (copy_code (home k.homes t) (object_location p.objects o offset) t.bytes)
           (copy_fits sizes (home k.homes t) (object_location p.objects o offset) t.bytes (at_home t h.0)
           (objects.scalars o offset t.bytes h.1))
       own_passes results f called told telling known need (binary_op op ty mode to x aty y bty) h u a =
           by_fit (own_code p (home k.homes) k told telling known need (binary_op op ty mode to x aty y bty))
-          (of_binary known telling op ty aty bty mode to x y (wanted need to) h (omega arith))
+          (kind_fits sizes (is_index told y.bytes && moves_pointer op aty bty)
+          (offset_code k.core (is_difference op) (is_signed bty) (home k.homes x) z_pair (home k.homes to) (max 2 (wanted need to)) y.bytes
+          (element_size p aty) (wanted need to)) _
+          (λ e.
+          let moves = (and_parts (is_index told y.bytes) (moves_pointer op aty bty) e).1 in
+          indexed_fits op ty aty bty to x y (wanted need to) (moves_pointers p k.slots op to x y ty aty bty h moves) moves (omega arith))
+          (of_binary known (own_telling told telling) op ty aty bty mode to x y (wanted need to) h (omega arith)))
       own_passes results f called told telling known need (unary_op op ty mode to x) h u a =
           by_fit (own_code p (home k.homes) k told telling known need (unary_op op ty mode to x))
           (of_unary op ty mode to x (wanted need to) h (omega arith))
@@ -1041,9 +1282,11 @@ module _ (sizes : Sizes) where
           call_passes results g to (wanted_result need to) (kept_need need (call_function g to)) h (wanted_few need to) a
       own_passes results f called told telling known need (return_from from) h u a = return_passes results f k.is_main from h
       own_passes results f called told telling known need (address t o offset) h u a =
-          by_fit (addressed_code k.core p o offset (home k.homes t) t.bytes (wanted need t))
-          (addressed_fits sizes laws.pointers k.core p o offset (home k.homes t) t.bytes (wanted need t) h.size
-          (home_leaves cells k.homes k.slots room t h.result) (objects.offsets o offset h.declared h.is_object h.within))
+          let n = wanted need t in
+          let made = made_bytes n t.bytes h.size (omega arith) in
+          by_fit (addressed_code k.core p o offset (home k.homes t) (max 2 n) n)
+          (addressed_fits sizes laws.pointers k.core p o offset (home k.homes t) (max 2 n) n made.0
+          (low_leaves t (max 2 n) h.result made.1) (objects.offsets o offset h.declared h.is_object h.within))
       own_passes results f called told telling known need (field ptr space offset) h u a =
           let two = some_width space in let e = h.1 in
           by_fit (further_code told telling k.core ptr.bytes (home k.homes ptr) offset)
@@ -1057,9 +1300,10 @@ module _ (sizes : Sizes) where
           (omega (arith, few)) (low_leaves ptr (width space) h.1.0 (omega (arith, e))) (home_leaves cells k.homes k.slots room to h.0)))
       own_passes results f called told telling known need (store_at ptr space from) h u a =
           let few = h.0.most in let two = some_width space in let e = h.1.1 in
-          by_fit (store_data_code (home k.homes from) (home k.homes ptr) from.bytes)
+          by_fit (stored_code (displacement told from.bytes) (home k.homes from) (home k.homes ptr) from.bytes)
+          (stored_fits told from ptr h.0
           (store_fits sizes laws.pointers (home k.homes from) (home k.homes ptr) from.bytes (omega (arith, few))
-          (low_leaves ptr 2 h.1.0 (omega (arith, two, e))) (home_leaves cells k.homes k.slots room from h.0))
+          (low_leaves ptr 2 h.1.0 (omega (arith, two, e))) (home_leaves cells k.homes k.slots room from h.0)))
       own_passes results f called told telling known need (port_in to port index width) h u a =
           let there = option_map (home k.homes) index in
           by_fit (in_code there (home k.homes to) port width (wanted need to))
@@ -1170,7 +1414,8 @@ module _ (sizes : Sizes) where
           → list_all q (ops_code p (home k.homes) k at told code) ≡ true
       operations_pass results f called at told [] h u a = refl
       operations_pass results f called at told (i ∷ code) h u a =
-          joined q (op_code p (home k.homes) k told (tells_next p at told i code) (at.known (i ∷ code)) (needs at code) i)
-          (ops_code p (home k.homes) k at (tells_next p at told i code) code)
-          (operation_passes results f called told (tells_next p at told i code) (at.known (i ∷ code)) (needs at code) i h.0 u.0 a.0 a.1)
-          (operations_pass results f called at (tells_next p at told i code) code h.1 u.1 a.2)
+          let next = tells_next k.core p (home k.homes) at told i code in
+          joined q (op_code p (home k.homes) k told next (at.known (i ∷ code)) (needs at code) i)
+          (ops_code p (home k.homes) k at next code)
+          (operation_passes results f called told next (at.known (i ∷ code)) (needs at code) i h.0 u.0 a.0 a.1)
+          (operations_pass results f called at next code h.1 u.1 a.2)

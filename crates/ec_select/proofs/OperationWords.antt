@@ -1,7 +1,7 @@
 -- The words of operations' code.
 use Rattle.std.proofs.Common.{◌≡◌, ◌⊎◌, ℕ, zero, suc, ◌+◌, ◌-◌, ◌*◌, ◌≤◌, ◌==◌, Bool, true, false, not, List, [], ◌∷◌, ◌++◌}
-use Rattle.std.proofs.Common.{◌%◌, refl, sym, ap, ◌∙◌, subst, arith, leb-true, leb-false, eqb-true, inl, inr, ⊎_elim, ℤ}
-use Rattle.std.specs.Prelude.{⊤, min, nat_le, ◌&&◌, ◌||◌, if◌then◌else◌, Option, Some, None}
+use Rattle.std.proofs.Common.{◌%◌, refl, sym, ap, ◌∙◌, subst, arith, leb-true, leb-false, inl, inr, ⊎_elim, ℤ}
+use Rattle.std.specs.Prelude.{⊤, min, nat_le, ◌&&◌, ◌||◌, if◌then◌else◌, Option, Some, None, max}
 use Rattle.std.proofs.Math.Nat.{mul-le-mul_left}
 use Rattle.std.proofs.lemmas.Bool.{le-leb, false≢true, and_parts}
 use Rattle.std.proofs.lemmas.Bool.Decides.{nat_tests}
@@ -37,10 +37,11 @@ use Rattle.ec_select_fixed.specs.FixedLaws.{FixedBinariesHave, FixedUnariesHave,
 use Rattle.ec_select_bytes.specs.Complements.{negation_code}
 use Rattle.ec_select_bytes.specs.ComplementLaws.{ComplementsHave}
 use Rattle.ec_select_bytes.specs.Laws.{ValuesHave}
-use Rattle.ec_select_bytes.specs.Values.{test_code, extend_code, constant_code}
+use Rattle.ec_select_bytes.specs.Values.{test_code, extend_code}
 use Rattle.ec_select_order.specs.declared.relations.Relation.{Relation}
+use Rattle.ec_select_order.specs.declared.relations.Relation.TheVariants.{Less, NotLess, Equal, NotEqual}
 use Rattle.ec_select_order.specs.Laws.{RelationsHaveWords}
-use Rattle.ec_select_order.specs.Relations.{relation_code, truth_code}
+use Rattle.ec_select_order.specs.Relations.{truth_code, relation_in_code, truth_in_code}
 use Rattle.ec_select_places.specs.Conversions.{embed_code}
 use Rattle.ec_select_places.specs.Distances.{elements_code}
 use Rattle.ec_select_places.specs.Far.{advance_far_code}
@@ -48,7 +49,7 @@ use Rattle.ec_select_places.specs.FarForm.{FarStepsAreShort}
 use Rattle.ec_select_places.specs.Form.{StepsAreShort, ConversionsAreShort, ElementsAreShort}
 use Rattle.ec_select_places.specs.Indexes.{can_add, add_index_code}
 use Rattle.ec_select_places.specs.IndexLaws.{IndexesAreShort}
-use Rattle.ec_select_places.specs.Steps.{scale_index_code, advance_code}
+use Rattle.ec_select_places.specs.Steps.{scale_index_code, advance_code, z_pair}
 use Rattle.ec_select_pointers.specs.Accesses.{load_flash_code, load_any_code, load_table_code}
 use Rattle.ec_select_pointers.specs.Addresses.{address_code, field_code}
 use Rattle.ec_select_pointers.specs.Far.{load_far_code, load_far_table_code, load_any_far_code, far_address_code, field_far_code}
@@ -75,11 +76,13 @@ use Rattle.ec_select_operations.specs.declared.families.Family.TheVariants.{Divi
 use Rattle.ec_select_operations.specs.declared.families.Told.{Told}
 use Rattle.ec_select_operations.specs.declared.families.Told.TheVariants.{Operands}
 use Rattle.ec_select_operations.specs.declared.homes.Homes.{Homes}
-use Rattle.ec_select_operations.specs.Code.{counted_by_code}
+use Rattle.ec_select_operations.specs.declared.bounds.Bound.{Bound}
+use Rattle.ec_select_operations.specs.Bounds.{bound_of, bounded_code, truth_by_code}
+use Rattle.ec_select_operations.specs.Code.{counted_by_code, leaves_bit, top_bit_code}
 use Rattle.ec_select_operations.specs.Code.{masked_code}
 use Rattle.ec_select_operations.specs.Code.{compared_signed, counted_code, same_location, transfer_code, move_code}
 use Rattle.ec_select_operations.specs.Code.{reversed_code, family_of, is_signed}
-use Rattle.ec_select_operations.specs.Code.{conversion_code, combined_code}
+use Rattle.ec_select_operations.specs.Code.{conversion_code, truth_register, truth_at_code, combined_code}
 use Rattle.ec_select_operations.specs.Code.{compared_code, multiplied_code, shift_of, shifted_bytes, turned_code}
 use Rattle.ec_select_operations.specs.Code.{shifted_code, long_code}
 use Rattle.ec_select_operations.specs.Code.{divided_code, binary_code, turn_code, unary_code, branch_code, Linkage}
@@ -94,8 +97,9 @@ use Rattle.ec_select_fixed.specs.Types.{format_in}
 use Rattle.ec_select_operations.specs.Code.{fixed_conversion, by_core, is_far, is_whole_address, addressed_code, member_code}
 use Rattle.ec_select_operations.specs.Code.{load_code, banked_code, moved_code, offset_code}
 use Rattle.ec_select_operations.specs.Code.{takes_index, indexed_code, scaled_code, object_code, further_code}
-use Rattle.ec_select_operations.specs.Code.{loaded_code}
-use Rattle.ec_select_pointers.proofs.InZ.{fetches_are_short, members_are_short, point_is_short}
+use Rattle.ec_select_operations.specs.Code.{from_z_code, loaded_code, stored_code}
+use Rattle.ec_select_pointers.proofs.InZ.{fetches_are_short, members_are_short, further_is_short, tagged_has}
+use Rattle.ec_select_pointers.proofs.InZ.{point_is_short, stores_are_short}
 use Rattle.ec_select_operations.specs.Code.{known_bytes, known_offset, offset_by}
 use Rattle.ec_select_operations.specs.Code.{related_bytes, pointers_code}
 use Rattle.ec_select_operations.specs.Code.{is_difference, pointer_binary, pointer_conversion}
@@ -108,14 +112,16 @@ use Rattle.ec_select_operations.specs.Emitted.{OfKind}
 use Rattle.ec_select_operations.specs.Homes.{home, result_location, HasHome}
 use Rattle.ec_select_functions.proofs.Taken.{TakesSum, TakesOrder, TakesShift, takes, taken_is, compared_few}
 use Rattle.ec_select_functions.proofs.Taken.{TakenNumber, as_known, no_number, HasNumber, number_or_none, ComparesSo, compares}
+use Rattle.ec_select_functions.proofs.Taken.{Joins, joins}
+use Rattle.ec_ir_known.specs.Known.{changes_byte}
 use Rattle.ec_select_functions.specs.Covered.{AreIntegers, AreCompared}
-use Rattle.ec_select_numbers.specs.ByNumber.{compared_code as compared_with_code}
-use Rattle.ec_select_numbers.specs.Laws.{NumbersAreStraight}
-use Rattle.ec_select_operations.specs.Code.{taking_code, integer_binary, by_number_code, changed_by_code, bytes_code}
+use Rattle.ec_select_numbers.specs.Laws.{NumbersAreStraight, PutsAreStraight}
+use Rattle.ec_select_operations.specs.Code.{taking_code, integer_binary, bytes_code, combined_by_code}
 use Rattle.ec_ir_known.specs.declared.known.RightNumber.{RightNumber}
 use Rattle.ec_select_operations.specs.Needs.{Need, wanted, wanted_result, is_fixed, number_taken, compared_bytes as bytes_compared}
-use Rattle.ec_select.proofs.ByNumber.{changed_by_words, compared_with_words, masked_words}
-use Rattle.ec_select_operations.specs.Needs.{number_known}
+use Rattle.ec_select.proofs.ByNumber.{masked_words, bounded_words}
+use Rattle.ec_select_operations.specs.Needs.{number_known, takes_known}
+use Rattle.ec_select.proofs.CombinedWords.{combined_by_words, combined_by_place}
 use Rattle.ec_select_operations.specs.Places.{object_location}
 use Rattle.ec_select_operations.specs.Pointers.{is_pointer, is_into_data, home_of, tag_in, IsPointerSize}
 use Rattle.ec_select.proofs.FixedItems.{answer_words, own_words, others_words}
@@ -148,6 +154,7 @@ pub record WordLaws : Type 0 where
   pub conversions : ConversionsAreShort
   pub elements : ElementsAreShort
   pub numbers : NumbersAreStraight
+  pub puts : PutsAreStraight
 
 pub move_words : (p q : Location) (n : ℕ) → code_words (move_code p q n) ≤ 4 * n
 move_words p q n = by_place (same_location p q) where
@@ -253,14 +260,41 @@ module _ (laws : WordLaws) where
   within : (words w : ℕ) → words ≤ 80 * w + 110 → 1 ≤ w → words ≤ operation_words w
   within words w h some = let m = at_least_one w some in omega (arith, m)
 
+  -- a truth value is made in any register
+  pub truth_in_words : (d : ℕ) (r : Relation) (signed : Bool) → code_words (truth_in_code d r signed) ≡ 3
+  truth_in_words d Less signed = refl
+  truth_in_words d NotLess signed = refl
+  truth_in_words d Equal signed = refl
+  truth_in_words d NotEqual signed = refl
+
+  pub relation_in_words : (d : ℕ) (r : Relation) (signed : Bool) (p q : Location) (n : ℕ)
+      → code_words (relation_in_code d r signed p q n) ≤ 3 + 5 * n
+  relation_in_words d r signed p q n =
+      let x = laws.relations r signed p q n in
+      let y = truth_in_words 30 r signed in
+      let z = truth_in_words d r signed in
+      omega (
+        arith,
+        joined_words (compare_code q p n) (truth_code r signed),
+        joined_words (compare_code q p n) (truth_in_code d r signed),
+        x,
+        y,
+        z,
+      )
+
   compared_most : (rel : Relation) (signed : Bool) (p q r : Location) (bytes n : ℕ) → n ≤ 8
       → code_words (compared_code rel signed p q r bytes n) ≤ 5 * bytes + 55
   compared_most rel signed p q r bytes n l =
-      let truth = conversion_code false (InRegisters 30) r 1 n in
-      let x = laws.relations rel signed p q bytes in
-      let y = convert_words false (InRegisters 30) r 1 n in
-      unless_none n (5 * bytes + 55) (relation_code rel signed p q bytes ++ truth)
-      (omega (arith, joined_words (relation_code rel signed p q bytes) truth, x, y))
+      let own = relation_in_code (truth_register r) rel signed p q bytes in
+      let x = relation_in_words (truth_register r) rel signed p q bytes in
+      let y = convert_words false (InRegisters (truth_register r)) r 1 n in
+      unless_none n (5 * bytes + 55) (own ++ truth_at_code r n) (omega (arith, joined_words own (truth_at_code r n), x, y))
+
+  pub truth_by_words : (d : ℕ) (b : Bound) (p : Location) (n : ℕ) → code_words (truth_by_code d b p n) ≤ 3 + 4 * n
+  truth_by_words d b p n =
+      let x = bounded_words laws.numbers laws.values b p n in
+      let y = truth_in_words d b.relation b.signed in
+      omega (arith, joined_words (bounded_code b p n) (truth_in_code d b.relation b.signed), x, y)
 
   fewer_bytes : (up : Bool) (bytes n : ℕ) → n ≤ bytes → shifted_bytes up bytes n ≤ bytes
   fewer_bytes true bytes n l = l
@@ -392,14 +426,14 @@ module _ (laws : WordLaws) where
   flag_few (Compared rel false) left right p q r bytes =
       omega (
         arith,
-        joined_words (relation_code rel left p q bytes) (conversion_code false (InRegisters 30) r 1 1),
-        joined_words (compare_code q p bytes) (truth_code rel left),
+        joined_words (relation_in_code (truth_register r) rel left p q bytes) (truth_at_code r 1),
+        joined_words (compare_code q p bytes) (truth_in_code (truth_register r) rel left),
       )
   flag_few (Compared rel true) left right p q r bytes =
       omega (
         arith,
-        joined_words (relation_code rel left q p bytes) (conversion_code false (InRegisters 30) r 1 1),
-        joined_words (compare_code p q bytes) (truth_code rel left),
+        joined_words (relation_in_code (truth_register r) rel left q p bytes) (truth_at_code r 1),
+        joined_words (compare_code p q bytes) (truth_in_code (truth_register r) rel left),
       )
   flag_few family left right p q r bytes = omega arith
 
@@ -435,13 +469,26 @@ module _ (laws : WordLaws) where
   counted_words sh p q m k =
       omega (arith, joined_words (move_code p q m) (turned_by_code sh q m k), move_words p q m, counted_shifts_have_words sh q m k)
 
+  pub top_bit_words : (q : Location) (m : ℕ) → code_words (top_bit_code q m) ≤ 3
+  top_bit_words (InRegisters r) m = omega arith
+  top_bit_words (InMemory o j) m = omega arith
+
   counted_by_most : (up sign : Bool) (p q : Location) (m n k : ℕ)
       → code_words (counted_by_code up sign p q m n k) ≤ 11 * m + 13 * n + 11
   counted_by_most true sign p q m n k = let x = counted_words Left p q n k in omega (arith, x)
-  counted_by_most false sign p q m n k =
-      let x = counted_words (Right sign) p q m k in
-      let y = (laws.values q 0 m n).2 false in
-      omega (arith, joined_words (counted_code (Right sign) p q m k) (extend_code false q m n), x, y)
+  counted_by_most false sign p q m n k = by_bit (leaves_bit sign q m n k)
+    where
+      by_bit : (x : Bool)
+          → code_words (if x then move_code p q m ++ top_bit_code q m else counted_code (Right sign) p q m k ++ extend_code false q m n)
+          ≤ 11 * m + 13 * n + 11
+      by_bit true =
+          let x = move_words p q m in
+          let y = top_bit_words q m in
+          omega (arith, joined_words (move_code p q m) (top_bit_code q m), x, y)
+      by_bit false =
+          let x = counted_words (Right sign) p q m k in
+          let y = (laws.values q 0 m n).2 false in
+          omega (arith, joined_words (counted_code (Right sign) p q m k) (extend_code false q m n), x, y)
 
   pub taking_most : (known : Option RightNumber) (telling : Option Told) (op : BinOp) (slots : ℕ) (h : Homes) (to a b : Temp)
       (ty aty bty : PlainType) (left right : Bool) (n : ℕ) → IsBinary (family_of op) slots to a b ty aty bty → n ≤ to.bytes
@@ -461,52 +508,49 @@ module _ (laws : WordLaws) where
           omega (arith, y, z)
 
       by_sum : (o : Operator) → AreIntegers slots to a b ty aty bty → (number : ℕ)
-          → code_words (move_code (home h a) (home h to) n ++ changed_by_code o (home h to) number n) ≤ binary_words op ty aty bty
+          → code_words (combined_by_code o (home h a) (home h to) number n) ≤ binary_words op ty aty bty
       by_sum o j number =
-          let first = move_code (home h a) (home h to) n in
-          let second = changed_by_code o (home h to) number n in
-          let x = move_words (home h a) (home h to) n in
-          let z = changed_by_words laws.numbers o (home h to) number n in
-          let both = joined_words first second in
-          row (is_bitwise op) refl (code_words (first ++ second)) (omega (arith, x, z, both, l))
-          (λ q. let w = brought_words h to a n (same q) j.left_bytes in omega (arith, w, z, both, l)) j.signed j.result_type
+          let x = combined_by_words laws.numbers o (home h a) (home h to) number n in
+          row (is_bitwise op) refl (code_words (combined_by_code o (home h a) (home h to) number n)) (omega (arith, x, l))
+          (λ q.
+          let w = combined_by_place laws.numbers o (home h a) (home h to) number n
+          (λ m. brought_words h to a m (same q) j.left_bytes) in omega (arith, w, l)) j.signed j.result_type
 
-      by_flag : HasHome slots a → (s : Bool) → aty ≡ integer s a.bytes → is_bitwise op ≡ false → (number compared : ℕ)
-          → compared ≤ a.bytes → code_words (compared_with_code (home h a) number compared) ≤ binary_words op ty aty bty
-      by_flag ia s e q number compared few =
+      by_flag : HasHome slots a → (s : Bool) → aty ≡ integer s a.bytes → is_bitwise op ≡ false → (bound : Bound) (compared : ℕ)
+          → compared ≤ a.bytes → code_words (bounded_code bound (home h a) compared) ≤ binary_words op ty aty bty
+      by_flag ia s e q bound compared few =
           let y = other_row op ty aty bty q in
           let x = second_within ty aty bty s a.bytes e in
-          let z = compared_with_words laws.numbers (home h a) number compared in
-          let w = within (code_words (compared_with_code (home h a) number compared)) (widest (ty ∷ aty ∷ bty ∷ []))
+          let z = bounded_words laws.numbers laws.values bound (home h a) compared in
+          let w = within (code_words (bounded_code bound (home h a) compared)) (widest (ty ∷ aty ∷ bty ∷ []))
           (omega (arith, x, z, few)) (some_within ty aty bty) in
           omega (arith, y, w)
 
-      by_order : (r : Relation) (sign : Bool) → AreCompared slots to a b aty bty → is_bitwise op ≡ false → (number compared : ℕ)
-          → compared ≤ a.bytes
-          → code_words (by_number_code (Compared r false) left sign (home h a) (home h b) (home h to) compared number n)
-          ≤ binary_words op ty aty bty
-      by_order r sign j q number compared fewer =
-          let alone = compared_with_code (home h a) number compared in
-          let own = compared_code r sign (home h a) (home h b) (home h to) 0 n in
+      by_order : (bound : Bound) → AreCompared slots to a b aty bty → is_bitwise op ≡ false → (compared : ℕ) → compared ≤ a.bytes
+          → code_words (if n == 0 then [] else truth_by_code (truth_register (home h to)) bound (home h a) compared
+          ++ truth_at_code (home h to) n) ≤ binary_words op ty aty bty
+      by_order bound j q compared fewer =
+          let own = truth_by_code (truth_register (home h to)) bound (home h a) compared in
+          let truth = truth_at_code (home h to) n in
           let y = other_row op ty aty bty q in
           let x = second_within ty aty bty j.signed a.bytes j.left_type in
           let few = j.result.most in
-          let c = compared_with_words laws.numbers (home h a) number compared in
-          let w = compared_most r sign (home h a) (home h b) (home h to) 0 n (omega (arith, few, l)) in
-          let both = joined_words alone own in
-          let u = unless_none n (10 * a.bytes + 55) (alone ++ own) (omega (arith, c, w, both, fewer)) in
-          let z = within (code_words (if n == 0 then [] else alone ++ own)) (widest (ty ∷ aty ∷ bty ∷ [])) (omega (arith, x, u))
+          let c = truth_by_words (truth_register (home h to)) bound (home h a) compared in
+          let w = convert_words false (InRegisters (truth_register (home h to))) (home h to) 1 n in
+          let both = joined_words own truth in
+          let u = unless_none n (5 * a.bytes + 55) (own ++ truth) (omega (arith, c, w, both, fewer, few, l)) in
+          let z = within (code_words (if n == 0 then [] else own ++ truth)) (widest (ty ∷ aty ∷ bty ∷ [])) (omega (arith, x, u))
           (some_within ty aty bty) in
           omega (arith, y, z)
 
       no_bits : TakesOrder op → is_bitwise op ≡ false
-      no_bits x = by_op op x.relation x.is
+      no_bits x = by_op op x.relation x.exchanged x.is
         where
-          by_op : (op : BinOp) (r : Relation) → family_of op ≡ Compared r false → is_bitwise op ≡ false
-          by_op And r q = absurd cc
-          by_op Or r q = absurd cc
-          by_op Xor r q = absurd cc
-          by_op op r q = refl
+          by_op : (op : BinOp) (r : Relation) (exchanged : Bool) → family_of op ≡ Compared r exchanged → is_bitwise op ≡ false
+          by_op And r exchanged q = absurd cc
+          by_op Or r exchanged q = absurd cc
+          by_op Xor r exchanged q = absurd cc
+          by_op op r exchanged q = refl
 
       by_shift : (up sign : Bool) → IsBinary (Shifted up) slots to a b ty aty bty → is_bitwise op ≡ false → (number shifted : ℕ)
           → shifted ≤ a.bytes
@@ -543,21 +587,24 @@ module _ (laws : WordLaws) where
           (omega (arith, z, some)) (λ q. omega (arith, z, some)) j.signed j.result_type)
       by_number (inr (inl x)) None number =
           let j = subst (λ z. IsBinary z slots to a b ty aty bty) x.is i in
-          rw x.is (by_order x.relation (compared_signed (Some (as_known number)) left) j (no_bits x) (low_bytes 16 number.number)
-          (bytes_compared (Some (as_known number)) a.bytes) (compared_few (as_known number) a.bytes))
+          let compared = bytes_compared (Some (as_known number)) a.bytes in
+          let sign = compared_signed (Some (as_known number)) left in
+          rw x.is (by_order (bound_of x.relation x.exchanged sign compared (low_bytes 16 number.number)) j (no_bits x) compared
+          (compared_few (as_known number) a.bytes))
       by_number (inr (inl x)) (Some told) number =
           let j = subst (λ z. IsBinary z slots to a b ty aty bty) x.is i in
-          rw x.is (by_flag j.left j.signed j.left_type (no_bits x) (low_bytes 16 number.number)
-          (bytes_compared (Some (as_known number)) a.bytes)
+          let compared = bytes_compared (Some (as_known number)) a.bytes in
+          let sign = compared_signed (Some (as_known number)) left in
+          rw x.is (by_flag j.left j.signed j.left_type (no_bits x)
+          (bound_of x.relation x.exchanged sign compared (low_bytes 16 number.number)) compared
           (compared_few (as_known number) a.bytes))
       by_number (inr (inr x)) None number =
           rw x.is (by_shift x.up (compared_signed (Some (as_known number)) left) (subst (λ z. IsBinary z slots to a b ty aty bty) x.is i)
           (no_shifted_bits x) (low_bytes 16 number.number % 256) (bytes_compared (Some (as_known number)) a.bytes)
           (compared_few (as_known number) a.bytes))
       by_number (inr (inr x)) (Some told) number =
-          let j = (subst (λ z. IsBinary z slots to a b ty aty bty) x.is i).0 in
-          rw x.is (by_flag j.left j.signed j.left_type (no_shifted_bits x) (low_bytes 16 number.number)
-          (bytes_compared (Some (as_known number)) a.bytes) (compared_few (as_known number) a.bytes))
+          let most = other_row op ty aty bty (no_shifted_bits x) in
+          rw x.is (omega (arith, most))
 
       no_order_bits : (op : BinOp) (r : Relation) (exchanged : Bool) → family_of op ≡ Compared r exchanged → is_bitwise op ≡ false
       no_order_bits And r exchanged q = absurd cc
@@ -594,6 +641,34 @@ module _ (laws : WordLaws) where
           subst (λ f. code_words (bytes_code telling f (home h a) (home h b) (home h to) compared n) ≤ binary_words op ty aty bty)
           (sym order.is) (omega (arith, y, z))
 
+      -- one byte of the second operand alone
+      by_one : (join : Joins op) → is_bitwise op ≡ true → (byte : Bool)
+          → code_words (taking_code (Some (no_number byte)) telling (family_of op) left right (home h a) (home h b) (home h to) a.bytes n)
+          ≤ binary_words op ty aty bty
+      by_one join bits byte =
+          let j = subst (λ z. IsBinary z slots to a b ty aty bty) join.is i in
+          let compared = bytes_compared (Some (no_number byte)) a.bytes in
+          let moved = move_code (home h a) (home h to) n in
+          let one = operate_code join.operator (home h b) (home h to) (min n 1) in
+          let both = joined_words moved one in
+          let x = operate_words_most join.operator (home h b) (home h to) (min n 1) in
+          let z = brought_words h to a n (same bits) j.left_bytes in
+          let some = j.result.some in
+          let row = bitwise_row op ty aty bty j.signed to.bytes bits j.result_type in
+          subst (λ f. code_words (bytes_code telling f (home h a) (home h b) (home h to) compared n) ≤ binary_words op ty aty bty)
+          (sym join.is) (omega (arith, both, x, z, l, some, row))
+
+      joined_bits : (op : BinOp) → changes_byte op ≡ true → is_bitwise op ≡ true
+      joined_bits Or q = refl
+      joined_bits Xor q = refl
+      joined_bits op q = absurd cc
+
+      with_none : (byte : Bool) → takes_known None byte op ≡ true
+          → code_words (taking_code (Some (no_number byte)) telling (family_of op) left right (home h a) (home h b) (home h to) a.bytes n)
+          ≤ binary_words op ty aty bty
+      with_none true q = by_bytes (compares op q) true
+      with_none false q = by_one (joins op q) (joined_bits op q) false
+
       by_taken : (x : Option RightNumber) → number_taken known false op ≡ x
           → code_words (taking_code x telling (family_of op) left right (home h a) (home h b) (home h to) a.bytes n)
           ≤ binary_words op ty aty bty
@@ -604,7 +679,7 @@ module _ (laws : WordLaws) where
           (λ (x : k ≡ no_number k.in_byte).
           subst (λ z. code_words (taking_code (Some z) telling (family_of op) left right (home h a) (home h b) (home h to) a.bytes n)
           ≤ binary_words op ty aty bty) (sym x)
-          (by_bytes (compares op (taken_is op known (no_number k.in_byte) (q ∙ ap Some x)).1) k.in_byte))
+          (with_none k.in_byte (taken_is op known (no_number k.in_byte) (q ∙ ap Some x)).1))
           (number_or_none k)
         where
           with_number : (number : TakenNumber) → number_taken known false op ≡ Some (as_known number) → k ≡ as_known number
@@ -708,10 +783,22 @@ module _ (laws : WordLaws) where
   further_most None (Some told) core bytes q offset = let x = (point_is_short q).2 in omega (arith, x)
   further_most None None core bytes q offset = member_most core q bytes offset
 
+  from_z_most : (tables : Bool) (space : SpaceId) (offset : ℕ) (q : Location) (n : ℕ)
+      → code_words (from_z_code tables space offset q n) ≤ 10 + 6 * n
+  from_z_most tables Data offset q n = let x = (members_are_short offset q n).2 in omega (arith, x)
+  from_z_most tables Flash offset q n = let x = (further_is_short offset q n).2 in omega (arith, x)
+  from_z_most tables FarFlash offset q n = let x = (further_is_short offset q n).2 in omega (arith, x)
+  from_z_most true Generic offset q n = let x = tagged_has offset q n in omega (arith, x)
+  from_z_most false Generic offset q n = let x = (members_are_short offset q n).2 in omega (arith, x)
+
   pub loaded_by_most : (from_z : Option ℕ) (core : Core) (tables : Bool) (space : SpaceId) (p q : Location) (n : ℕ)
       → code_words (loaded_code from_z core tables space p q n) ≤ 10 + 6 * n
   loaded_by_most None core tables space p q n = load_most core tables space p q n
-  loaded_by_most (Some offset) core tables space p q n = let x = (members_are_short offset q n).2 in omega (arith, x)
+  loaded_by_most (Some offset) core tables space p q n = from_z_most tables space offset q n
+
+  pub stored_by_most : (from_z : Option ℕ) (p q : Location) (n : ℕ) → code_words (stored_code from_z p q n) ≤ 4 + 3 * n
+  stored_by_most None p q n = (laws.pointers 0 0 None p q n).5
+  stored_by_most (Some offset) p q n = let x = (stores_are_short offset p n).2 in omega (arith, x)
 
   moved_most : (core : Core) (bytes : ℕ) (minus : Bool) (q : Location) → code_words (moved_code core bytes minus q) ≤ 19
   moved_most core bytes minus q = by_far (is_far core bytes) where
@@ -764,32 +851,42 @@ module _ (laws : WordLaws) where
       let y = member_most core c bytes offset in
       unless_none n (4 * bytes + 43) (move_code a c bytes ++ member) (omega (arith, joined_words (move_code a c bytes) member, x, y))
 
-  pub pointers_most : (core : Core) (family : Family) (a b c : Location) (bytes size n : ℕ) → 2 ≤ bytes → n ≤ 8
-      → code_words (pointers_code core family a b c bytes size n) ≤ 5 * bytes + 64
-  pointers_most core (Combined op) a b c bytes size n some l =
+  -- a comparison alone
+  compared_alone : (r : Relation) (a b : Location) (bytes : ℕ) → code_words (compare_code b a bytes) ≤ 3 + 5 * bytes
+  compared_alone r a b bytes =
+      let x = laws.relations r false a b bytes in omega (arith, joined_words (compare_code b a bytes) (truth_code r false), x)
+
+  pub pointers_most : (telling : Option Told) (core : Core) (family : Family) (a b c : Location) (bytes size n : ℕ) → 2 ≤ bytes → n ≤ 8
+      → code_words (pointers_code telling core family a b c bytes size n) ≤ 5 * bytes + 64
+  pointers_most telling core (Combined op) a b c bytes size n some l =
       let x = (laws.elements a b c size).words_are in
       unless_none n (5 * bytes + 64) (elements_code a b c size) (omega (arith, x))
-  pointers_most core (Compared r false) a b c bytes size n some l =
+  pointers_most None core (Compared r false) a b c bytes size n some l =
       let x = compared_most r false a b c (related_bytes core r bytes) n l in
       let y = few_related core r bytes some in omega (arith, x, y)
-  pointers_most core (Compared r true) a b c bytes size n some l =
+  pointers_most None core (Compared r true) a b c bytes size n some l =
       let x = compared_most r false b a c (related_bytes core r bytes) n l in
       let y = few_related core r bytes some in omega (arith, x, y)
-  pointers_most core Multiplied a b c bytes size n some l = omega arith
-  pointers_most core (Shifted up) a b c bytes size n some l = omega arith
-  pointers_most core (Divided r) a b c bytes size n some l = omega arith
+  pointers_most (Some told) core (Compared r false) a b c bytes size n some l =
+      let x = compared_alone r a b (related_bytes core r bytes) in
+      let y = few_related core r bytes some in
+      unless_none n (5 * bytes + 64) (compare_code b a (related_bytes core r bytes)) (omega (arith, x, y))
+  pointers_most (Some told) core (Compared r true) a b c bytes size n some l =
+      let x = compared_alone r b a (related_bytes core r bytes) in
+      let y = few_related core r bytes some in
+      unless_none n (5 * bytes + 64) (compare_code a b (related_bytes core r bytes)) (omega (arith, x, y))
+  pointers_most telling core Multiplied a b c bytes size n some l = omega arith
+  pointers_most telling core (Shifted up) a b c bytes size n some l = omega arith
+  pointers_most telling core (Divided r) a b c bytes size n some l = omega arith
 
-  pub pointer_binary_most : (known : Option RightNumber) (core : Core) (p : PlainProgram) (op : BinOp) (slots : ℕ) (h : Homes)
-      (to a b : Temp) (ty aty bty : PlainType)
+  pub pointer_binary_most : (known : Option RightNumber) (telling : Option Told) (core : Core) (p : PlainProgram) (op : BinOp)
+      (slots : ℕ) (h : Homes) (to a b : Temp) (ty aty bty : PlainType)
       (n : ℕ) → IsPointerBinary p slots op to a b ty aty bty → n ≤ to.bytes
-      → code_words (pointer_binary known core (is_pointer aty) (is_pointer bty) p op aty bty (home h a) (home h b) (home h to)
+      → code_words (pointer_binary known telling core (is_pointer aty) (is_pointer bty) p op aty bty (home h a) (home h b) (home h to)
       a.bytes b.bytes n) ≤ binary_words op ty aty bty
-  pointer_binary_most known core p op slots h to a b ty aty bty n i l = by_kinds (is_pointer aty) (is_pointer bty) refl refl where
+  pointer_binary_most known telling core p op slots h to a b ty aty bty n i l = by_kinds (is_pointer aty) (is_pointer bty) refl refl where
     left_within : a.bytes ≤ widest (ty ∷ aty ∷ bty ∷ [])
     left_within = let e = i.left_bytes in omega (arith, e)
-
-    right_within : b.bytes ≤ widest (ty ∷ aty ∷ bty ∷ [])
-    right_within = let e = i.right_bytes in omega (arith, e)
 
     in_row : (code : List AsmItem) → code_words code ≤ 80 * widest (ty ∷ aty ∷ bty ∷ []) + 110
         → code_words code ≤ binary_words op ty aty bty
@@ -799,25 +896,43 @@ module _ (laws : WordLaws) where
         omega (arith, x, y)
 
     by_kinds : (x y : Bool) → is_pointer aty ≡ x → is_pointer bty ≡ y
-        → code_words (pointer_binary known core x y p op aty bty (home h a) (home h b) (home h to) a.bytes b.bytes n)
+        → code_words (pointer_binary known telling core x y p op aty bty (home h a) (home h b) (home h to) a.bytes b.bytes n)
         ≤ binary_words op ty aty bty
     by_kinds true true d e =
         let t = (two_pointers op ty aty bty d e i.types).some in let u = i.left_bytes in let few = i.result.most in
-        let m = pointers_most core (family_of op) (home h a) (home h b) (home h to) a.bytes (element_size p aty) n
+        let m = pointers_most telling core (family_of op) (home h a) (home h b) (home h to) a.bytes (element_size p aty) n
         (omega (arith, t, u)) (omega (arith, few, l)) in
-        in_row (pointers_code core (family_of op) (home h a) (home h b) (home h to) a.bytes (element_size p aty) n)
+        in_row (pointers_code telling core (family_of op) (home h a) (home h b) (home h to) a.bytes (element_size p aty) n)
         (let w = left_within in omega (arith, m, w))
     by_kinds true false d e =
+        let few = i.result.most in
         let m = offset_by_most (number_known known) core (is_difference op) (is_signed bty) (home h a) (home h b) (home h to)
-        a.bytes b.bytes (element_size p aty) n in
-        in_row (offset_by (number_known known) core (is_difference op) (is_signed bty) (home h a) (home h b) (home h to) a.bytes b.bytes
+        (max 2 n) b.bytes (element_size p aty) n in
+        in_row (offset_by (number_known known) core (is_difference op) (is_signed bty) (home h a) (home h b) (home h to) (max 2 n) b.bytes
         (element_size p aty) n)
-        (let w = left_within in omega (arith, m, w))
+        (omega (arith, m, few, l))
     by_kinds false true d e =
-        let m = offset_most core false (is_signed aty) (home h b) (home h a) (home h to) b.bytes a.bytes (element_size p bty) n in
-        in_row (offset_code core false (is_signed aty) (home h b) (home h a) (home h to) b.bytes a.bytes (element_size p bty) n)
-        (let w = right_within in omega (arith, m, w))
+        let few = i.result.most in
+        let m = offset_most core false (is_signed aty) (home h b) (home h a) (home h to) (max 2 n) a.bytes (element_size p bty) n in
+        in_row (offset_code core false (is_signed aty) (home h b) (home h a) (home h to) (max 2 n) a.bytes (element_size p bty) n)
+        (omega (arith, m, few, l))
     by_kinds false false d e = omega arith
+
+  -- a pointer that is moved by an index which is told
+  pub indexed_most : (core : Core) (p : PlainProgram) (op : BinOp) (slots : ℕ) (h : Homes) (to a b : Temp) (ty aty bty : PlainType) (n : ℕ)
+      → IsPointerBinary p slots op to a b ty aty bty → n ≤ to.bytes
+      → code_words (offset_code core (is_difference op) (is_signed bty) (home h a) z_pair (home h to) (max 2 n) b.bytes
+      (element_size p aty) n)
+      ≤ binary_words op ty aty bty
+  indexed_most core p op slots h to a b ty aty bty n i l =
+      let wide = widest (ty ∷ aty ∷ bty ∷ []) in
+      let code = offset_code core (is_difference op) (is_signed bty) (home h a) z_pair (home h to) (max 2 n) b.bytes
+      (element_size p aty) n in
+      let m = offset_most core (is_difference op) (is_signed bty) (home h a) z_pair (home h to) (max 2 n) b.bytes (element_size p aty) n in
+      let few = i.result.most in
+      let x = within (code_words code) wide (omega (arith, m, few, l)) (some_within ty aty bty) in
+      let y = other_row op ty aty bty (pointers_only op ty aty bty i.pointer i.types).1 in
+      omega (arith, x, y)
 
   pub pointer_conversion_most : (slots : ℕ) (h : Homes) (to a : Temp) (ty aty : PlainType) (n : ℕ)
       → IsPointerConversion slots to a ty aty → n ≤ to.bytes
@@ -906,6 +1021,7 @@ module _ (laws : WordLaws) where
           let some = i.result.some in let e = i.result_bytes in
           negated_words (is_signed ty) (home h a) (home h to) (scalar_size ty) n (unary_words ty) (omega (arith, some, e))
           (laws.values (home h to) 0 (scalar_size ty) (scalar_size ty)).0 (omega arith)
+          (λ (q : Location). move_words (home h a) q 1)
       by_size false =
           let bytes = i.result_bytes in
           let most = laws.fixed_unaries op ty mode (home h a) answer_location work_location i.types in
@@ -964,12 +1080,12 @@ module _ (laws : WordLaws) where
       → code_words (by_kind (is_fixed aty || is_fixed bty)
       (fixed_binary known telling op ty aty bty mode (home h a) (home h b) (home h to) a.bytes n)
       (by_kind (is_pointer aty || is_pointer bty)
-      (pointer_binary known core (is_pointer aty) (is_pointer bty) p op aty bty (home h a) (home h b) (home h to) a.bytes b.bytes n)
+      (pointer_binary known telling core (is_pointer aty) (is_pointer bty) p op aty bty (home h a) (home h b) (home h to) a.bytes b.bytes n)
       (integer_binary known telling op (is_signed aty) (is_signed bty) (home h a) (home h b) (home h to) a.bytes n)))
       ≤ binary_words op ty aty bty
   one_binary core p known telling op ty aty bty mode slots h to a b n (inl i) l q =
       let own = fixed_binary known telling op ty aty bty mode (home h a) (home h b) (home h to) a.bytes n in
-      let pointed = pointer_binary known core (is_pointer aty) (is_pointer bty) p op aty bty (home h a) (home h b) (home h to)
+      let pointed = pointer_binary known telling core (is_pointer aty) (is_pointer bty) p op aty bty (home h a) (home h b) (home h to)
       a.bytes b.bytes n in
       let usual = integer_binary known telling op (is_signed aty) (is_signed bty) (home h a) (home h b) (home h to) a.bytes n in
       let most = binary_words op ty aty bty in
@@ -980,7 +1096,7 @@ module _ (laws : WordLaws) where
       (taking_most known telling op slots h to a b ty aty bty (is_signed aty) (is_signed bty) n i l same))
   one_binary core p known telling op ty aty bty mode slots h to a b n (inr (inl i)) l q =
       let own = fixed_binary known telling op ty aty bty mode (home h a) (home h b) (home h to) a.bytes n in
-      let pointed = pointer_binary known core (is_pointer aty) (is_pointer bty) p op aty bty (home h a) (home h b) (home h to)
+      let pointed = pointer_binary known telling core (is_pointer aty) (is_pointer bty) p op aty bty (home h a) (home h b) (home h to)
       a.bytes b.bytes n in
       let usual = integer_binary known telling op (is_signed aty) (is_signed bty) (home h a) (home h b) (home h to) a.bytes n in
       let most = binary_words op ty aty bty in
@@ -988,14 +1104,14 @@ module _ (laws : WordLaws) where
       (either_fixed aty bty i.types.fixed) (fixed_binary_most known telling op ty aty bty mode slots h to a b n i l)
   one_binary core p known telling op ty aty bty mode slots h to a b n (inr (inr i)) l q =
       let own = fixed_binary known telling op ty aty bty mode (home h a) (home h b) (home h to) a.bytes n in
-      let pointed = pointer_binary known core (is_pointer aty) (is_pointer bty) p op aty bty (home h a) (home h b) (home h to)
+      let pointed = pointer_binary known telling core (is_pointer aty) (is_pointer bty) p op aty bty (home h a) (home h b) (home h to)
       a.bytes b.bytes n in
       let usual = integer_binary known telling op (is_signed aty) (is_signed bty) (home h a) (home h b) (home h to) a.bytes n in
       let most = binary_words op ty aty bty in
       others_words (is_fixed aty || is_fixed bty) own (by_kind (is_pointer aty || is_pointer bty) pointed usual) most
       (pointers_only op ty aty bty i.pointer i.types).0
       (own_words (is_pointer aty || is_pointer bty) pointed usual most i.pointer
-      (pointer_binary_most known core p op slots h to a b ty aty bty n i l))
+      (pointer_binary_most known telling core p op slots h to a b ty aty bty n i l))
 
   pub one_unary : (op : UnOp) (ty : PlainType) (mode : Mode) (slots : ℕ) (h : Homes) (to a : Temp) (n : ℕ)
       → IsUnary slots to a ty ⊎ IsFixedUnary slots op to a ty → n ≤ to.bytes

@@ -1,8 +1,7 @@
 -- The words of an operation's own code, by the numbers that operations count by shapes.
-use Rattle.std.proofs.Common.{◌≡◌, ◌⊎◌, ℕ, ◌+◌, ◌-◌, ◌*◌, ◌%◌, ◌<◌, ◌≤◌, ◌==◌, Bool, true, false, List, [], ◌∷◌, ◌++◌}
-use Rattle.std.proofs.Common.{refl, sym, ap, ◌∙◌, subst}
-use Rattle.std.proofs.Common.{arith, eqb-true, inl, inr, append-nil, leb-false, ℤ}
-use Rattle.std.specs.Prelude.{⊤, min, nat_le, ◌&&◌, ◌||◌, not, if◌then◌else◌, Option, Some, None}
+use Rattle.std.proofs.Common.{◌≡◌, ◌⊎◌, ℕ, ◌+◌, ◌-◌, ◌*◌, ◌%◌, ◌<◌, ◌≤◌, Bool, true, false, List, [], ◌∷◌, ◌++◌}
+use Rattle.std.proofs.Common.{refl, sym, ap, ◌∙◌, subst, arith, inl, inr, append-nil, leb-false, ℤ}
+use Rattle.std.specs.Prelude.{⊤, min, nat_le, ◌&&◌, ◌||◌, not, if◌then◌else◌, Option, Some, None, max}
 use Rattle.std.proofs.lemmas.Bool.{false≢true, le-leb}
 use Rattle.ec_asm.specs.declared.items.AsmItem.{AsmItem}
 use Rattle.ec_asm.specs.declared.pieces.Location.{Location}
@@ -10,7 +9,7 @@ use Rattle.ec_asm.specs.declared.pieces.Location.TheVariants.{InRegisters}
 use Rattle.ec_asm.specs.declared.pieces.Operator.{Operator}
 use Rattle.ec_asm.specs.declared.pieces.Operator.TheVariants.{Sum, Difference}
 use Rattle.ec_asm.specs.Items.{code_words}
-use Rattle.ec_asm.specs.Pieces.{compare_code}
+use Rattle.ec_asm.specs.Pieces.{operate_code, compare_code}
 use Rattle.ec_space.specs.declared.Core.{Core}
 use Rattle.ec_core.specs.declared.expressions.BinOp.{BinOp}
 use Rattle.ec_core.specs.declared.expressions.BinOp.TheVariants.{Add, Sub, Mul, Div, Rem, And, Or, Xor, Lt, Gt, Le, Ge}
@@ -31,11 +30,11 @@ use Rattle.ec_ir_shapes.specs.Costs.{Code, in_line, callable, integer_code, exac
 use Rattle.ec_ir_shapes.specs.Costs.{binary_code as counted_binary, unary_code as counted_unary, shape_code}
 use Rattle.ec_ir_shapes.specs.Costs.{conversion_code as counted_conversion}
 use Rattle.ec_ir_shapes.specs.Costs.{is_fixed as counts_fixed, is_pointer as counts_pointer, has_one_format as counts_format}
-use Rattle.ec_select_bytes.specs.Values.{constant_code, extend_code, widen_code}
+use Rattle.ec_select_bytes.specs.Values.{extend_code, widen_code}
 use Rattle.ec_select_fixed.proofs.Suits.{operands_suit}
 use Rattle.ec_select_order.specs.declared.relations.Relation.{Relation}
 use Rattle.ec_select_order.specs.declared.relations.Relation.TheVariants.{Less, NotLess, Equal, NotEqual}
-use Rattle.ec_select_order.specs.Relations.{relation_code, truth_code}
+use Rattle.ec_select_order.specs.Relations.{relation_in_code, truth_code}
 use Rattle.ec_select_places.specs.Conversions.{embed_code}
 use Rattle.ec_select_products.specs.Products.{product_code}
 use Rattle.ec_select_shifts.specs.declared.shifts.Direction.{Direction}
@@ -45,38 +44,40 @@ use Rattle.ec_select_shifts.proofs.Counted.{counted_shifts_have_words}
 use Rattle.ec_select_operations.specs.declared.families.Family.TheVariants.{Combined, Compared, Multiplied, Shifted}
 use Rattle.ec_select_operations.specs.declared.families.Told.{Told}
 use Rattle.ec_select_operations.specs.declared.homes.Homes.{Homes}
-use Rattle.ec_select_numbers.specs.ByNumber.{compared_code as compared_with_code}
-use Rattle.ec_select_operations.specs.Code.{counted_by_code}
+use Rattle.ec_select_operations.specs.Bounds.{bound_of, truth_by_code}
+use Rattle.ec_select_operations.specs.Code.{counted_by_code, leaves_bit, top_bit_code}
 use Rattle.ec_select_operations.specs.Code.{compared_signed, counted_code, move_code, family_of, is_signed, conversion_code, compared_code}
+use Rattle.ec_select_operations.specs.Code.{truth_register, truth_at_code}
 use Rattle.ec_select_operations.specs.Code.{shift_of, shifted_bytes, turned_code, turn_code, unary_code, flag_code, operator_code}
-use Rattle.ec_select_operations.specs.Code.{changed_by_code, taking_code, integer_binary, by_kind, fixed_binary, fixed_unary}
+use Rattle.ec_select_operations.specs.Code.{taking_code, integer_binary, by_kind, fixed_binary, fixed_unary}
 use Rattle.ec_select_operations.specs.Code.{bytes_code, known_code}
 use Rattle.ec_select_operations.specs.Code.{is_on_integers, is_placed, placed_binary, same_location, answer_code, answer_location}
 use Rattle.ec_select_operations.specs.Code.{work_location}
 use Rattle.ec_select_operations.specs.Code.{fixed_conversion, keeps_number, is_brought, brought_code, has_one_fraction, is_difference}
-use Rattle.ec_select_operations.specs.Code.{pointer_binary, pointer_conversion}
+use Rattle.ec_select_places.specs.Steps.{z_pair}
+use Rattle.ec_select_operations.specs.Code.{pointer_binary, pointer_conversion, offset_code}
 use Rattle.ec_select_operations.specs.Emitted.{OfKind}
 use Rattle.ec_select_operations.proofs.OneFormat.{one_size}
 use Rattle.ec_select_operations.specs.Homes.{home}
-use Rattle.ec_select_operations.specs.Needs.{number_known}
-use Rattle.ec_select_operations.specs.Needs.{is_fixed, number_taken, compared_bytes as bytes_compared}
+use Rattle.ec_select_operations.specs.Needs.{is_fixed, number_known, number_taken, compared_bytes as bytes_compared}
 use Rattle.ec_select_operations.specs.Pointers.{is_pointer, is_into_data}
 use Rattle.ec_select_fixed.specs.Codes.{fixed_binary_code, fixed_conversion_code}
 use Rattle.ec_select_fixed.specs.Types.{format_in}
 use Rattle.ec_select_functions.specs.Covered.{AreIntegers, AreCompared, AreFactors, AreShifted, AreDivided, IsBinary, IsFixedBinary}
 use Rattle.ec_select_functions.specs.Covered.{IsPointerBinary, IsUnary, IsFixedUnary, AreConverted, IsFixedConversion, IsPointerConversion}
 use Rattle.ec_select_functions.proofs.Taken.{compared_few, compared_one}
-use Rattle.ec_select.proofs.ByNumber.{changed_by_words, compared_with_words, masked_words}
+use Rattle.ec_select.proofs.ByNumber.{masked_words, bounded_words}
+use Rattle.ec_select.proofs.CombinedWords.{combined_by_words}
 use Rattle.ec_select.proofs.CountedTypes.{on_integers_too, never_exact, some_fixed, some_pointer, fixed_count, pointer_count}
 use Rattle.ec_select.proofs.CountedTypes.{same_fixed, no_format, format_of_same}
-use Rattle.ec_select.proofs.Fitting.{and_second}
 use Rattle.ec_select.proofs.FixedItems.{own_words as own_kind, others_words as other_kind}
 use Rattle.ec_select.proofs.FixedTypes.{type_fixed, either_fixed, no_fixed, no_fixed_operand, none_converted}
 use Rattle.ec_select.proofs.OperationWords.{WordLaws, move_words, unless_none, convert_words, shift_most, turn_most, combined_most}
 use Rattle.ec_select.proofs.OperationWords.{taking_most, one_unary, one_conversion, fixed_binary_most, pointer_binary_most}
-use Rattle.ec_select.proofs.OperationWords.{pointers_most, offset_most, offset_by_most}
+use Rattle.ec_select.proofs.OperationWords.{pointers_most, offset_most, offset_by_most, truth_by_words}
+use Rattle.ec_select.proofs.OperationWords.{relation_in_words, indexed_most, top_bit_words}
 use Rattle.ec_select.proofs.PointerTypes.{two_pointers, pointers_only, pointer_converted, no_pointer, none_pointed}
-use Rattle.ec_select.proofs.Words.{joined_words}
+use Rattle.ec_select.proofs.Words.{joined_words, operate_words_most}
 
 -- ---- what a shape may have at each use
 
@@ -151,32 +152,36 @@ module _ (laws : WordLaws) where
   summed (Some k) telling op left right p q to bytes n w m l = known k.number telling
     where
       known : (z : Option ℤ) (telling : Option Told)
-          → code_words (known_code z telling (Combined op) left (compared_signed (Some k) left) p q to
+          → code_words (known_code z telling (Combined op) (compared_signed (Some k) left) p q to
           (bytes_compared (Some k) bytes) n) ≤ 1 + 17 * w
-      known None telling = omega arith
-      known (Some z) None =
-          let number = low_bytes 16 z in
+      known None telling =
+          let moved = move_code p to n in
+          let one = operate_code op q to (min n 1) in
           let x = move_words p to n in
-          let y = changed_by_words laws.numbers op to number n in
-          omega (arith, joined_words (move_code p to n) (changed_by_code op to number n), x, y, l)
+          let y = operate_words_most op q to (min n 1) in
+          omega (arith, joined_words moved one, x, y, l)
+      known (Some z) None =
+          let x = combined_by_words laws.numbers op p to (low_bytes 16 z) n in
+          omega (arith, x, l)
       known (Some z) (Some told) =
           let x = masked_words p to (low_bytes 16 z % 256) in omega (arith, x, m)
 
   -- a truth value of n bytes
-  truth_words : (to : Location) (n : ℕ) → code_words (conversion_code false (InRegisters 30) to 1 n) ≤ 8 + 2 * n
+  truth_words : (to : Location) (n : ℕ) → code_words (truth_at_code to n) ≤ 8 + 2 * n
   truth_words to n =
-      let x = move_words (InRegisters 30) to (min n 1) in
+      let from = InRegisters (truth_register to) in
+      let x = move_words from to (min n 1) in
       let y = (laws.values to 0 1 n).2 false in
-      omega (arith, joined_words (move_code (InRegisters 30) to (min n 1)) (extend_code false to 1 n), x, y)
+      omega (arith, joined_words (move_code from to (min n 1)) (extend_code false to 1 n), x, y)
 
   order_words : (r : Relation) (signed : Bool) (p q to : Location) (bytes n : ℕ)
       → code_words (compared_code r signed p q to bytes n) ≤ 11 + 5 * bytes + 2 * n
   order_words r signed p q to bytes n =
-      let truth = conversion_code false (InRegisters 30) to 1 n in
-      let x = laws.relations r signed p q bytes in
+      let own = relation_in_code (truth_register to) r signed p q bytes in
+      let truth = truth_at_code to n in
+      let x = relation_in_words laws (truth_register to) r signed p q bytes in
       let y = truth_words to n in
-      unless_none n (11 + 5 * bytes + 2 * n) (relation_code r signed p q bytes ++ truth)
-      (omega (arith, joined_words (relation_code r signed p q bytes) truth, x, y))
+      unless_none n (11 + 5 * bytes + 2 * n) (own ++ truth) (omega (arith, joined_words own truth, x, y))
 
   flag_words : (r : Relation) (exchanged : Bool) (p q : Location) (bytes : ℕ)
       → code_words (flag_code (Compared r exchanged) p q bytes) ≤ 3 + 5 * bytes
@@ -213,20 +218,20 @@ module _ (laws : WordLaws) where
       low (Some told) true = let x = flag_words r true p q compared in omega (arith, x)
 
       known : (z : Option ℤ) (telling : Option Told)
-          → code_words (known_code z telling (Compared r exchanged) left (compared_signed (Some k) left) p q to compared n)
+          → code_words (known_code z telling (Compared r exchanged) (compared_signed (Some k) left) p q to compared n)
           ≤ 11 + 5 * bytes + 2 * n
       known None telling = let x = low telling exchanged in let few = compared_few k bytes in omega (arith, x, few)
       known (Some z) None =
-          let number = low_bytes 16 z in
-          let signed = compared_signed (Some k) left in
-          let put = compared_with_code p number compared in
-          let own = compared_code r signed p q to 0 n in
+          let bound = bound_of r exchanged (compared_signed (Some k) left) compared (low_bytes 16 z) in
+          let own = truth_by_code (truth_register to) bound p compared in
+          let truth = truth_at_code to n in
           let few = compared_few k bytes in
-          let x = compared_with_words laws.numbers p number compared in
-          let y = order_words r signed p q to 0 n in
-          unless_none n (11 + 5 * bytes + 2 * n) (put ++ own) (omega (arith, joined_words put own, x, y, few))
+          let x = truth_by_words laws (truth_register to) bound p compared in
+          let y = truth_words to n in
+          unless_none n (11 + 5 * bytes + 2 * n) (own ++ truth) (omega (arith, joined_words own truth, x, y, few))
       known (Some z) (Some told) =
-          let x = compared_with_words laws.numbers p (low_bytes 16 z) compared in
+          let bound = bound_of r exchanged (compared_signed (Some k) left) compared (low_bytes 16 z) in
+          let x = bounded_words laws.numbers laws.values bound p compared in
           let few = compared_few k bytes in
           omega (arith, x, few)
 
@@ -239,14 +244,11 @@ module _ (laws : WordLaws) where
   multiplied (Some k) telling left right p q to bytes n = known k.number telling
     where
       known : (z : Option ℤ) (telling : Option Told)
-          → code_words (known_code z telling Multiplied left (compared_signed (Some k) left) p q to
+          → code_words (known_code z telling Multiplied (compared_signed (Some k) left) p q to
           (bytes_compared (Some k) bytes) n) ≤ 9 + 2 * n + 4 * bytes
       known None telling = omega arith
       known (Some z) None = omega arith
-      known (Some z) (Some told) =
-          let x = compared_with_words laws.numbers p (low_bytes 16 z) (bytes_compared (Some k) bytes) in
-          let few = compared_few k bytes in
-          omega (arith, x, few)
+      known (Some z) (Some told) = omega arith
 
   counted_words : (s : Direction) (p to : Location) (n k : ℕ) → code_words (counted_code s p to n k) ≤ 7 + 11 * n
   counted_words s p to n k =
@@ -258,7 +260,7 @@ module _ (laws : WordLaws) where
   counted_by_words : (up signed : Bool) (p to : Location) (bytes n w k : ℕ) → bytes ≤ w → n ≤ w → (bytes < n → bytes ≤ 1)
       → code_words (counted_by_code up signed p to bytes n k) ≤ 7 + 11 * w
   counted_by_words true signed p to bytes n w k m l few = let x = counted_words Left p to n k in omega (arith, x, l)
-  counted_by_words false signed p to bytes n w k m l few = by_bytes (nat_le n bytes) refl
+  counted_by_words false signed p to bytes n w k m l few = by_bit (leaves_bit signed to bytes n k)
     where
       first : List AsmItem
       first = counted_code (Right signed) p to bytes k
@@ -277,6 +279,15 @@ module _ (laws : WordLaws) where
           subst (λ (b : Bool). code_words (first ++ (if b then [] else widen_code false to bytes (n - bytes))) ≤ 7 + 11 * w) q
           (omega (arith, joined_words first second, x, y, more, one, l))
 
+      by_bit : (b : Bool)
+          → code_words (if b then move_code p to bytes ++ top_bit_code to bytes
+          else counted_code (Right signed) p to bytes k ++ extend_code false to bytes n) ≤ 7 + 11 * w
+      by_bit true =
+          let x = move_words p to bytes in
+          let y = top_bit_words laws to bytes in
+          omega (arith, joined_words (move_code p to bytes) (top_bit_code to bytes), x, y, m)
+      by_bit false = by_bytes (nat_le n bytes) refl
+
   shifted : (taken : Option RightNumber) (telling : Option Told) (up left right : Bool) (p q to : Location)
       (bytes n w : ℕ) → bytes ≤ w → n ≤ w → n ≤ bytes
       → code_words (taking_code taken telling (Shifted up) left right p q to bytes n) ≤ 7 + 11 * w
@@ -290,7 +301,7 @@ module _ (laws : WordLaws) where
   shifted (Some k) telling up left right p q to bytes n w m l few = known k.number telling
     where
       known : (z : Option ℤ) (telling : Option Told)
-          → code_words (known_code z telling (Shifted up) left (compared_signed (Some k) left) p q to
+          → code_words (known_code z telling (Shifted up) (compared_signed (Some k) left) p q to
           (bytes_compared (Some k) bytes) n) ≤ 7 + 11 * w
       known None telling = omega arith
       known (Some z) None =
@@ -300,10 +311,7 @@ module _ (laws : WordLaws) where
           let fewer = compared_few k bytes in
           unless_none n (7 + 11 * w) (counted_by_code up signed p to moved n count)
           (counted_by_words up signed p to moved n w count (omega (arith, fewer, m)) l (compared_one k bytes n few))
-      known (Some z) (Some told) =
-          let x = compared_with_words laws.numbers p (low_bytes 16 z) (bytes_compared (Some k) bytes) in
-          let fewer = compared_few k bytes in
-          omega (arith, x, fewer, m)
+      known (Some z) (Some told) = omega arith
 
   -- ---- operators on integers, whose result has the bytes of its type
 
@@ -508,44 +516,65 @@ module _ (laws : WordLaws) where
 
   -- ---- operators with a pointer
 
-  pointer_few : (known : Option RightNumber) (core : Core) (p : PlainProgram) (op : BinOp) (slots : ℕ) (h : Homes) (to a b : Temp)
-      (ty aty bty : PlainType)
+  pointer_few : (known : Option RightNumber) (telling : Option Told) (core : Core) (p : PlainProgram) (op : BinOp) (slots : ℕ)
+      (h : Homes) (to a b : Temp) (ty aty bty : PlainType)
       (n : ℕ) → IsPointerBinary p slots op to a b ty aty bty → n ≤ to.bytes
-      → code_words (pointer_binary known core (is_pointer aty) (is_pointer bty) p op aty bty (home h a) (home h b) (home h to)
+      → code_words (pointer_binary known telling core (is_pointer aty) (is_pointer bty) p op aty bty (home h a) (home h b) (home h to)
       a.bytes b.bytes n) ≤ 64 + 5 * widest (ty ∷ aty ∷ bty ∷ [])
-  pointer_few known core p op slots h to a b ty aty bty n i l = by_kinds (is_pointer aty) (is_pointer bty) refl refl where
+  pointer_few known telling core p op slots h to a b ty aty bty n i l = by_kinds (is_pointer aty) (is_pointer bty) refl refl where
     by_kinds : (x y : Bool) → is_pointer aty ≡ x → is_pointer bty ≡ y
-        → code_words (pointer_binary known core x y p op aty bty (home h a) (home h b) (home h to) a.bytes b.bytes n)
+        → code_words (pointer_binary known telling core x y p op aty bty (home h a) (home h b) (home h to) a.bytes b.bytes n)
         ≤ 64 + 5 * widest (ty ∷ aty ∷ bty ∷ [])
     by_kinds true true d e =
         let t = (two_pointers op ty aty bty d e i.types).some in let u = i.left_bytes in let few = i.result.most in
-        let m = pointers_most laws core (family_of op) (home h a) (home h b) (home h to) a.bytes (element_size p aty) n
+        let m = pointers_most laws telling core (family_of op) (home h a) (home h b) (home h to) a.bytes (element_size p aty) n
         (omega (arith, t, u)) (omega (arith, few, l)) in
         omega (arith, m, u)
     by_kinds true false d e =
-        let m = offset_by_most laws (number_known known) core (is_difference op) (is_signed bty) (home h a) (home h b) (home h to) a.bytes b.bytes
-        (element_size p aty) n in
-        let u = i.left_bytes in omega (arith, m, u)
+        let m = offset_by_most laws (number_known known) core (is_difference op) (is_signed bty) (home h a) (home h b) (home h to)
+        (max 2 n) b.bytes (element_size p aty) n in
+        let w = i.result_bytes in omega (arith, m, w, l)
     by_kinds false true d e =
-        let m = offset_most laws core false (is_signed aty) (home h b) (home h a) (home h to) b.bytes a.bytes (element_size p bty) n in
-        let u = i.right_bytes in omega (arith, m, u)
+        let m = offset_most laws core false (is_signed aty) (home h b) (home h a) (home h to) (max 2 n) a.bytes (element_size p bty) n in
+        let w = i.result_bytes in omega (arith, m, w, l)
     by_kinds false false d e = omega arith
 
-  pointer_row : (known : Option RightNumber) (core : Core) (p : PlainProgram) (op : BinOp) (mode : Mode) (slots : ℕ) (h : Homes)
-      (to a b : Temp) (ty aty bty : PlainType)
+  pointer_row : (known : Option RightNumber) (telling : Option Told) (core : Core) (p : PlainProgram) (op : BinOp) (mode : Mode)
+      (slots : ℕ) (h : Homes) (to a b : Temp) (ty aty bty : PlainType)
       (n : ℕ) → IsPointerBinary p slots op to a b ty aty bty → n ≤ to.bytes
-      → code_words (pointer_binary known core (is_pointer aty) (is_pointer bty) p op aty bty (home h a) (home h b) (home h to)
+      → code_words (pointer_binary known telling core (is_pointer aty) (is_pointer bty) p op aty bty (home h a) (home h b) (home h to)
       a.bytes b.bytes n) ≤ most_in (shape_code (binary_shape op ty mode aty bty))
-  pointer_row known core p op mode slots h to a b ty aty bty n i l =
+  pointer_row known telling core p op mode slots h to a b ty aty bty n i l =
       let wide = widest (ty ∷ aty ∷ bty ∷ []) in
-      let code = pointer_binary known core (is_pointer aty) (is_pointer bty) p op aty bty (home h a) (home h b)
+      let code = pointer_binary known telling core (is_pointer aty) (is_pointer bty) p op aty bty (home h a) (home h b)
       (home h to) a.bytes b.bytes n in
-      let x = pointer_binary_most laws known core p op slots h to a b ty aty bty n i l in
+      let x = pointer_binary_most laws known telling core p op slots h to a b ty aty bty n i l in
       let y = wide_binary op ty aty bty in
       other_row op (are_exact op mode ty (aty ∷ bty ∷ [])) (counts_fixed ty || any_fixed (aty ∷ bty ∷ []))
       (counts_pointer ty || any_pointer (aty ∷ bty ∷ [])) wide (code_words code)
       (never_exact op mode ty aty bty (pointers_only op ty aty bty i.pointer i.types).0) (omega (arith, x, y))
-      (λ q. pointer_few known core p op slots h to a b ty aty bty n i l)
+      (λ q. pointer_few known telling core p op slots h to a b ty aty bty n i l)
+      (λ q. absurd (false≢true (sym q ∙ some_pointer ty aty bty i.pointer)))
+
+  -- a pointer that is moved by an index which is told
+  pub indexed_row : (core : Core) (p : PlainProgram) (op : BinOp) (mode : Mode) (slots : ℕ) (h : Homes) (to a b : Temp)
+      (ty aty bty : PlainType) (n : ℕ) → IsPointerBinary p slots op to a b ty aty bty → n ≤ to.bytes
+      → code_words (offset_code core (is_difference op) (is_signed bty) (home h a) z_pair (home h to) (max 2 n) b.bytes
+      (element_size p aty) n)
+      ≤ most_in (shape_code (binary_shape op ty mode aty bty))
+  indexed_row core p op mode slots h to a b ty aty bty n i l =
+      let wide = widest (ty ∷ aty ∷ bty ∷ []) in
+      let code = offset_code core (is_difference op) (is_signed bty) (home h a) z_pair (home h to) (max 2 n) b.bytes
+      (element_size p aty) n in
+      let x = indexed_most laws core p op slots h to a b ty aty bty n i l in
+      let y = wide_binary op ty aty bty in
+      let m = offset_most laws core (is_difference op) (is_signed bty) (home h a) z_pair (home h to) (max 2 n) b.bytes
+      (element_size p aty) n in
+      let w = i.result_bytes in
+      other_row op (are_exact op mode ty (aty ∷ bty ∷ [])) (counts_fixed ty || any_fixed (aty ∷ bty ∷ []))
+      (counts_pointer ty || any_pointer (aty ∷ bty ∷ [])) wide (code_words code)
+      (never_exact op mode ty aty bty (pointers_only op ty aty bty i.pointer i.types).0) (omega (arith, x, y))
+      (λ q. omega (arith, m, w, l))
       (λ q. absurd (false≢true (sym q ∙ some_pointer ty aty bty i.pointer)))
 
   -- ---- binary operators, unary ones and conversions
@@ -560,12 +589,12 @@ module _ (laws : WordLaws) where
       → code_words (by_kind (is_fixed aty || is_fixed bty)
       (fixed_binary known telling op ty aty bty mode (home h a) (home h b) (home h to) a.bytes n)
       (by_kind (is_pointer aty || is_pointer bty)
-      (pointer_binary known core (is_pointer aty) (is_pointer bty) p op aty bty (home h a) (home h b) (home h to) a.bytes b.bytes n)
+      (pointer_binary known telling core (is_pointer aty) (is_pointer bty) p op aty bty (home h a) (home h b) (home h to) a.bytes b.bytes n)
       (integer_binary known telling op (is_signed aty) (is_signed bty) (home h a) (home h b) (home h to) a.bytes n)))
       ≤ most_in (shape_code (binary_shape op ty mode aty bty))
   binary_own core p known telling op ty aty bty mode slots h to a b n (inl i) size l q =
       let own = fixed_binary known telling op ty aty bty mode (home h a) (home h b) (home h to) a.bytes n in
-      let pointed = pointer_binary known core (is_pointer aty) (is_pointer bty) p op aty bty (home h a) (home h b) (home h to)
+      let pointed = pointer_binary known telling core (is_pointer aty) (is_pointer bty) p op aty bty (home h a) (home h b) (home h to)
       a.bytes b.bytes n in
       let usual = integer_binary known telling op (is_signed aty) (is_signed bty) (home h a) (home h b) (home h to) a.bytes n in
       let most = most_in (shape_code (binary_shape op ty mode aty bty)) in
@@ -576,7 +605,7 @@ module _ (laws : WordLaws) where
       (integer_row known telling slots h to a b ty aty bty (is_signed aty) (is_signed bty) n size l op mode i same))
   binary_own core p known telling op ty aty bty mode slots h to a b n (inr (inl i)) size l q =
       let own = fixed_binary known telling op ty aty bty mode (home h a) (home h b) (home h to) a.bytes n in
-      let pointed = pointer_binary known core (is_pointer aty) (is_pointer bty) p op aty bty (home h a) (home h b) (home h to)
+      let pointed = pointer_binary known telling core (is_pointer aty) (is_pointer bty) p op aty bty (home h a) (home h b) (home h to)
       a.bytes b.bytes n in
       let usual = integer_binary known telling op (is_signed aty) (is_signed bty) (home h a) (home h b) (home h to) a.bytes n in
       let most = most_in (shape_code (binary_shape op ty mode aty bty)) in
@@ -584,14 +613,14 @@ module _ (laws : WordLaws) where
       (either_fixed aty bty i.types.fixed) (fixed_binary_row known telling mode slots h to a b ty aty bty n op i l)
   binary_own core p known telling op ty aty bty mode slots h to a b n (inr (inr i)) size l q =
       let own = fixed_binary known telling op ty aty bty mode (home h a) (home h b) (home h to) a.bytes n in
-      let pointed = pointer_binary known core (is_pointer aty) (is_pointer bty) p op aty bty (home h a) (home h b) (home h to)
+      let pointed = pointer_binary known telling core (is_pointer aty) (is_pointer bty) p op aty bty (home h a) (home h b) (home h to)
       a.bytes b.bytes n in
       let usual = integer_binary known telling op (is_signed aty) (is_signed bty) (home h a) (home h b) (home h to) a.bytes n in
       let most = most_in (shape_code (binary_shape op ty mode aty bty)) in
       other_kind (is_fixed aty || is_fixed bty) own (by_kind (is_pointer aty || is_pointer bty) pointed usual) most
       (pointers_only op ty aty bty i.pointer i.types).0
       (own_kind (is_pointer aty || is_pointer bty) pointed usual most i.pointer
-      (pointer_row known core p op mode slots h to a b ty aty bty n i l))
+      (pointer_row known telling core p op mode slots h to a b ty aty bty n i l))
 
   pub unary_own : (op : UnOp) (ty : PlainType) (mode : Mode) (slots : ℕ) (h : Homes) (to a : Temp) (n : ℕ)
       → IsUnary slots to a ty ⊎ IsFixedUnary slots op to a ty → n ≤ to.bytes

@@ -20,10 +20,10 @@ use Rattle.ec_select_bytes.specs.Values.{byte_of, constant_byte, constant_code, 
 use Rattle.ec_select_bytes.specs.Values.{join_code, test_code, put_byte}
 use Rattle.ec_select_bytes.proofs.Tests.{several}
 use Rattle.ec_select_bytes.specs.Values.{take_byte, fill_code, puts_code, clear_byte, widen_code, extend_code}
-use Rattle.ec_select_operations.specs.Code.{pair_code, odd_code, pairs_code, transfer_code}
+use Rattle.ec_select_operations.specs.Code.{pair_code, odd_code, pairs_code, transfer_code, truth_register}
 use Rattle.ec_select_order.specs.declared.relations.Relation.{Relation}
 use Rattle.ec_select_order.specs.declared.relations.Relation.TheVariants.{Less, NotLess, Equal, NotEqual}
-use Rattle.ec_select_order.specs.Relations.{truth_code, relation_code}
+use Rattle.ec_select_order.specs.Relations.{truth_code, truth_in_code, relation_in_code}
 use Rattle.ec_select.proofs.Fitting.{fits, Fit, joined, chained, ByteFits, BytesFit, fewer_fit}
 use Rattle.ec_select.proofs.Fitting.{two_fit, reg}
 
@@ -122,7 +122,7 @@ module _ (sizes : Sizes) where
       → Fit sizes (compare_code p q n)
   compare_fits p q n x y = chained (fits sizes) (compare_byte p q) n (λ i l. compare_byte_fits p q i (x i l) (y i l))
 
-  truth_fits : (r : Relation) (signed : Bool) → Fit sizes (truth_code r signed)
+  pub truth_fits : (r : Relation) (signed : Bool) → Fit sizes (truth_code r signed)
   truth_fits Less true = refl
   truth_fits Less false = refl
   truth_fits NotLess true = refl
@@ -130,10 +130,35 @@ module _ (sizes : Sizes) where
   truth_fits Equal signed = refl
   truth_fits NotEqual signed = refl
 
-  pub relation_fits : (r : Relation) (signed : Bool) (p q : Location) (n : ℕ) → BytesFit sizes p n
-      → BytesFit sizes q n → Fit sizes (relation_code r signed p q n)
-  relation_fits r signed p q n x y =
-      joined (fits sizes) (compare_code q p n) (truth_code r signed) (compare_fits q p n y x) (truth_fits r signed)
+  -- in the register of a result
+  loaded_fits : (d : ℕ) (r : Relation) (signed : Bool) → nat_le 16 d ≡ true → d < 32 → Fit sizes (truth_in_code d r signed)
+  loaded_fits d Less true q l = rw (q, reg d l) refl
+  loaded_fits d Less false q l = rw (q, reg d l) refl
+  loaded_fits d NotLess true q l = rw (q, reg d l) refl
+  loaded_fits d NotLess false q l = rw (q, reg d l) refl
+  loaded_fits d Equal signed q l = rw (q, reg d l) refl
+  loaded_fits d NotEqual signed q l = rw (q, reg d l) refl
+
+  pub truth_in_fits : (to : Location) (r : Relation) (signed : Bool) → ByteFits sizes to 0
+      → Fit sizes (truth_in_code (truth_register to) r signed)
+  truth_in_fits (InRegisters d) r signed x = by_reach (nat_le 16 d) refl where
+    by_reach : (high : Bool) → nat_le 16 d ≡ high → Fit sizes (truth_in_code (if high then d else 30) r signed)
+    by_reach true q = loaded_fits d r signed q (omega (arith, x))
+    by_reach false q = truth_fits r signed
+  truth_in_fits (InMemory o k) r signed x = truth_fits r signed
+
+  pub made_fits : (to : Location) → ByteFits sizes to 0 → BytesFit sizes (InRegisters (truth_register to)) 1
+  made_fits (InRegisters d) x = by_reach (nat_le 16 d) where
+    by_reach : (high : Bool) → BytesFit sizes (InRegisters (if high then d else 30)) 1
+    by_reach true = λ i l. omega (arith, x)
+    by_reach false = λ i l. omega arith
+  made_fits (InMemory o k) x = λ i l. omega arith
+
+  pub relation_in_fits : (to : Location) (r : Relation) (signed : Bool) (p q : Location) (n : ℕ) → BytesFit sizes p n
+      → BytesFit sizes q n → ByteFits sizes to 0 → Fit sizes (relation_in_code (truth_register to) r signed p q n)
+  relation_in_fits to r signed p q n x y z =
+      joined (fits sizes) (compare_code q p n) (truth_in_code (truth_register to) r signed) (compare_fits q p n y x)
+      (truth_in_fits to r signed z)
 
   -- ---- constants, tests, extensions
 

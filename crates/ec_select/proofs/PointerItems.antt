@@ -1,8 +1,8 @@
 -- The items of operations on pointers.
-use Rattle.std.proofs.Common.{◌≡◌, ⊎_elim, ℕ, zero, suc, ◌+◌, ◌/◌, ◌%◌, ◌<◌, ◌≤◌, ◌==◌, Bool, true, false, List}
+use Rattle.std.proofs.Common.{◌≡◌, ⊎_elim, inl, inr, ℕ, zero, suc, ◌+◌, ◌/◌, ◌%◌, ◌<◌, ◌≤◌, ◌==◌, Bool, true, false, List}
 use Rattle.std.proofs.Common.{[], ◌∷◌, ◌++◌, refl, sym, subst, arith, leb-true}
-use Rattle.std.specs.Prelude.{nat_le, if◌then◌else◌, Option, Some, None}
-use Rattle.std.proofs.lemmas.Bool.{eqb-true, false≢true}
+use Rattle.std.specs.Prelude.{nat_le, nat_lt, if◌then◌else◌, Option, Some, None}
+use Rattle.std.proofs.lemmas.Bool.{eqb-true, and_parts, lt-ltb, false≢true}
 use Rattle.std.proofs.lemmas.Bool.Decides.{nat_tests}
 use Rattle.ec_isa.specs.declared.instructions.Instr.TheVariants.{Mov}
 use Rattle.ec_isa.specs.Table.{in_table}
@@ -30,11 +30,11 @@ use Rattle.ec_select_places.specs.Far.{advance_far_code}
 use Rattle.ec_select_places.specs.Indexes.{can_add, add_index_code}
 use Rattle.ec_select_places.specs.IndexLaws.{IndexesAreValid, IndexesHaveNoLabel}
 use Rattle.ec_select_places.specs.FarForm.{FarStepsAreValid, FarPlacesHaveNoLabel}
-use Rattle.ec_select_places.specs.Steps.{scale_index_code, advance_code, compared_bytes}
+use Rattle.ec_select_places.specs.Steps.{z_pair, scale_index_code, advance_code, compared_bytes}
 use Rattle.ec_select_pointers.specs.Accesses.{load_data_code, load_flash_code, load_any_code, load_table_code}
 use Rattle.ec_select_pointers.specs.Accesses.{store_data_code}
-use Rattle.ec_select_pointers.specs.Addresses.{pointer_bytes, address_code, rest_of, subtracts, subtract_byte}
-use Rattle.ec_select_pointers.specs.Addresses.{field_code}
+use Rattle.ec_select_pointers.specs.Addresses.{is_low_pair, pointer_bytes, address_code, rest_of, subtracts, subtract_byte}
+use Rattle.ec_select_pointers.specs.Addresses.{subtract_each, subtract_pair, subtract_both, field_code}
 use Rattle.ec_select_pointers.specs.AddressLaws.{IsTag}
 use Rattle.ec_select_pointers.specs.Far.{load_far_code, load_far_table_code, load_any_far_code, far_address_code, far_rest_of}
 use Rattle.ec_select_pointers.specs.Far.{field_far_code}
@@ -178,16 +178,34 @@ module _ (sizes : Sizes) (laws : PointerItemLaws) where
     by_register true e = rw (subtracts_fit i (r + i) k (leb-true 16 (r + i) e) x c) refl
     by_register false e = rw (reg (r + i) x, subtracts_fit i 30 k (omega arith) (omega arith) c) refl
 
+  -- two bytes are subtracted, one after another or in R30 and R31
+  subtract_both_fits : (k : ℕ) (q : Location) → k < 65536 → BytesFit sizes q 2 → Fit sizes (subtract_both k q)
+  subtract_both_fits k q small x = by_place q x where
+    each : (q : Location) → BytesFit sizes q 2 → Fit sizes (subtract_each k q)
+    each q x =
+        joined (fits sizes) (subtract_byte (k % 256) q 0) (subtract_byte (k / 256) q 1)
+        (subtract_fits (k % 256) q 0 (omega arith) (x 0 (omega arith)))
+        (subtract_fits (k / 256) q 1 (omega (arith, small)) (x 1 (omega arith)))
+
+    by_pair : (r : ℕ) (b : Bool) → is_low_pair r ≡ b → BytesFit sizes (InRegisters r) 2
+        → Fit sizes (if b then subtract_pair k r else subtract_each k (InRegisters r))
+    by_pair r false q x = each (InRegisters r) x
+    by_pair r true q x =
+        let even = (and_parts (nat_lt r 16) (r % 2 == 0) q).1 in
+        let first = x 0 (omega arith) in
+        rw (reg r (omega (arith, first)), even, lt-ltb (k % 256) 256 (omega arith), lt-ltb (k / 256) 256 (omega (arith, small))) refl
+
+    by_place : (q : Location) → BytesFit sizes q 2 → Fit sizes (subtract_both k q)
+    by_place (InRegisters r) x = by_pair r (is_low_pair r) refl x
+    by_place (InMemory o j) x = each (InMemory o j) x
+
   field_fits : (q : Location) (offset : ℕ) → BytesFit sizes q 2 → Fit sizes (field_code q offset)
   field_fits q offset x = by_rest (offset % 65536 == 0) refl where
-    by_rest : (none : Bool) → (offset % 65536 == 0) ≡ none
-        → Fit sizes (if none then [] else subtract_byte (rest_of offset % 256) q 0 ++ subtract_byte (rest_of offset / 256) q 1)
+    by_rest : (none : Bool) → (offset % 65536 == 0) ≡ none → Fit sizes (if none then [] else subtract_both (rest_of offset) q)
     by_rest true e = refl
     by_rest false e =
         let some : 1 ≤ offset % 65536 = grind (arith, nat_tests) in
-        joined (fits sizes) (subtract_byte (rest_of offset % 256) q 0) (subtract_byte (rest_of offset / 256) q 1)
-        (subtract_fits (rest_of offset % 256) q 0 (omega arith) (x 0 (omega arith)))
-        (subtract_fits (rest_of offset / 256) q 1 (omega (arith, some)) (x 1 (omega arith)))
+        subtract_both_fits (rest_of offset) q (omega (arith, some)) x
 
   far_field_fits : (q : Location) (offset : ℕ) → BytesFit sizes q 3 → Fit sizes (field_far_code q offset)
   far_field_fits q offset x = by_rest (offset % 16777216 == 0) refl where
@@ -266,21 +284,36 @@ module _ (sizes : Sizes) (laws : PointerItemLaws) where
       → HasPlaces sizes q 2 → Fit sizes (scale_index_code p signed n size)
   scale_fits p q signed n size some small x y =
       step_fits (scale_index_code p signed n size)
-      (laws.steps sizes p q signed true n size (step_places sizes p n x) some small (step_places sizes q 2 y)).0
+      (laws.steps sizes p q signed true n size (inl (step_places sizes p n x)) some small (step_places sizes q 2 y)).0
       (laws.step_labels p q signed true true Less n size).0
 
   pub added_fits : (minus signed : Bool) (p q : Location) (n size : ℕ) → 1 ≤ n → HasPlaces sizes p n → HasPlaces sizes q 2
       → can_add signed p q n size ≡ true → Fit sizes (add_index_code minus p q n size)
   added_fits minus signed p q n size some x y can =
       step_fits (add_index_code minus p q n size)
-      (laws.indexes sizes minus signed p q n size (step_places sizes p n x) some (step_places sizes q 2 y) can)
+      (laws.indexes sizes minus signed p q n size (inl (step_places sizes p n x)) some (step_places sizes q 2 y) can)
       (laws.index_labels minus p q n size)
+
+  -- an index that stands in R30 and R31
+  pub added_there_fits : (minus signed : Bool) (q : Location) (n size : ℕ) → 1 ≤ n → HasPlaces sizes q 2
+      → can_add signed z_pair q n size ≡ true → Fit sizes (add_index_code minus z_pair q n size)
+  added_there_fits minus signed q n size some y can =
+      step_fits (add_index_code minus z_pair q n size)
+      (laws.indexes sizes minus signed z_pair q n size (inr refl) some (step_places sizes q 2 y) can)
+      (laws.index_labels minus z_pair q n size)
+
+  pub scale_there_fits : (q : Location) (signed : Bool) (n size : ℕ) → 1 ≤ n → size < 65536 → HasPlaces sizes q 2
+      → Fit sizes (scale_index_code z_pair signed n size)
+  scale_there_fits q signed n size some small y =
+      step_fits (scale_index_code z_pair signed n size)
+      (laws.steps sizes z_pair q signed true n size (inr refl) some small (step_places sizes q 2 y)).0
+      (laws.step_labels z_pair q signed true true Less n size).0
 
   advance_fits : (p q : Location) (minus : Bool) (n : ℕ) → 1 ≤ n → HasPlaces sizes p n → HasPlaces sizes q 2
       → Fit sizes (advance_code minus q)
   advance_fits p q minus n some x y =
       step_fits (advance_code minus q)
-      (laws.steps sizes p q true minus n 0 (step_places sizes p n x) some (omega arith) (step_places sizes q 2 y)).1
+      (laws.steps sizes p q true minus n 0 (inl (step_places sizes p n x)) some (omega arith) (step_places sizes q 2 y)).1
       (laws.step_labels p q true minus true Less n 0).1
 
   far_advance_fits : (q : Location) (minus : Bool) → HasPlaces sizes q 3 → Fit sizes (advance_far_code minus q)

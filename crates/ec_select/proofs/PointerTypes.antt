@@ -1,7 +1,7 @@
 -- Types of operations on pointers.
-use Rattle.std.proofs.Common.{◌≡◌, ℕ, ◌≤◌, ◌==◌, Bool, true, false, refl, sym, ap, ◌∙◌, arith, inl, inr}
-use Rattle.std.specs.Prelude.{◌&&◌, ◌||◌}
-use Rattle.std.proofs.lemmas.Bool.{false≢true}
+use Rattle.std.proofs.Common.{◌≡◌, ℕ, ◌≤◌, ◌==◌, Bool, true, false, refl, sym, ap, ◌∙◌, arith, inl, inr, ◌<◌, ⊎_elim}
+use Rattle.std.specs.Prelude.{◌&&◌, ◌||◌, max}
+use Rattle.std.proofs.lemmas.Bool.{false≢true, cases_lt}
 use Rattle.ec_core.specs.declared.expressions.BinOp.{BinOp}
 use Rattle.ec_core.specs.declared.expressions.BinOp.TheVariants.{Add, Sub, Mul, Div, Rem, And, Or, Xor, Lt, Gt, Le, Ge}
 use Rattle.ec_core.specs.declared.expressions.BinOp.TheVariants.{Eq, Ne, Shl, Shr}
@@ -40,6 +40,14 @@ width_is Flash bytes e = inl e
 width_is Data bytes e = inl e
 width_is FarFlash bytes e = inr e
 width_is Generic bytes e = inr e
+
+-- so many bytes are made of a pointer of which so many are needed
+pub made_bytes : (n bytes : ℕ) → IsPointerSize bytes → n ≤ bytes → IsPointerSize (max 2 n) × (max 2 n ≤ bytes)
+made_bytes n bytes (inl two) l = (inl (omega (arith, two, l)), omega (arith, two, l))
+made_bytes n bytes (inr three) l =
+    ⊎_elim (λ (f : n < 3). (inl (omega (arith, f)), omega (arith, f, three)))
+    (λ (f : 3 ≤ n). (inr (omega (arith, f, three, l)), omega (arith, f, three, l)))
+    (cases_lt n 3)
 
 -- ---- operators
 

@@ -22,6 +22,7 @@ use Rattle.ec_select_operations.specs.declared.families.Told.{Told}
 use Rattle.ec_select_operations.specs.Code.{Linkage, own_code, ops_code}
 use Rattle.ec_select_operations.specs.Homes.{home}
 use Rattle.ec_select_operations.specs.Needs.{Need, facts_of}
+use Rattle.ec_select_operations.specs.Pointers.{has_tables}
 use Rattle.ec_select_functions.specs.Covered.{IsCovered, AreCovered}
 use Rattle.ec_select_functions.specs.Laws.{linkage_of}
 use Rattle.ec_select.specs.InPlace.{IsInPlace}
@@ -170,7 +171,8 @@ module _ (laws : WordLaws) (routine_laws : RoutineLaws) (core : Core) (p : Plain
         (λ i. refl) alone_words (short f g h) (tables f) g.code None g.code h.covered h.in_place h.bytes h.types in
         omega (
           arith,
-          joined_words (Label (function_label f) ∷ []) (ops_code (data_of p) (home k.homes) k (facts_of (tables f) g.code) None g.code),
+          joined_words (Label (function_label f) ∷ []) (ops_code (data_of p) (home k.homes) k
+              (facts_of (has_tables (data_of p).objects) (tables f) g.code) None g.code),
           a,
         )
 

@@ -22,6 +22,7 @@ use Rattle.ec_select_operations.specs.Code.{result_wanted, kept_need, wanted_beh
 use Rattle.ec_select_operations.specs.Emitted.{linkage}
 use Rattle.ec_select_operations.specs.Homes.{home}
 use Rattle.ec_select_operations.specs.Needs.{Need, facts_of, needs, nothing, takes_count}
+use Rattle.ec_select_operations.specs.Pointers.{has_tables}
 use Rattle.ec_select_operations.specs.Routines.{routine_for}
 use Rattle.ec_select_functions.specs.Covered.{IsCovered, AreCovered}
 use Rattle.ec_select.specs.InPlace.{IsInPlace}
@@ -166,10 +167,11 @@ module _ (laws : WordLaws) (routine_laws : RoutineLaws) (p : PlainProgram) (resu
 
   pub uses_few : (labels : ℕ → Need) (all code : List PlainIr) → AreCovered p results f called k.slots code → AllByRecursion IsInPlace code
       → AllByRecursion HasTypeBytes code → AllByRecursion HasOperandTypes code
-      → AllByRecursion IsFew (uses_in k.core p k.homes (wanted_bytes (facts_of labels all) code) (numbers_left all code) code)
+      → AllByRecursion IsFew (uses_in k.core p k.homes (wanted_bytes (facts_of (has_tables p.objects) labels all) code)
+      (numbers_left all code) code)
   uses_few labels all [] h q b t = tt
   uses_few labels all (i ∷ code) h q b t =
-      let at = facts_of labels all in
+      let at = facts_of (has_tables p.objects) labels all in
       let known = at.known (i ∷ code) in
       all_joined IsFew (uses_of k.core p k.homes known (wanted_behind at.needed (needs at code) i) i)
       (uses_in k.core p k.homes (wanted_bytes at code) (numbers_left all code) code)
@@ -223,12 +225,12 @@ module _ (laws : WordLaws) (routine_laws : RoutineLaws) (p : PlainProgram) (resu
 
   pub own_sum : (labels : ℕ → Need) (all code : List PlainIr) → AreCovered p results f called k.slots code → AllByRecursion IsInPlace code
       → AllByRecursion HasTypeBytes code → AllByRecursion HasOperandTypes code
-      → total unshaped_words code + total sizes.own
-      (uses_in k.core p k.homes (wanted_bytes (facts_of labels all) code) (numbers_left all code) code)
+      → total unshaped_words code + total sizes.own (uses_in k.core p k.homes
+      (wanted_bytes (facts_of (has_tables p.objects) labels all) code) (numbers_left all code) code)
       ≤ operations_words code
   own_sum labels all [] h q b t = omega arith
   own_sum labels all (i ∷ code) h q b t =
-      let at = facts_of labels all in
+      let at = facts_of (has_tables p.objects) labels all in
       let known = at.known (i ∷ code) in
       let others = uses_in k.core p k.homes (wanted_bytes at code) (numbers_left all code) code in
       let m = wanted_behind at.needed (needs at code) i in
@@ -308,15 +310,15 @@ module _ (laws : WordLaws) (routine_laws : RoutineLaws) (p : PlainProgram) (resu
     pub ops_few : (labels : ℕ → Need) (all : List PlainIr) (before : Option Told) (code : List PlainIr)
         → AreCovered p results f called k.slots code
         → AllByRecursion IsInPlace code → AllByRecursion HasTypeBytes code → AllByRecursion HasOperandTypes code
-        → code_words (ops_code p (home k.homes) k (facts_of labels all) before code)
-        ≤ total alone_words code + total (cost us)
-        (uses_in k.core p k.homes (wanted_bytes (facts_of labels all) code) (numbers_left all code) code)
+        → code_words (ops_code p (home k.homes) k (facts_of (has_tables p.objects) labels all) before code)
+        ≤ total alone_words code + total (cost us) (uses_in k.core p k.homes
+        (wanted_bytes (facts_of (has_tables p.objects) labels all) code) (numbers_left all code) code)
     ops_few labels all before [] h q b t = omega arith
     ops_few labels all before (i ∷ code) h q b t =
-        let at = facts_of labels all in
+        let at = facts_of (has_tables p.objects) labels all in
         let known = at.known (i ∷ code) in
         let behind = uses_in k.core p k.homes (wanted_bytes at code) (numbers_left all code) code in
-        let next = tells_next p at before i code in
+        let next = tells_next k.core p (home k.homes) at before i code in
         let m = wanted_behind at.needed (needs at code) i in
         let here = op_code p (home k.homes) k before next known (needs at code) i in
         let others = ops_code p (home k.homes) k at next code in
@@ -348,11 +350,11 @@ shapes_one p k known m i = by_shape (op_shapes i) refl where
   by_shape (s ∷ (r ∷ ss)) e = absurd (one_at_most i s r ss e)
 
 pub shapes_in : (p : PlainProgram) (k : Linkage) (labels : ℕ → Need) (all code : List PlainIr)
-    → map sizes.shape (uses_in k.core p k.homes (wanted_bytes (facts_of labels all) code) (numbers_left all code) code)
-    ≡ all_made op_shapes code
+    → map sizes.shape (uses_in k.core p k.homes (wanted_bytes (facts_of (has_tables p.objects) labels all) code)
+    (numbers_left all code) code) ≡ all_made op_shapes code
 shapes_in p k labels all [] = refl
 shapes_in p k labels all (i ∷ code) =
-    let at = facts_of labels all in
+    let at = facts_of (has_tables p.objects) labels all in
     let known = at.known (i ∷ code) in
     let m = wanted_behind at.needed (needs at code) i in
     let behind = uses_in k.core p k.homes (wanted_bytes at code) (numbers_left all code) code in

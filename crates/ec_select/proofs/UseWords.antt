@@ -1,14 +1,16 @@
 -- The words of each operation's own code: at most what it counts by itself, or its shape for one use.
-use Rattle.std.proofs.Common.{◌≡◌, ◌⊎◌, ℕ, ◌+◌, ◌≤◌, true, false, List, [], ◌∷◌, ◌++◌, refl, ap, arith}
-use Rattle.std.specs.Prelude.{⊤, Option, Some, None, option_map}
+use Rattle.std.proofs.Common.{◌≡◌, ◌⊎◌, ℕ, ◌+◌, ◌*◌, ◌≤◌, true, false, List, [], ◌∷◌, ◌++◌, refl, ap, arith}
+use Rattle.std.specs.Prelude.{⊤, ◌&&◌, Option, Some, None, option_map, max}
 use Rattle.std.specs.List.{AllByRecursion}
+use Rattle.std.proofs.lemmas.Bool.{and_parts}
 use Rattle.ec_asm.specs.Items.{code_words}
+use Rattle.ec_core.specs.Accesses.{element_size}
 use Rattle.ec_core.specs.Layout.{scalar_size}
 use Rattle.ec_core.specs.Plain.{PlainProgram}
 use Rattle.ec_core_shapes.specs.Shapes.{Shape, unary_shape, binary_shape, conversion_shape}
 use Rattle.ec_shapes.specs.Shapes.{total, all_made}
 use Rattle.ec_ir.specs.declared.operations.Temp.{Temp}
-use Rattle.ec_ir.specs.Costs.{op_words, index_words}
+use Rattle.ec_ir.specs.Costs.{op_words, binary_words, index_words}
 use Rattle.ec_ir.specs.Operations.{PlainIr, constant, copy, address, field, load_at, store_at, load_object}
 use Rattle.ec_ir.specs.Operations.{store_object, binary_op, unary_op, conversion, label, jump, branch_zero}
 use Rattle.ec_ir.specs.Operations.{call_function, return_from, port_in, port_out, load_cell, store_cell, cell_port}
@@ -19,19 +21,24 @@ use Rattle.ec_ir_known.specs.declared.known.RightNumber.{RightNumber}
 use Rattle.ec_ir_shapes.specs.Costs.{Code, in_line, callable, shape_code, own_in, shapes_with, own_words, op_shapes}
 use Rattle.ec_select_operations.specs.declared.families.Told.{Told}
 use Rattle.ec_select_operations.specs.declared.homes.Homes.{Homes}
-use Rattle.ec_select_operations.specs.Code.{Linkage, operation_code, displacement, result_wanted}
+use Rattle.ec_select_operations.specs.Code.{object_code, Linkage, operation_code, displacement, result_wanted, is_index}
+use Rattle.ec_select_operations.specs.Code.{is_signed, is_difference, offset_code, load_index_code, own_telling}
+use Rattle.ec_select_places.specs.Steps.{z_pair}
 use Rattle.ec_select_operations.specs.Homes.{home}
-use Rattle.ec_select_operations.specs.Needs.{Need, wanted, compared_bytes as bytes_compared}
+use Rattle.ec_select_operations.specs.Needs.{Need, wanted, moves_pointer, compared_bytes as bytes_compared}
 use Rattle.ec_select_operations.specs.Places.{object_location}
 use Rattle.ec_select_operations.specs.Pointers.{kept_in, has_tables}
 use Rattle.ec_select_operations.specs.Ports.{cell_place}
 use Rattle.ec_select_functions.specs.Covered.{IsCovered}
 use Rattle.ec_select_functions.proofs.Taken.{compared_within}
 use Rattle.ec_select.specs.InPlace.{IsInPlace}
-use Rattle.ec_select.proofs.OperationWords.{WordLaws, move_words, addressed_most, further_most, loaded_by_most, object_most, tested_most}
+use Rattle.ec_select.proofs.OperationWords.{WordLaws, move_words, addressed_most, further_most, loaded_by_most, stored_by_most}
+use Rattle.ec_select.proofs.OperationWords.{object_most, tested_most}
 use Rattle.ec_select.proofs.OperationWords.{jump_most}
-use Rattle.ec_select.proofs.OperationWords.{call_most, return_most, one_binary, one_unary, one_conversion}
-use Rattle.ec_select.proofs.OwnWords.{most_in, binary_own, unary_own, conversion_own}
+use Rattle.ec_select.proofs.OperationWords.{call_most, return_most, one_binary, one_unary, one_conversion, indexed_most}
+use Rattle.ec_select.proofs.Indexed.{index_few, moves_pointers, kind_words, index_most}
+use Rattle.ec_select.proofs.OwnWords.{most_in, binary_own, indexed_row, unary_own, conversion_own}
+use Rattle.ec_select.proofs.PointerTypes.{made_bytes}
 use Rattle.ec_select.proofs.PortItems.{point_words, in_words_most, out_words_most, cell_in_words, cell_out_words}
 use Rattle.ec_select.proofs.Words.{copy_words_most}
 
@@ -148,11 +155,17 @@ module _ (laws : WordLaws) (p : PlainProgram) (results : ℕ → ℕ) (f : ℕ) 
       → IsCovered p results f called k.slots i → IsInPlace i → HasTypeBytes i
       → code_words (operation_code p (home k.homes) k told telling known (result_wanted need i) kept i) ≤ use_words i
   use_most told telling known need kept (constant t n) h q b =
-      let x = (laws.values (home k.homes t) (low_bytes 16 n) (wanted need t) (wanted need t)).0 in omega (arith, x)
+      let x = (laws.puts (home k.homes t) (low_bytes 16 n) (wanted need t)).few_words in omega (arith, x)
   use_most told telling known need kept (copy to from) h q b =
       let x = move_words (home k.homes from) (home k.homes to) (wanted need to) in omega (arith, x)
   use_most told telling known need kept (load_object t o offset) h q b =
-      let x = object_most laws telling k.core (kept_in p o) p.objects o offset (home k.homes t) t.bytes h.0.some in omega (arith, x)
+      let some = h.0.some in
+      let own = load_index_code k.core (kept_in p o) p.objects o offset t.bytes in
+      let other = object_code (own_telling told telling) k.core (kept_in p o) p.objects o offset (home k.homes t) t.bytes in
+      let x = kind_words (is_index telling t.bytes) own other (2 + 5 * t.bytes)
+      (λ e. index_most k.core (kept_in p o) p.objects o offset t.bytes some (index_few telling t.bytes e))
+      (object_most laws (own_telling told telling) k.core (kept_in p o) p.objects o offset (home k.homes t) t.bytes some) in
+      omega (arith, x)
   use_most told telling known need kept (store_object o offset t) h q b =
       let x = copy_words_most (home k.homes t) (object_location p.objects o offset) t.bytes in omega (arith, x)
   use_most told telling known need kept (binary_op op ty mode to a aty c bty) h q b =
@@ -160,7 +173,13 @@ module _ (laws : WordLaws) (p : PlainProgram) (results : ℕ → ℕ) (f : ℕ) 
       let i = binary_op op ty mode to a aty c bty in
       at_most (code_words (operation_code p (home k.homes) k told telling known (wanted need to) kept i))
       (most_in (shape_code s)) (own_in (shape_code s) + total shape_most (shapes_with (shape_code s) s))
-      (binary_own laws k.core p known telling op ty aty bty mode k.slots k.homes to a c (wanted need to) h b.0 (omega arith) q)
+      (kind_words (is_index told c.bytes && moves_pointer op aty bty)
+      (offset_code k.core (is_difference op) (is_signed bty) (home k.homes a) z_pair (home k.homes to)
+      (max 2 (wanted need to)) c.bytes (element_size p aty) (wanted need to)) _ (most_in (shape_code s))
+      (λ e. indexed_row laws k.core p op mode k.slots k.homes to a c ty aty bty (wanted need to)
+      (moves_pointers p k.slots op to a c ty aty bty h (and_parts (is_index told c.bytes) (moves_pointer op aty bty) e).1) (omega arith))
+      (binary_own laws k.core p known (own_telling told telling) op ty aty bty mode k.slots k.homes to a c (wanted need to) h b.0
+      (omega arith) q))
       (shape_use (shape_code s) s refl)
   use_most told telling known need kept (unary_op op ty mode to a) h q b =
       let s = unary_shape op ty mode ty in
@@ -185,7 +204,9 @@ module _ (laws : WordLaws) (p : PlainProgram) (results : ℕ → ℕ) (f : ℕ) 
   use_most told telling known need kept (return_from from) h q b =
       let x = return_most laws (home k.homes) k.is_main from in omega (arith, x)
   use_most told telling known need kept (address t o offset) h q b =
-      let x = addressed_most laws k.core p o offset (home k.homes t) t.bytes (wanted need t) h.size in omega (arith, x)
+      let made = made_bytes (wanted need t) t.bytes h.size (omega arith) in
+      let few = made.1 in
+      let x = addressed_most laws k.core p o offset (home k.homes t) (max 2 (wanted need t)) (wanted need t) made.0 in omega (arith, x, few)
   use_most told telling known need kept (field ptr space offset) h q b =
       let x = further_most laws told telling k.core ptr.bytes (home k.homes ptr) offset in omega (arith, x)
   use_most told telling known need kept (load_at to ptr space) h q b =
@@ -193,7 +214,7 @@ module _ (laws : WordLaws) (p : PlainProgram) (results : ℕ → ℕ) (f : ℕ) 
       loaded_by_most laws (displacement told to.bytes) k.core (has_tables p.objects) space (home k.homes ptr) (home k.homes to) to.bytes in
       omega (arith, x)
   use_most told telling known need kept (store_at ptr space from) h q b =
-      let x = (laws.pointers 0 0 None (home k.homes from) (home k.homes ptr) from.bytes).5 in omega (arith, x)
+      let x = stored_by_most laws (displacement told from.bytes) (home k.homes from) (home k.homes ptr) from.bytes in omega (arith, x)
   use_most told telling known need kept (port_in to port index width) h q b =
       let x =
       in_words_most laws.values (option_map (home k.homes) index) (home k.homes to) port width
@@ -247,7 +268,13 @@ module _ (laws : WordLaws) (p : PlainProgram) (results : ℕ → ℕ) (f : ℕ) 
       → IsCovered p results f called k.slots i → IsInPlace i → HasTypeBytes i
       → code_words (operation_code p (home k.homes) k told telling known (result_wanted need i) kept i) ≤ op_words i
   op_most told telling known need kept (binary_op op ty mode to a aty c bty) h q b =
-      one_binary laws k.core p known telling op ty aty bty mode k.slots k.homes to a c (wanted need to) h (omega arith) q
+      kind_words (is_index told c.bytes && moves_pointer op aty bty)
+      (offset_code k.core (is_difference op) (is_signed bty) (home k.homes a) z_pair (home k.homes to)
+      (max 2 (wanted need to)) c.bytes (element_size p aty) (wanted need to)) _ (binary_words op ty aty bty)
+      (λ e. indexed_most laws k.core p op k.slots k.homes to a c ty aty bty (wanted need to)
+      (moves_pointers p k.slots op to a c ty aty bty h (and_parts (is_index told c.bytes) (moves_pointer op aty bty) e).1) (omega arith))
+      (one_binary laws k.core p known (own_telling told telling) op ty aty bty mode k.slots k.homes to a c (wanted need to) h
+      (omega arith) q)
   op_most told telling known need kept (unary_op op ty mode to a) h q b =
       one_unary laws op ty mode k.slots k.homes to a (wanted need to) h (omega arith)
   op_most told telling known need kept (conversion to ty mode a aty) h q b =

@@ -21,6 +21,7 @@ use Rattle.ec_select_functions.specs.Covered.{IsCovered}
 use Rattle.ec_select_functions.proofs.Cells.{functions_use}
 use Rattle.ec_select_operations.specs.Code.{Linkage}
 use Rattle.ec_select_operations.specs.Needs.{Need, facts_of}
+use Rattle.ec_select_operations.specs.Pointers.{has_tables}
 use Rattle.ec_select_startup.specs.Laws.{StartupIsValid, StartupUsesMain, StartupPlacesNoLabel}
 use Rattle.ec_select_startup.specs.Startup.{startup_code}
 use Rattle.ec_select.specs.Labels.{entry_label, function_label, first_label}
@@ -111,7 +112,8 @@ module _ (laws : CodeLaws) (core : Core) (p : PlainIrProgram) (valid : ValidWith
             let k = link core p valid has laws.leaves laws.pieces tables f g in
             let rest =
             operations_pass (own_sizes p valid) valid.0 (data_of p) k (has_room p valid f g e) (objects_fit p valid laws.leaves) laws.pieces
-            q passes has.results f (called_in g.code) (facts_of (tables f) g.code) None g.code (has.functions f g e)
+            q passes has.results f (called_in g.code) (facts_of (has_tables (data_of p).objects) (tables f) g.code) None g.code
+            (has.functions f g e)
             (functions_use valid.0 p valid.1 f g e) (accepts f g e) in
             rw (labels (function_label f), rest) refl
 

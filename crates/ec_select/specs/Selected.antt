@@ -8,6 +8,7 @@ use Rattle.ec_ir.specs.Valid.{ValidIr, called_in}
 use Rattle.ec_select_live.specs.Least.{IsLeast}
 use Rattle.ec_select_functions.specs.Covered.{AreCovered}
 use Rattle.ec_select_operations.specs.Needs.{Need, IsLive}
+use Rattle.ec_select_operations.specs.Pointers.{has_tables}
 use Rattle.ec_select.specs.Labels.{entry_label}
 use Rattle.ec_select.specs.Program.{functions_code, program_code}
 use Rattle.ec_select.specs.Sharing.{routines_code}
@@ -25,9 +26,10 @@ pub record HasCode (p : PlainIrProgram) : Type 0 where
 
 -- the tables tell for each of the first n functions what is needed at its labels, and no more
 pub record AreTables (p : PlainIrProgram) (tables : ℕ → ℕ → Need) (n : ℕ) : Type 0 where
-  pub live : (f : ℕ) (g : PlainIrFunction) → f < n → slice_get p.functions f ≡ Some g → IsLive (tables f) g.code
+  pub live : (f : ℕ) (g : PlainIrFunction) → f < n → slice_get p.functions f ≡ Some g
+      → IsLive (has_tables (data_of p).objects) (tables f) g.code
   pub least : (f : ℕ) (g : PlainIrFunction) → f < n → slice_get p.functions f ≡ Some g
-      → IsLeast g.slots (tables f) g.code
+      → IsLeast (has_tables (data_of p).objects) g.slots (tables f) g.code
 
 -- the items are the code of the functions for a core, behind others, and the routines that they call
 pub record AreWritten (core : Core) (p : PlainIrProgram) (before items : List AsmItem) : Type 0 where

@@ -20,6 +20,7 @@ use Rattle.ec_select_operations.specs.Code.{operation_code, called_code, wanted_
 use Rattle.ec_select_operations.specs.Emitted.{linkage}
 use Rattle.ec_select_operations.specs.Homes.{home}
 use Rattle.ec_select_operations.specs.Needs.{Need, nothing, facts_of, takes_count}
+use Rattle.ec_select_operations.specs.Pointers.{has_tables}
 use Rattle.ec_select_operations.specs.Routines.{routine_for}
 use Rattle.ec_select_routines.specs.Sizes.{Sizes, is_shared}
 use Rattle.ec_shapes.specs.Shapes.{has}
@@ -102,7 +103,8 @@ uses_in core p h (n ∷ wanted) (number ∷ known) (i ∷ code) =
 -- of the function with number f, where a table tells what is needed at its labels
 abbrev pub function_uses : Core → PlainIrProgram → (ℕ → Need) → ℕ → PlainIrFunction → List Use
 function_uses core p labels f g =
-    uses_in core (data_of p) (homes_of f g.code) (wanted_bytes (facts_of labels g.code) g.code) (right_numbers g.code) g.code
+    let at = facts_of (has_tables (data_of p).objects) labels g.code in
+    uses_in core (data_of p) (homes_of f g.code) (wanted_bytes at g.code) (right_numbers g.code) g.code
 
 -- of functions that are numbered from f on
 abbrev pub uses_from : Core → PlainIrProgram → (ℕ → ℕ → Need) → (f : ℕ) → List PlainIrFunction → List Use

@@ -19,7 +19,7 @@ use ec_core::leaves_fill_their_types;
 use ec_ir::{IrFunc, IrProgram};
 use ec_ir_known::{RightNumber, right_numbers};
 use ec_select_live::{LabelNeeds, kept, valid_operations_have_places, wanted};
-use ec_select_operations::{Linking, function, needed_functions_are_written};
+use ec_select_operations::{Linking, function, has_tables, needed_functions_are_written};
 use ec_space::{Core, NoMemory, Seq};
 use std::alloc::Global;
 
@@ -76,8 +76,9 @@ fn add_function(
     let of = linking(ir, core, f, g, first);
     let known = right_numbers(alloc, &g.code, g.slots)?;
     let numbers: &[Option<RightNumber>] = &known;
-    let bytes = wanted(alloc, table, &g.code, numbers, g.slots)?;
-    let keeps = kept(alloc, table, &g.code, numbers, g.slots)?;
+    let in_flash = has_tables(ir);
+    let bytes = wanted(alloc, table, in_flash, &g.code, numbers, g.slots)?;
+    let keeps = kept(alloc, table, in_flash, &g.code, numbers, g.slots)?;
     let code = g.code.as_slice();
     let called = routines_of(alloc, rows, routines, code)?;
     function(out, ir, of, f, code, &bytes, &keeps, numbers, &called)?;

@@ -18,7 +18,7 @@ use ec_core::leaves_fill_their_types;
 use ec_ir::{Ir, IrFunc, IrProgram};
 use ec_ir_known::{RightNumber, right_numbers};
 use ec_select_live::{LabelNeeds, valid_operations_have_places, wanted};
-use ec_select_operations::{Flags, Homes, Linking, called, operation, takes_count};
+use ec_select_operations::{Flags, Homes, Linking, called, has_tables, operation, takes_count};
 use ec_space::{Core, NoMemory, Seq, push};
 use std::alloc::Global;
 
@@ -205,7 +205,8 @@ fn add_function_uses<'a>(
     valid_operations_have_places();
     let known = right_numbers(alloc, &g.code, g.slots)?;
     let numbers: &[Option<RightNumber>] = &known;
-    let bytes = wanted(alloc, table, &g.code, numbers, g.slots)?;
+    let in_flash = has_tables(ir);
+    let bytes = wanted(alloc, table, in_flash, &g.code, numbers, g.slots)?;
     let code = g.code.as_slice();
     add_uses(
         alloc,

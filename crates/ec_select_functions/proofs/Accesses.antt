@@ -4,7 +4,7 @@ use Rattle.std.proofs.Common.{[]}
 use Rattle.std.proofs.Common.{◌∷◌, ◌++◌, Option, Some, None, refl, sym, ap, ◌∙◌, subst, arith, append-nil, append_assoc}
 use Rattle.std.specs.Prelude.{Bool, false, ◌==◌, if◌then◌else◌, drop, slice_get, slice_index, option_and_then}
 use Rattle.std.specs.List.{AllByRecursion, position_from}
-use Rattle.std.proofs.lemmas.Bool.{cases_eq, eqb-true}
+use Rattle.std.proofs.lemmas.Bool.{cases_eq, cases_lt, eqb-true, eq-eqb}
 use Rattle.ec_space.specs.declared.space.Bank.{Bank}
 use Rattle.ec_space.specs.declared.space.Bank.TheVariants.{Flash as FlashBank, Data as DataBank}
 use Rattle.ec_space.specs.declared.space.SpaceId.{SpaceId}
@@ -12,10 +12,11 @@ use Rattle.ec_space.specs.Spaces.{bank_of}
 use Rattle.ec_avr.specs.declared.machine.Access.{Access as MachineAccess}
 use Rattle.ec_avr.specs.declared.machine.Access.TheVariants.{Read as ByteRead, Write as ByteWrite}
 use Rattle.ec_asm.specs.declared.pieces.Location.{Location}
+use Rattle.ec_asm.specs.declared.pieces.Location.TheVariants.{InRegisters}
 use Rattle.ec_asm.specs.View.{View}
 use Rattle.ec_asm.specs.Change.{Env, Kind, Own, Object}
 use Rattle.ec_asm.specs.Items.{block}
-use Rattle.ec_asm.specs.Pieces.{StandsFrom, value, copy_code, copy_log, is_held}
+use Rattle.ec_asm.specs.Pieces.{StandsFrom, Outside, value, copy_code, copy_log, is_held}
 use Rattle.ec_asm.specs.PieceLaws.{AreHeld, HoldsNumbers, IsReadFirst}
 use Rattle.ec_asm.proofs.Compared.{copy_holds}
 use Rattle.ec_asm.proofs.Numbers.{value_below, value_digit, value_mod}
@@ -33,12 +34,13 @@ use Rattle.ec_core.specs.Valid.{IsObject, IsStored}
 use Rattle.ec_core.proofs.Filled.{leaves_fill_their_types}
 use Rattle.ec_ir.specs.declared.operations.Temp.{Temp}
 use Rattle.ec_ir.specs.Meaning.{is_kept, Mach, machine}
-use Rattle.ec_ir.specs.Temporaries.{content_of, with_temp, low_bytes}
+use Rattle.ec_ir.specs.Temporaries.{Content, bits, points, content_of, with_temp, low_bytes}
 use Rattle.ec_select_pointers.specs.AccessLaws.{each, Brings}
 use Rattle.ec_select_operations.specs.Homes.{HasHome}
 use Rattle.ec_select_functions.specs.Covered.{HasScalarAt}
-use Rattle.ec_select_operations.specs.Needs.{Need, wanted}
-use Rattle.ec_select_operations.specs.Places.{location_in, kind_in, ObjectLeaf, CanBeLiveTogether, AreDifferent}
+use Rattle.ec_select_places.specs.Steps.{z_pair}
+use Rattle.ec_select_operations.specs.Needs.{Need, wanted, without}
+use Rattle.ec_select_operations.specs.Places.{location_in, kind_in, IsClear, ObjectLeaf, CanBeLiveTogether, AreDifferent}
 use Rattle.ec_select_operations.specs.Pointers.{home_of, address_number}
 use Rattle.ec_select_functions.proofs.Setting.{Setting, together}
 use Rattle.ec_select_functions.specs.Relation.{byte_accesses, number_told, object_accesses, event_accesses, accesses}
@@ -46,7 +48,7 @@ use Rattle.ec_select_functions.specs.Relation.{HoldsContent, HoldsLeaf, FramesSt
 use Rattle.ec_select_functions.proofs.Cells.{memory_of, same_objects, same_groups}
 use Rattle.ec_select_functions.proofs.Match.{wanted_most, kept_left, held_row, same_content, same_leaf, at_width}
 use Rattle.ec_select_functions.proofs.Match.{written_wide}
-use Rattle.ec_select_functions.proofs.Moves.{Frame, Wide, widened, row_kept_wide, numbers_kept, work_kept}
+use Rattle.ec_select_functions.proofs.Moves.{Frame, Wide, widened, row_kept_wide, numbers_kept, work_kept, copied, z_stands}
 use Rattle.ec_select_functions.proofs.Wrapped.{low_below, low_of_number}
 
 -- ---- events
@@ -433,6 +435,92 @@ module _ (p : PlainProgram) (e : Env) (slots : ℕ) (home : Temp → Location) (
       subst (λ (b : ℕ). HoldsContent p place w.at (base t) (wanted need t) b (content_of b u)) size part in
       was_read bank l space t need need0 m v w c u it z more here frame numbers inputs safe seen
 
+  -- the bytes of a leaf have been brought to R30 and R31, and nothing is needed of the temporary
+  pub loaded_aside : (bank : Bank) (l : ObjectLeaf p bank) (space : SpaceId) (t : Temp) (need : Need) (m : Mach) (v w : View)
+      (c : ℕ) (u : Value) → HasHome slots t → l.bytes ≡ t.bytes → A (without t.at need) m v
+      → HoldsLeaf p place (bytes_of bank v) (place l.object + l.at) l.bytes u
+      → ((j : ℕ) → j < l.bytes → w.at (30 + j) ≡ bytes_of bank v (place l.object + l.at + j))
+      → Wide v w (base t) t.bytes → HoldsNumbers w → w.inputs ≡ v.inputs → w.safe ≡ v.safe
+      → w.seen ≡ v.seen
+      ++ log_of (kind_in l.declared.storage) (ByteRead bank) (place l.object + l.at) (seen_number p place l.bytes (told u)) l.bytes
+      → A (without t.at need) (machine (with_temp t u m.temps) (after_read bank l space u (worked c m.state))) w
+      × HoldsContent p place w.at 30 t.bytes t.bytes (content_of t.bytes u)
+  loaded_aside bank l space t need m v w c u it size z holds there frame numbers inputs safe seen =
+      let storage = l.declared.storage in
+      let s = worked c m.state in
+      let s1 = after_read bank l space u s in
+      let number = seen_number p place l.bytes (told u) in
+      let log = log_of (kind_in storage) (ByteRead bank) (place l.object + l.at) number l.bytes in
+      let is_seen : w.seen ≡ accesses p place s1.events =
+      seen ∙ ap (λ b. b ++ log) z.seen ∙ sym (read_seen p bank place l space (told u) s storage) in (
+        written_wide p e slots home base place y t (content_of t.bytes u) (without t.at need) (without t.at need) m s1 v w it z
+            (λ b d. omega arith) frame here numbers (recorded_memory storage _ s) is_seen
+            (λ port. kept_left y.inputs m.state v w inputs z.left port ∙ sym (recorded_left y.inputs port storage _ s refl))
+            (safe ∙ z.safe),
+        subst (λ (n : ℕ). HoldsContent p place w.at 30 n t.bytes (content_of t.bytes u)) size (part l.bytes (omega arith)),
+      )
+    where
+      held : AreHeld w.at 30 l.bytes
+      held j r = numbers (30 + j) (omega arith)
+
+      part : (n : ℕ) → n ≤ l.bytes → HoldsContent p place w.at 30 n t.bytes (content_of t.bytes u)
+      part n few =
+          subst (λ (b : ℕ). HoldsContent p place w.at 30 n b (content_of b u)) size
+          (leaf_content p place w.at 30 l.bytes n u few held
+          (moved_leaf p place (bytes_of bank v) w.at (place l.object + l.at) 30 l.bytes u there holds))
+
+      -- no byte of a content stands anywhere
+      moved : (content : Content) → HoldsContent p place w.at 30 0 t.bytes content → HoldsContent p place w.at (base t) 0 t.bytes content
+      moved (bits low) h = h
+      moved (points q) h = h
+
+      none_left : without t.at need t.at ≡ 0
+      none_left = ap (λ (x : Bool). if x then 0 else need t.at) (eq-eqb t.at t.at refl)
+
+      gone : wanted (without t.at need) t ≡ 0
+      gone = omega (arith, none_left)
+
+      here : HoldsContent p place w.at (base t) (wanted (without t.at need) t) t.bytes (content_of t.bytes u)
+      here =
+          subst (λ (n : ℕ). HoldsContent p place w.at (base t) n t.bytes (content_of t.bytes u)) (sym gone)
+          (moved (content_of t.bytes u) (part 0 (omega arith)))
+
+  -- R30 and R31 are work registers
+  pub work_wide : (v w : View) (n b m : ℕ) → n ≤ 2 → ((k : ℕ) → k ≢ 0 → Outside 30 n k → w.at k ≡ v.at k) → Wide v w b m
+  work_wide v w n b m few same k x0 x1 low high o = same k x0 (λ q. let z = high (omega arith) in omega (arith, z, few))
+
+  -- by a copy
+  pub load_aside_matches : (l : ObjectLeaf p DataBank) (space : SpaceId) (t : Temp) (need : Need) (m : Mach) (v : View)
+      (c : ℕ) (u : Value) → HasHome slots t → l.bytes ≡ t.bytes → t.bytes ≤ 2 → A (without t.at need) m v
+      → HoldsLeaf p place v.at (place l.object + l.at) l.bytes u
+      → let w = block e (copy_code (location_in l.declared.storage l.object l.at) z_pair t.bytes) v in
+      A (without t.at need) (machine (with_temp t u m.temps) (after_read DataBank l space u (worked c m.state))) w
+      × HoldsContent p place w.at 30 t.bytes t.bytes (content_of t.bytes u)
+  load_aside_matches l space t need m v c u it size few z holds =
+      let storage = l.declared.storage in
+      let a = place l.object + l.at in
+      let n = t.bytes in
+      let from = location_in storage l.object l.at in
+      let v1 = block e (copy_code from z_pair n) v in
+      let sa : StandsFrom e from n a (kind_in storage) =
+      subst (λ (b : ℕ). StandsFrom e from b a (kind_in storage)) size (y.layout.leaves_at l) in
+      let off : IsClear a n = subst (λ (b : ℕ). IsClear a b) size (y.layout.leaves_work l) in
+      let far : IsReadFirst a 30 n =
+      λ r. ⊎_elim (λ (q : a < 26). let z = off.high.left q in omega (arith, z))
+      (λ (q : 26 ≤ a). let z = off.high.right q in absurd (omega (arith, z, r)))
+      (cases_lt a 26) in
+      let d = copy_holds e from z_pair n a 30 (kind_in storage) Own v sa (z_stands e n) (storage_held storage) refl far in
+      let held = leaf_bytes DataBank l v z.bytes in
+      let log =
+      read_log storage a 30 l.bytes (seen_number p place l.bytes (told u)) v.at
+      (told_digit p place v.at a l.bytes u held holds) in
+      let frame : Frame v v1 30 n = λ b f g h r. d.same b f r in
+      let work = work_kept v v1 a 30 n sa.clear z.bytes d.there d.same in
+      let numbers = numbers_kept v v1 30 n z.bytes frame (λ j r. rw (d.there j r) (held j (omega (arith, size)))) work in
+      loaded_aside DataBank l space t need m v v1 c u it size z holds (λ j r. d.there j (omega (arith, size)))
+      (work_wide v v1 n (base t) n few (λ k f r. d.same k f r)) numbers d.inputs d.safe
+      (d.seen ∙ ap (λ b. v.seen ++ b) (ap (λ (b : ℕ). copy_log (kind_in storage) Own a 30 v.at b) (sym size) ∙ log))
+
   -- by a copy
   pub load_matches : (l : ObjectLeaf p DataBank) (space : SpaceId) (t : Temp) (need need0 : Need) (m : Mach) (v : View)
       (c : ℕ) (u : Value) → HasHome slots t → l.bytes ≡ t.bytes → A need0 m v → ((u : ℕ) → u ≢ t.at → need u ≤ need0 u)
@@ -485,6 +573,39 @@ module _ (p : PlainProgram) (e : Env) (slots : ℕ) (home : Temp → Location) (
       loaded bank l space t need need0 m v w c u it size z more holds (λ j r. d.there j (omega (arith, size)))
       (wide_of v w (base t) n byte _ d) (d.numbers z.bytes (λ j r. held j (omega (arith, size)))) d.inputs d.safe
       (d.seen ∙ ap (λ b. v.seen ++ b) logged)
+
+  -- by such code to R26 and R27, and from there to R30 and R31
+  pub load_aside_brings : (bank : Bank) (l : ObjectLeaf p bank) (space : SpaceId) (t : Temp) (need : Need) (m : Mach) (v w : View)
+      (c : ℕ) (u : Value) → HasHome slots t → l.bytes ≡ t.bytes → t.bytes ≤ 2 → kind_in l.declared.storage ≡ Object
+      → A (without t.at need) m v → HoldsLeaf p place (bytes_of bank v) (place l.object + l.at) l.bytes u
+      → Brings v 26 t.bytes (λ i. bytes_of bank v (place l.object + l.at + i))
+      (each (ByteRead bank) (place l.object + l.at) (λ i. bytes_of bank v (place l.object + l.at + i)) t.bytes) w
+      → let w1 = block e (copy_code (InRegisters 26) z_pair t.bytes) w in
+      A (without t.at need) (machine (with_temp t u m.temps) (after_read bank l space u (worked c m.state))) w1
+      × HoldsContent p place w1.at 30 t.bytes t.bytes (content_of t.bytes u)
+  load_aside_brings bank l space t need m v w c u it size few kind z holds d =
+      let a = place l.object + l.at in
+      let n = t.bytes in
+      let byte = λ (i : ℕ). bytes_of bank v (a + i) in
+      let number = seen_number p place l.bytes (told u) in
+      let held = leaf_bytes bank l v z.bytes in
+      let log : each (ByteRead bank) a byte l.bytes ≡ byte_accesses (ByteRead bank) a number l.bytes =
+      each_log (ByteRead bank) a l.bytes number byte (told_digit p place (bytes_of bank v) a l.bytes u held holds) in
+      let logged : each (ByteRead bank) a byte n ≡ log_of (kind_in l.declared.storage) (ByteRead bank) a number l.bytes =
+      ap (each (ByteRead bank) a byte) (sym size) ∙ log ∙ ap (λ k. log_of k (ByteRead bank) a number l.bytes) (sym kind) in
+      let numbers = d.numbers z.bytes (λ j r. held j (omega (arith, size))) in
+      let stands : StandsFrom e (InRegisters 26) n 26 Own = record { at = λ i r. refl; kind = λ i r. refl; clear = omega arith } in
+      let x = copied e (InRegisters 26) z_pair n 26 30 w stands (z_stands e n) (λ r. omega (arith, few)) numbers in
+      let w1 = block e (copy_code (InRegisters 26) z_pair n) w in
+      let brought : (j : ℕ) → j < n → w1.at (30 + j) ≡ byte j = λ j r. x.there j r ∙ d.there j r in
+      let frame : Wide v w1 (base t) n =
+      λ k f g low high o.
+      let off : (i : ℕ) → 26 ≤ i → i + n ≤ 32 → Outside i n k = λ i r b q. (let y = high (omega (arith, r, q)) in omega (arith, y, b)) in
+      x.frame k f g (λ q. let y = high (omega (arith, q)) in omega (arith, y, q)) (off 30 (omega arith) (omega (arith, few)))
+      ∙ wide_of v w 26 n byte _ d k f g low high (off 26 (omega arith) (omega (arith, few))) in
+      loaded_aside bank l space t need m v w1 c u it size z holds (λ j r. brought j (omega (arith, size, r))) frame
+      (numbers_kept w w1 30 n numbers x.frame (λ j r. rw (brought j r) (held j (omega (arith, size, r)))) x.work)
+      (x.quiet.inputs ∙ d.inputs) (x.quiet.safe ∙ d.safe) (x.quiet.seen ∙ d.seen ∙ ap (λ b. v.seen ++ b) logged)
 
   -- ---- stores
 

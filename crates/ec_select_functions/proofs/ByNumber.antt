@@ -1,10 +1,9 @@
 -- Operators whose second operand is a known number.
-use Rattle.std.proofs.Common.{◌≡◌, ◌≢◌, ℕ, zero, suc, ◌+◌, ◌*◌, ◌/◌, ◌%◌, ◌^◌, ◌<◌, ◌≤◌, ⊎_elim, Bool, true, false, ℤ, not}
-use Rattle.std.proofs.Common.{pos, negsuc, int_lt, nat_lt, ◌&&◌, [], ◌∷◌, min}
+use Rattle.std.proofs.Common.{◌≡◌, ◌≢◌, ℕ, zero, suc, ◌+◌, ◌*◌, ◌/◌, ◌%◌, ◌^◌, ◌<◌, ◌≤◌, Bool, true, false, ℤ, not}
+use Rattle.std.proofs.Common.{pos, negsuc, int_lt, nat_lt, ◌&&◌, ◌||◌, [], ◌∷◌, min}
 use Rattle.std.proofs.Common.{Some, None, Option, ◌++◌, refl, sym, ap, ◌∙◌, subst, arith, bit_and, bit_or, eqb-true}
 use Rattle.std.specs.Prelude.{◌==◌, if◌then◌else◌}
-use Rattle.std.specs.Int.{from_bool}
-use Rattle.std.proofs.lemmas.Bool.{and_parts, eq-eqb, ne_eqb, cases_eq}
+use Rattle.std.proofs.lemmas.Bool.{and_parts, eq-eqb}
 use Rattle.std.proofs.lemmas.Bool.Decides.{nat_tests}
 use Rattle.std.proofs.lemmas.Nat.{and_mod, or_mod, div-add-mod'}
 use native.Mathlib.Nat.{pow-suc}
@@ -12,12 +11,13 @@ use Rattle.ec_asm.specs.declared.pieces.Location.{Location}
 use Rattle.ec_asm.specs.declared.pieces.Operator.{Operator}
 use Rattle.ec_asm.specs.declared.pieces.Operator.TheVariants.{Sum, Difference, BitAnd, BitOr, BitXor}
 use Rattle.ec_asm.specs.View.{View}
-use Rattle.ec_asm.specs.Change.{Env, Own, flag_at}
+use Rattle.ec_asm.specs.Change.{Env, Own}
 use Rattle.ec_asm.specs.Items.{block, all_straight, code_steps}
 use Rattle.ec_asm.specs.Pieces.{StandsFrom, Outside, value, bitwise}
 use Rattle.ec_asm.specs.PieceLaws.{HoldsNumbers}
 use Rattle.ec_asm.proofs.Hoare.{block-append}
 use Rattle.ec_asm.proofs.Numbers.{value_digit, mod_less, mod_beside, pow_pos}
+use Rattle.ec_core.specs.declared.expressions.BinOp.{BinOp}
 use Rattle.ec_core.specs.declared.values.ObjectPointer.{ObjectPointer}
 use Rattle.ec_core.specs.Plain.{PlainProgram, PlainType, fixed}
 use Rattle.ec_fx.specs.declared.formats.FxKind.{FxKind}
@@ -28,23 +28,21 @@ use Rattle.ec_ir.specs.Temporaries.{bits, points, Held, Temps, with_content, low
 use Rattle.ec_ir_known.specs.declared.known.KnownNumber.{KnownNumber}
 use Rattle.ec_ir_known.specs.declared.known.RightNumber.{RightNumber}
 use Rattle.ec_ir_known.specs.Known.{Known, of_bytes, number_in, is_any, is_byte_of, is_byte, fits_byte, fits_second, is_wide_type, right_of}
+use Rattle.ec_ir_known.specs.Known.{changes_byte, takes_alone}
 use Rattle.ec_ir_known.specs.Laws.{is_held, are_held, are_bits}
-use Rattle.ec_select_bytes.specs.Values.{byte_of, constant_code}
-use Rattle.ec_select_bytes.proofs.Constants.{constants_are_right}
+use Rattle.ec_select_bytes.specs.Values.{byte_of}
 use Rattle.ec_select_numbers.specs.declared.operators.ByNumber.{ByNumber}
 use Rattle.ec_select_numbers.specs.declared.operators.ByNumber.TheVariants.{Subtract, Mask, Set}
 use Rattle.ec_select_numbers.specs.ByNumber.{as_operator, changed_code}
-use Rattle.ec_select_numbers.specs.Laws.{KeepsOthers, ComparesWith}
+use Rattle.ec_select_numbers.specs.Laws.{KeepsBeside}
 use Rattle.ec_select_operations.specs.Code.{move_code, changed_by_code}
 use Rattle.ec_select_operations.specs.Homes.{HasHome}
 use Rattle.ec_select_operations.specs.Needs.{Need, at_least, without, wanted, compared_bytes, number_known}
-use Rattle.ec_select_order.specs.declared.relations.Relation.{Relation}
-use Rattle.ec_select_order.specs.declared.relations.Relation.TheVariants.{Less, NotLess, Equal, NotEqual}
-use Rattle.ec_select_order.specs.Relations.{stand_so, is_less, flag_of, is_set}
-use Rattle.ec_select_functions.proofs.Computed.{result_of, result_below, results, byte_below, stand, moved_numbers}
+use Rattle.ec_select_functions.proofs.Computed.{result_of, result_below, results, stand, moved_numbers}
 use Rattle.ec_select_functions.proofs.Match.{kept_left, wanted_most, least_here, least_other, without_other, at_width}
-use Rattle.ec_select_functions.proofs.Match.{read_first, written, held_row}
-use Rattle.ec_select_functions.proofs.Moves.{Frame, Quiet, wider_frame, work_outside, narrower, numbers_kept, row_value}
+use Rattle.ec_select_functions.proofs.Match.{read_first, written_wide, held_row}
+use Rattle.ec_select_functions.proofs.Moves.{Wide, Quiet, widened, beside_work, wider_frame, wider_wide, work_outside, narrower}
+use Rattle.ec_select_functions.proofs.Moves.{row_value}
 use Rattle.ec_select_functions.proofs.Moves.{move_holds}
 use Rattle.ec_select_functions.proofs.Setting.{Setting, NumberLaws}
 use Rattle.ec_select_functions.proofs.Taken.{is_changed, TakenNumber, as_known, no_number}
@@ -65,11 +63,11 @@ number_held (Some n) h bytes low k q r s = by_size (n.bytes == bytes) refl r
     by_size : (x : Bool) → (n.bytes == bytes) ≡ x → (if x then n.number else None) ≡ Some k → low ≡ low_bytes bytes k
     by_size false e r = let no : None ≡ Some k = r in absurd cc
     by_size true e r =
-        let parts = and_parts (bytes == n.bytes) (are_bits n.number n.bytes (bits low)) t in
+        let parts = and_parts (bytes == n.bytes) (are_bits n.number n.width n.bytes (bits low)) t in
         let size : n.bytes ≡ bytes = eqb-true n.bytes bytes e in
-        let there : are_bits (Some k) bytes (bits low) ≡ true =
-        subst (λ (x : ℕ). are_bits (Some k) x (bits low) ≡ true) size
-        (subst (λ (x : Option ℤ). are_bits x n.bytes (bits low) ≡ true) r parts.1) in
+        let there : are_bits (Some k) n.width bytes (bits low) ≡ true =
+        subst (λ (x : ℕ). are_bits (Some k) n.width x (bits low) ≡ true) size
+        (subst (λ (x : Option ℤ). are_bits x n.width n.bytes (bits low) ≡ true) r parts.1) in
         eqb-true low (low_bytes bytes k) there
 
 -- or one below 256
@@ -81,17 +79,21 @@ byte_held (Some n) h bytes low q r s = by_number n.number refl
     t : is_held (Some n) (Some (record { bytes = bytes; content = bits low })) ≡ true
     t = subst (λ (x : Option Held). is_held (Some n) x ≡ true) s q
 
-    any : is_any n.number ≡ true
-    any = (and_parts (n.bytes == bytes) (is_any n.number) r).1
+    any : is_any n.number n.width 1 ≡ true
+    any = (and_parts (n.bytes == bytes) (is_any n.number n.width 1) r).1
 
-    there : are_bits n.number n.bytes (bits low) ≡ true
-    there = (and_parts (bytes == n.bytes) (are_bits n.number n.bytes (bits low)) t).1
+    there : are_bits n.number n.width n.bytes (bits low) ≡ true
+    there = (and_parts (bytes == n.bytes) (are_bits n.number n.width n.bytes (bits low)) t).1
 
     by_number : (x : Option ℤ) → n.number ≡ x → low < 256
     by_number None e =
-        let l : are_bits None n.bytes (bits low) ≡ true = subst (λ (x : Option ℤ). are_bits x n.bytes (bits low) ≡ true) e there in
+        let one : (n.width == 1) ≡ true = subst (λ (x : Option ℤ). is_any x n.width 1 ≡ true) e any in
+        let l : nat_lt low 256 ≡ true =
+        subst (λ (x : ℕ). nat_lt low (256 ^ x) ≡ true) (eqb-true n.width 1 one)
+        (subst (λ (x : Option ℤ). are_bits x n.width n.bytes (bits low) ≡ true) e there) in
         grind (arith, nat_tests, l)
-    by_number (Some k) e = let no : is_any (Some k) ≡ true = subst (λ (x : Option ℤ). is_any x ≡ true) e any in absurd cc
+    by_number (Some k) e =
+        let no : is_any (Some k) n.width 1 ≡ true = subst (λ (x : Option ℤ). is_any x n.width 1 ≡ true) e any in absurd cc
 
 -- several bytes below 256 are those of no pointer
 byte_points : (o : Option KnownNumber) (h : Option Held) (bytes : ℕ) (q : ObjectPointer) → is_held o h ≡ true
@@ -102,19 +104,23 @@ byte_points (Some n) h bytes q held r l s = by_number n.number refl
     t : is_held (Some n) (Some (record { bytes = bytes; content = points q })) ≡ true
     t = subst (λ (x : Option Held). is_held (Some n) x ≡ true) s held
 
-    parts : ((n.bytes == bytes) ≡ true) × (is_any n.number ≡ true)
-    parts = and_parts (n.bytes == bytes) (is_any n.number) r
+    parts : ((n.bytes == bytes) ≡ true) × (is_any n.number n.width 1 ≡ true)
+    parts = and_parts (n.bytes == bytes) (is_any n.number n.width 1) r
 
-    there : are_bits n.number n.bytes (points q) ≡ true
-    there = (and_parts (bytes == n.bytes) (are_bits n.number n.bytes (points q)) t).1
+    there : are_bits n.number n.width n.bytes (points q) ≡ true
+    there = (and_parts (bytes == n.bytes) (are_bits n.number n.width n.bytes (points q)) t).1
 
     by_number : (x : Option ℤ) → n.number ≡ x → ⊥
     by_number None e =
-        let one : (n.bytes == 1) ≡ true = subst (λ (x : Option ℤ). are_bits x n.bytes (points q) ≡ true) e there in
+        let all : (n.bytes == n.width) ≡ true =
+        subst (λ (x : Option ℤ). are_bits x n.width n.bytes (points q) ≡ true) e there in
+        let one : (n.width == 1) ≡ true = subst (λ (x : Option ℤ). is_any x n.width 1 ≡ true) e parts.1 in
         let size = eqb-true n.bytes bytes parts.0 in
-        let same = eqb-true n.bytes 1 one in
-        absurd (omega (arith, size, same, l))
-    by_number (Some k) e = let no : is_any (Some k) ≡ true = subst (λ (x : Option ℤ). is_any x ≡ true) e parts.1 in absurd cc
+        let same = eqb-true n.bytes n.width all in
+        let first = eqb-true n.width 1 one in
+        absurd (omega (arith, size, same, first, l))
+    by_number (Some k) e =
+        let no : is_any (Some k) n.width 1 ≡ true = subst (λ (x : Option ℤ). is_any x n.width 1 ≡ true) e parts.1 in absurd cc
 
 -- so many bytes of what a branch tests tell whether it is 0
 pub record AreTested (t : Temp) (size : ℕ) (temps : Temps) : Type 0 where
@@ -124,13 +130,13 @@ pub record AreTested (t : Temp) (size : ℕ) (temps : Temps) : Type 0 where
   pub pointer : (q : ObjectPointer) → temps t.at ≡ Some (record { bytes = t.bytes; content = points q }) → size ≡ t.bytes
 
 pub tested_held : (known : Known) (t : Temp) (temps : Temps) → 1 ≤ t.bytes → are_held known temps (t.at ∷ []) ≡ true
-    → AreTested t (compared_bytes (right_of (fits_byte known t) false (Some (pos 0))) t.bytes) temps
+    → AreTested t (compared_bytes (right_of false (fits_byte known t) false (Some (pos 0))) t.bytes) temps
 tested_held known t temps some held = by_byte (fits_byte known t) refl
   where
     first : is_held (known t.at) (temps t.at) ≡ true
     first = (and_parts (is_held (known t.at) (temps t.at)) true held).0
 
-    by_byte : (x : Bool) → fits_byte known t ≡ x → AreTested t (compared_bytes (right_of x false (Some (pos 0))) t.bytes) temps
+    by_byte : (x : Bool) → fits_byte known t ≡ x → AreTested t (compared_bytes (right_of false x false (Some (pos 0))) t.bytes) temps
     by_byte false e = record { some = some; within = omega arith; number = λ low s l. l; pointer = λ q s. refl }
     by_byte true e =
         let sides = and_parts (nat_lt 1 t.bytes) (is_byte_of t.bytes (known t.at)) e in
@@ -152,23 +158,27 @@ pub record HoldsRight (a b : Temp) (k : TakenNumber) (temps : Temps) : Type 0 wh
       × ((low : ℕ) → temps a.at ≡ Some (record { bytes = a.bytes; content = bits low }) → low < 256)
 
 -- or of which it is only known that both are below 256
-pub record AreBytes (a b : Temp) (k : RightNumber) (temps : Temps) : Type 0 where
-  pub byte : k.in_byte ≡ true
+pub record AreBytes (a b : Temp) (temps : Temps) : Type 0 where
   pub more : 1 < a.bytes
   pub left : (low : ℕ) → temps a.at ≡ Some (record { bytes = a.bytes; content = bits low }) → low < 256
   pub right : (low : ℕ) → temps b.at ≡ Some (record { bytes = b.bytes; content = bits low }) → low < 256
 
-none_of_both : (x : Bool) (k : TakenNumber)
-    → (if x then Some (record { number = None; in_byte = true }) else None) ≡ Some (as_known k) → ⊥
-none_of_both false k q = let no : None ≡ Some (as_known k) = q in absurd cc
-none_of_both true k q =
-    let is : record { number = None; in_byte = true } ≡ as_known k = cc in
+-- or of which the second one alone is, and does not stand at the result's place
+pub record IsAlone (to b : Temp) (temps : Temps) : Type 0 where
+  pub apart : to.at ≢ b.at
+  pub below : (low : ℕ) → temps b.at ≡ Some (record { bytes = b.bytes; content = bits low }) → low < 256
+
+none_of_both : (x byte : Bool) (k : TakenNumber)
+    → (if x then Some (record { number = None; in_byte = byte }) else None) ≡ Some (as_known k) → ⊥
+none_of_both false byte k q = let no : None ≡ Some (as_known k) = q in absurd cc
+none_of_both true byte k q =
+    let is : record { number = None; in_byte = byte } ≡ as_known k = cc in
     let no : None ≡ Some k.number = ap (λ (x : RightNumber). x.number) is in absurd cc
 
-pub right_held : (known : Known) (a b : Temp) (bty : PlainType) (k : TakenNumber) (temps : Temps)
-    → right_of (fits_byte known a) (fits_second known b bty) (number_in known b) ≡ Some (as_known k)
+pub right_held : (known : Known) (alone : Bool) (a b : Temp) (bty : PlainType) (k : TakenNumber) (temps : Temps)
+    → right_of alone (fits_byte known a) (fits_second known b bty) (number_in known b) ≡ Some (as_known k)
     → are_held known temps (b.at ∷ a.at ∷ []) ≡ true → HoldsRight a b k temps
-right_held known a b bty k temps q held = by_number (number_in known b) refl q
+right_held known alone a b bty k temps q held = by_number (number_in known b) refl q
   where
     both : (is_held (known b.at) (temps b.at) ≡ true) × ((is_held (known a.at) (temps a.at) && true) ≡ true)
     both = and_parts (is_held (known b.at) (temps b.at)) (is_held (known a.at) (temps a.at) && true) held
@@ -179,9 +189,9 @@ right_held known a b bty k temps q held = by_number (number_in known b) refl q
     byte : Bool
     byte = fits_byte known a
 
-    by_number : (o : Option ℤ) → number_in known b ≡ o → right_of byte (fits_second known b bty) o ≡ Some (as_known k)
+    by_number : (o : Option ℤ) → number_in known b ≡ o → right_of alone byte (fits_second known b bty) o ≡ Some (as_known k)
         → HoldsRight a b k temps
-    by_number None e q = absurd (none_of_both (byte && fits_second known b bty) k q)
+    by_number None e q = absurd (none_of_both ((alone || byte) && fits_second known b bty) (not alone) k q)
     by_number (Some n) e q =
         let is : record { number = Some n; in_byte = byte && is_byte n } ≡ as_known k = cc in
         let some : Some n ≡ Some k.number = ap (λ (x : RightNumber). x.number) is in
@@ -199,84 +209,108 @@ right_held known a b bty k temps q held = by_number (number_in known b) refl q
               );
         }
 
-pub number_there : (known : Known) (a b : Temp) (bty : PlainType) (k : ℤ) (temps : Temps)
-    → number_known (right_of (fits_byte known a) (fits_second known b bty) (number_in known b)) ≡ Some k
+pub number_there : (known : Known) (alone : Bool) (a b : Temp) (bty : PlainType) (k : ℤ) (temps : Temps)
+    → number_known (right_of alone (fits_byte known a) (fits_second known b bty) (number_in known b)) ≡ Some k
     → are_held known temps (b.at ∷ a.at ∷ []) ≡ true
     → (low : ℕ) → temps b.at ≡ Some (record { bytes = b.bytes; content = bits low }) → low ≡ low_bytes b.bytes k
-number_there known a b bty k temps q held low s = by_number (number_in known b) refl q
+number_there known alone a b bty k temps q held low s = by_number (number_in known b) refl q
   where
     first : is_held (known b.at) (temps b.at) ≡ true
     first = (and_parts (is_held (known b.at) (temps b.at)) (is_held (known a.at) (temps a.at) && true) held).0
 
-    none : (x : Bool) → number_known (if x then Some (record { number = None; in_byte = true }) else None) ≡ None
+    none : (x : Bool) → number_known (if x then Some (record { number = None; in_byte = not alone }) else None) ≡ None
     none true = refl
     none false = refl
 
-    by_number : (o : Option ℤ) → number_in known b ≡ o → number_known (right_of (fits_byte known a) (fits_second known b bty) o) ≡ Some k
-        → low ≡ low_bytes b.bytes k
+    by_number : (o : Option ℤ) → number_in known b ≡ o
+        → number_known (right_of alone (fits_byte known a) (fits_second known b bty) o) ≡ Some k → low ≡ low_bytes b.bytes k
     by_number None e q =
-        let no : None ≡ Some k = sym (none (fits_byte known a && fits_second known b bty)) ∙ q in absurd cc
+        let no : None ≡ Some k = sym (none ((alone || fits_byte known a) && fits_second known b bty)) ∙ q in absurd cc
     by_number (Some n) e q =
         let is : Some n ≡ Some k = q in number_held (known b.at) (temps b.at) b.bytes low k first (e ∙ is) s
 
-pub bytes_held : (known : Known) (a b : Temp) (bty : PlainType) (byte : Bool) (temps : Temps)
-    → right_of (fits_byte known a) (fits_second known b bty) (number_in known b) ≡ Some (no_number byte)
-    → are_held known temps (b.at ∷ a.at ∷ []) ≡ true → AreBytes a b (no_number byte) temps
-bytes_held known a b bty byte temps q held = by_number (number_in known b) q
+-- what is known of operands, of which no number is
+record IsOfBytes (known : Known) (alone : Bool) (a b : Temp) (bty : PlainType) (byte : Bool) : Type 0 where
+  which : byte ≡ not alone
+  first : (alone || fits_byte known a) ≡ true
+  second : fits_second known b bty ≡ true
+
+of_bytes_known : (known : Known) (alone : Bool) (a b : Temp) (bty : PlainType) (byte : Bool)
+    → right_of alone (fits_byte known a) (fits_second known b bty) (number_in known b) ≡ Some (no_number byte)
+    → IsOfBytes known alone a b bty byte
+of_bytes_known known alone a b bty byte q = by_number (number_in known b) q
   where
-    k : RightNumber
-    k = no_number byte
-
-    both : (is_held (known b.at) (temps b.at) ≡ true) × ((is_held (known a.at) (temps a.at) && true) ≡ true)
-    both = and_parts (is_held (known b.at) (temps b.at)) (is_held (known a.at) (temps a.at) && true) held
-
-    first : is_held (known a.at) (temps a.at) ≡ true
-    first = (and_parts (is_held (known a.at) (temps a.at)) true both.1).0
-
-    by_both : (x : Bool) → (fits_byte known a && fits_second known b bty) ≡ x
-        → (if x then Some (no_number true) else None) ≡ Some k → AreBytes a b k temps
-    by_both false e q = let no : None ≡ Some k = q in absurd cc
+    by_both : (x : Bool) → ((alone || fits_byte known a) && fits_second known b bty) ≡ x
+        → (if x then Some (no_number (not alone)) else None) ≡ Some (no_number byte) → IsOfBytes known alone a b bty byte
+    by_both false e q = let no : None ≡ Some (no_number byte) = q in absurd cc
     by_both true e q =
-        let is : no_number true ≡ k = cc in
-        let parts = and_parts (fits_byte known a) (fits_second known b bty) e in
-        let second = and_parts (is_wide_type bty) (fits_byte known b) parts.1 in
-        let left = and_parts (nat_lt 1 a.bytes) (is_byte_of a.bytes (known a.at)) parts.0 in
-        let right = and_parts (nat_lt 1 b.bytes) (is_byte_of b.bytes (known b.at)) second.1 in
-        let more = left.0 in
-        record {
-          byte = sym (ap (λ (x : RightNumber). x.in_byte) is);
-          more = grind (arith, nat_tests, more);
-          left = λ low s. byte_held (known a.at) (temps a.at) a.bytes low first left.1 s;
-          right = λ low s. byte_held (known b.at) (temps b.at) b.bytes low both.0 right.1 s;
-        }
+        let is : no_number (not alone) ≡ no_number byte = cc in
+        let parts = and_parts (alone || fits_byte known a) (fits_second known b bty) e in
+        record { which = sym (ap (λ (x : RightNumber). x.in_byte) is); first = parts.0; second = parts.1 }
 
-    by_number : (o : Option ℤ) → right_of (fits_byte known a) (fits_second known b bty) o ≡ Some k → AreBytes a b k temps
-    by_number None q = by_both (fits_byte known a && fits_second known b bty) refl q
+    by_number : (o : Option ℤ) → right_of alone (fits_byte known a) (fits_second known b bty) o ≡ Some (no_number byte)
+        → IsOfBytes known alone a b bty byte
+    by_number None q = by_both ((alone || fits_byte known a) && fits_second known b bty) refl q
     by_number (Some n) q =
-        let is : record { number = Some n; in_byte = fits_byte known a && is_byte n } ≡ k = cc in
+        let is : record { number = Some n; in_byte = fits_byte known a && is_byte n } ≡ no_number byte = cc in
         let no : Some n ≡ None = ap (λ (x : RightNumber). x.number) is in absurd cc
 
--- a fixed-point operand is none of those that are known to be below 256
-pub on_no_bytes : (known : Known) (a b : Temp) (bty : PlainType) (kind : FxKind) (saturates byte : Bool) → bty ≡ fixed kind saturates
-    → right_of (fits_byte known a) (fits_second known b bty) (number_in known b) ≡ Some (no_number byte) → ⊥
-on_no_bytes known a b bty kind saturates byte is q = by_number (number_in known b) fixed_so
+second_below : (known : Known) (a b : Temp) (bty : PlainType) (temps : Temps) → fits_second known b bty ≡ true
+    → are_held known temps (b.at ∷ a.at ∷ []) ≡ true
+    → (low : ℕ) → temps b.at ≡ Some (record { bytes = b.bytes; content = bits low }) → low < 256
+second_below known a b bty temps q held low s =
+    let both = and_parts (is_held (known b.at) (temps b.at)) (is_held (known a.at) (temps a.at) && true) held in
+    let second = and_parts (is_wide_type bty) (fits_byte known b) q in
+    let right = and_parts (nat_lt 1 b.bytes) (is_byte_of b.bytes (known b.at)) second.1 in
+    byte_held (known b.at) (temps b.at) b.bytes low both.0 right.1 s
+
+pub bytes_held : (known : Known) (alone : Bool) (a b : Temp) (bty : PlainType) (temps : Temps)
+    → right_of alone (fits_byte known a) (fits_second known b bty) (number_in known b) ≡ Some (no_number true)
+    → are_held known temps (b.at ∷ a.at ∷ []) ≡ true → AreBytes a b temps
+bytes_held known alone a b bty temps q held =
+    let is = of_bytes_known known alone a b bty true q in
+    let both = and_parts (is_held (known b.at) (temps b.at)) (is_held (known a.at) (temps a.at) && true) held in
+    let first = (and_parts (is_held (known a.at) (temps a.at)) true both.1).0 in
+    let left = and_parts (nat_lt 1 a.bytes) (is_byte_of a.bytes (known a.at)) (not_alone alone (fits_byte known a) is.which is.first) in
+    let more = left.0 in
+    record {
+      more = grind (arith, nat_tests, more);
+      left = λ low s. byte_held (known a.at) (temps a.at) a.bytes low first left.1 s;
+      right = second_below known a b bty temps is.second held;
+    }
   where
-    no_second : (x : Bool) → (x && false) ≡ false
-    no_second true = refl
-    no_second false = refl
+    not_alone : (x z : Bool) → true ≡ not x → (x || z) ≡ true → z ≡ true
+    not_alone true z q r = absurd cc
+    not_alone false z q r = r
 
-    fixed_so : right_of (fits_byte known a) false (number_in known b) ≡ Some (no_number byte)
-    fixed_so = subst (λ (x : PlainType). right_of (fits_byte known a) (fits_second known b x) (number_in known b) ≡ Some
-        (no_number byte)) is q
+pub alone_held : (known : Known) (op : BinOp) (to a b : Temp) (bty : PlainType) (temps : Temps)
+    → right_of (takes_alone op to b) (fits_byte known a) (fits_second known b bty) (number_in known b) ≡ Some (no_number false)
+    → are_held known temps (b.at ∷ a.at ∷ []) ≡ true → IsAlone to b temps
+alone_held known op to a b bty temps q held =
+    let is = of_bytes_known known (takes_alone op to b) a b bty false q in
+    let parts = and_parts (changes_byte op) (not (b.at == to.at)) (so (takes_alone op to b) is.which) in
+    let other = parts.1 in
+    record {
+      apart = λ e. let same : (b.at == to.at) ≡ true = eq-eqb b.at to.at (sym e) in not_both (b.at == to.at) same other;
+      below = second_below known a b bty temps is.second held;
+    }
+  where
+    so : (x : Bool) → false ≡ not x → x ≡ true
+    so true q = refl
+    so false q = absurd cc
 
-    by_number : (o : Option ℤ) → right_of (fits_byte known a) false o ≡ Some (no_number byte) → ⊥
-    by_number None r =
-        let no : None ≡ Some (no_number byte) =
-        ap (λ (x : Bool). if x then Some (no_number true) else None) (sym (no_second (fits_byte known a))) ∙ r in
-        absurd cc
-    by_number (Some n) r =
-        let same : record { number = Some n; in_byte = fits_byte known a && is_byte n } ≡ no_number byte = cc in
-        let no : Some n ≡ None = ap (λ (x : RightNumber). x.number) same in absurd cc
+    not_both : (x : Bool) → x ≡ true → not x ≡ true → ⊥
+    not_both true q r = absurd cc
+    not_both false q r = absurd cc
+
+-- a fixed-point operand is none of those that are known to be below 256
+pub on_no_bytes : (known : Known) (alone : Bool) (a b : Temp) (bty : PlainType) (kind : FxKind) (saturates byte : Bool)
+    → bty ≡ fixed kind saturates
+    → right_of alone (fits_byte known a) (fits_second known b bty) (number_in known b) ≡ Some (no_number byte) → ⊥
+on_no_bytes known alone a b bty kind saturates byte is q =
+    let second = (of_bytes_known known alone a b bty byte q).second in
+    let no : fits_second known b (fixed kind saturates) ≡ true = subst (λ (x : PlainType). fits_second known b x ≡ true) is second in
+    absurd cc
 
 -- ---- numbers below 256
 
@@ -292,7 +326,7 @@ byte_value (pos x) q =
     record { value = x; is = refl; below = grind (arith, nat_tests, l) }
 byte_value (negsuc x) q = absurd cc
 
-byte_power : (b : ℕ) → 1 ≤ b → 256 ≤ 256 ^ b
+pub byte_power : (b : ℕ) → 1 ≤ b → 256 ≤ 256 ^ b
 byte_power zero l = absurd (omega arith)
 byte_power (suc b) l = let e : 256 ^ suc b ≡ 256 ^ b * 256 = pow-suc 256 b in let p = pow_pos b in omega (arith, e, p)
 
@@ -324,10 +358,10 @@ bits_low f h x z n =
 pub record Changes (op : Operator) (v w : View) (b n number : ℕ) : Type 0 where
   pub result : value w.at b n ≡ result_of op n (value v.at b n) (number % 256 ^ n)
   pub numbers : HoldsNumbers w
-  pub frame : Frame v w b n
+  pub frame : Wide v w b n
   pub quiet : Quiet v w
 
-kept_quiet : (v w : View) (b n : ℕ) → KeepsOthers v w b n → Quiet v w
+kept_quiet : (v w : View) (b n : ℕ) → KeepsBeside v w b n → Quiet v w
 kept_quiet v w b n k = record { inputs = k.inputs; safe = k.safe; seen = k.seen }
 
 module _ (laws : NumberLaws) (e : Env) (q : Location) (n b number : ℕ) (v : View) (few : n ≤ 16) (small : number < 256 ^ 16)
@@ -351,20 +385,20 @@ module _ (laws : NumberLaws) (e : Env) (q : Location) (n b number : ℕ) (v : Vi
       record {
         result = k.1 ∙ sum_low (value v.at b n) number n;
         numbers = k.0.bytes;
-        frame = k.0.same;
+        frame = beside_work v w b n k.0.same;
         quiet = kept_quiet v w b n k.0;
       }
   changes Difference is =
       let k = laws.subtracted e q number n b v stands apart h in
       let w = block e (changed_by_code Difference q number n) v in
-      record { result = k.1; numbers = k.0.bytes; frame = k.0.same; quiet = kept_quiet v w b n k.0 }
+      record { result = k.1; numbers = k.0.bytes; frame = beside_work v w b n k.0.same; quiet = kept_quiet v w b n k.0 }
   changes BitAnd is =
       let k = laws.bits Mask e q number n b v (λ r. cc) stands apart h in
       let w = block e (changed_by_code BitAnd q number n) v in
       record {
         result = digits Mask BitAnd refl (λ r. cc) ∙ bits_low bit_and and_mod (value v.at b n) number n;
         numbers = k.0.bytes;
-        frame = k.0.same;
+        frame = beside_work v w b n k.0.same;
         quiet = kept_quiet v w b n k.0;
       }
   changes BitOr is =
@@ -373,7 +407,7 @@ module _ (laws : NumberLaws) (e : Env) (q : Location) (n b number : ℕ) (v : Vi
       record {
         result = digits Set BitOr refl (λ r. cc) ∙ bits_low bit_or or_mod (value v.at b n) number n;
         numbers = k.0.bytes;
-        frame = k.0.same;
+        frame = beside_work v w b n k.0.same;
         quiet = kept_quiet v w b n k.0;
       }
   changes BitXor is = absurd cc
@@ -386,47 +420,6 @@ changed_form laws Difference q number n = let k = (laws.straight Subtract q numb
 changed_form laws BitAnd q number n = let k = (laws.straight Mask q number n).0 in (k.is_straight, k.few_steps)
 changed_form laws BitOr q number n = let k = (laws.straight Set q number n).0 in (k.is_straight, k.few_steps)
 changed_form laws BitXor q number n = (refl, omega arith)
-
--- ---- what a comparison leaves in a flag
-
-not_back : (b : Bool) → not b ≡ false → b ≡ true
-not_back true q = refl
-not_back false q = absurd cc
-
-not_over : (b : Bool) → not b ≡ true → b ≡ false
-not_over true q = absurd cc
-not_over false q = refl
-
-module _ (e : Env) (q : Location) (number n a : ℕ) (v w : View) (c : ComparesWith e q number n a v w) where
-  abbrev left : ℕ
-  left = value v.at a (suc n)
-
-  abbrev right : ℕ
-  right = number % 256 ^ suc n
-
-  less : (signed : Bool) → flag_at w.flags (flag_of Less signed) ≡ from_bool (is_less signed (suc n) left right)
-  less true = c.less_signed
-  less false = c.less
-
-  -- where the relation does not hold, its flag is the other way
-  pub fails_by_number : (r : Relation) (signed : Bool) → stand_so r signed (suc n) left right ≡ false
-      → flag_at w.flags (flag_of r signed) ≡ from_bool (not (is_set r))
-  fails_by_number Less true k = less true ∙ ap from_bool k
-  fails_by_number Less false k = less false ∙ ap from_bool k
-  fails_by_number NotLess true k = less true ∙ ap from_bool (not_back (is_less true (suc n) left right) k)
-  fails_by_number NotLess false k = less false ∙ ap from_bool (not_back (is_less false (suc n) left right) k)
-  fails_by_number Equal signed k = c.equal ∙ ap from_bool k
-  fails_by_number NotEqual signed k = c.equal ∙ ap from_bool (not_back (left == right) k)
-
-  -- and where it holds, as it is to be
-  pub holds_by_number : (r : Relation) (signed : Bool) → stand_so r signed (suc n) left right ≡ true
-      → flag_at w.flags (flag_of r signed) ≡ from_bool (is_set r)
-  holds_by_number Less true k = less true ∙ ap from_bool k
-  holds_by_number Less false k = less false ∙ ap from_bool k
-  holds_by_number NotLess true k = less true ∙ ap from_bool (not_over (is_less true (suc n) left right) k)
-  holds_by_number NotLess false k = less false ∙ ap from_bool (not_over (is_less false (suc n) left right) k)
-  holds_by_number Equal signed k = c.equal ∙ ap from_bool k
-  holds_by_number NotEqual signed k = c.equal ∙ ap from_bool (not_over (left == right) k)
 
 -- ---- what is matched
 
@@ -473,11 +466,12 @@ module _ (p : PlainProgram) (e : Env) (slots : ℕ) (home : Temp → Location) (
       o.result ∙ ap (λ i. result_of op n i (number % 256 ^ n)) left
       ∙ ap (result_of op n (x % 256 ^ n)) (number_low k n t.bytes most (omega arith))
       ∙ results op n t.bytes x z most (omega (arith, below)) in
-      let frame : Frame v v2 (base t) t.bytes =
-      λ i d f g r. wider_frame v1 v2 (base t) t.bytes n most o.frame i d f g r
-      ∙ wider_frame v v1 (base t) t.bytes n most moved.frame i d f g r in
+      let first_frame = widened v v1 (base t) t.bytes (wider_frame v v1 (base t) t.bytes n most moved.frame) in
+      let frame : Wide v v2 (base t) t.bytes =
+      λ i d f low high r. wider_wide v1 v2 (base t) t.bytes n most o.frame i d f low high r
+      ∙ first_frame i d f low high r in
       rw (block-append e (move_code (home a) (home t) n) (changed_by_code op (home t) number n) v)
-      (written p e slots home base place y t (bits (result_of op t.bytes x z)) need need0 m (worked c m.state) v v2 it h
+      (written_wide p e slots home base place y t (bits (result_of op t.bytes x z)) need need0 m (worked c m.state) v v2 it h
       (λ i r. still i r) frame (result, result_below op t.bytes x z) o.numbers refl (o.quiet.seen ∙ moved.quiet.seen ∙ h.seen)
       (kept_left y.inputs m.state v v2 (o.quiet.inputs ∙ moved.quiet.inputs) h.left) (o.quiet.safe ∙ moved.quiet.safe ∙ h.safe))
     where

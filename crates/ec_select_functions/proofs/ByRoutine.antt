@@ -115,17 +115,19 @@ unaries_have_none e slots l op ty mode t a k routine =
 -- a division takes no number
 pub divided_number : (op : BinOp) (r : Bool) → family_of op ≡ Divided r → (known : Option RightNumber) → number_taken known false op ≡ None
 divided_number Div r q None = refl
-divided_number Div r q (Some k) = by_number k.number
+divided_number Div r q (Some k) = by_number k.number k.in_byte
   where
-    by_number : (x : Option ℤ) → (if not false && takes_known x Div then Some k else None) ≡ None
-    by_number None = refl
-    by_number (Some n) = refl
+    by_number : (x : Option ℤ) (z : Bool) → (if not false && takes_known x z Div then Some k else None) ≡ None
+    by_number None true = refl
+    by_number None false = refl
+    by_number (Some n) z = refl
 divided_number Rem r q None = refl
-divided_number Rem r q (Some k) = by_number k.number
+divided_number Rem r q (Some k) = by_number k.number k.in_byte
   where
-    by_number : (x : Option ℤ) → (if not false && takes_known x Rem then Some k else None) ≡ None
-    by_number None = refl
-    by_number (Some n) = refl
+    by_number : (x : Option ℤ) (z : Bool) → (if not false && takes_known x z Rem then Some k else None) ≡ None
+    by_number None true = refl
+    by_number None false = refl
+    by_number (Some n) z = refl
 divided_number op r q known = absurd cc
 
 -- and tells nothing

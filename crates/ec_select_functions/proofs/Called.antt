@@ -36,6 +36,7 @@ use Rattle.ec_select_operations.specs.Homes.{home, HasHome, result_register, res
 use Rattle.ec_select_functions.specs.Laws.{IsSelected, linkage_of}
 use Rattle.ec_select_operations.specs.Needs.{Need, Facts, facts_of, needs, wanted, wanted_result, without_result}
 use Rattle.ec_select_operations.specs.Places.{ObjectLeaf}
+use Rattle.ec_select_operations.specs.Pointers.{has_tables}
 use Rattle.ec_select_functions.specs.Relation.{accesses, HoldsContent, FramesStand, Matches}
 use Rattle.ec_select_functions.proofs.Active.{World, Active, homes_of, scratch_of, base_of, leaf_at, leaf_is}
 use Rattle.ec_select_functions.proofs.Active.{layout_of, setting_of, selected_of, aside_by, aside_stack, called, called_functions}
@@ -109,7 +110,7 @@ module _ (p : PlainIrProgram) (e : Env) (place entry_of : ℕ → ℕ) (w : Worl
         here = record { active = a.runs; stacked = stacked; core = refl };
         stands = subst (λ i. HasAt e (ops_code D (home (homes_of p e place entry_of w b))
             (linkage_of e.core p entry_of b gb.slots (w.selected.made b))
-            (facts_of (w.selected.made b).labels gb.code) None gb.code) i x.end) mid stands.2;
+            (facts_of (has_tables D.objects) (w.selected.made b).labels gb.code) None gb.code) i x.end) mid stands.2;
       }
 
   module _ (f : ℕ) (g : PlainIrFunction) (s : ℕ) (aside : ℕ → Bool) (was : ℕ → ℕ) (a : Active p e place entry_of w f g s aside was)
@@ -140,7 +141,7 @@ module _ (p : PlainIrProgram) (e : Env) (place entry_of : ℕ → ℕ) (w : Worl
     labels = (w.selected.made f).labels
 
     abbrev at : Facts
-    at = facts_of labels g.code
+    at = facts_of (has_tables D.objects) labels g.code
 
     abbrev link : Linkage
     link = linkage_of e.core p entry_of f slots (w.selected.made f)
@@ -402,7 +403,8 @@ module _ (p : PlainIrProgram) (e : Env) (place entry_of : ℕ → ℕ) (w : Worl
       -- it begins with the caller's objects
       entered : MM need0 m v → (st : State) → memory_of st ≡ memory_of m.state → st.events ≡ m.state.events
           → Matches D e w.inputs gb.slots (base_of p e place entry_of w b) place aside_b
-          (standing_by p e place entry_of w (pushed back v1).at) a.functions (called_in g.code) (needs (facts_of (w.selected.made b).labels gb.code) gb.code) (machine no_temps st)
+          (standing_by p e place entry_of w (pushed back v1).at) a.functions (called_in g.code)
+          (needs (facts_of (has_tables D.objects) (w.selected.made b).labels gb.code) gb.code) (machine no_temps st)
           (pushed back v1)
       entered z st memory events = record {
         temps_hold = λ t c it q r. absurd cc;
@@ -550,7 +552,7 @@ module _ (p : PlainIrProgram) (e : Env) (place entry_of : ℕ → ℕ) (w : Worl
             let matches =
             kept_matches D e w.inputs gb.slots (base_of p e place entry_of w b) place (aside_by aside scratch (16 * slots) s)
             (standing_by p e place entry_of w v2.at) a.functions (called_in g.code) active1.functions (called_in gb.code)
-            (needs (facts_of (w.selected.made b).labels gb.code) gb.code) (b ∷ around) no_temps st v2 (inl stacked)
+            (needs (facts_of (has_tables D.objects) (w.selected.made b).labels gb.code) gb.code) (b ∷ around) no_temps st v2 (inl stacked)
             (entered n below returns b gb is there to r.covered.0.0 rest m v z back s0.0 s2.0 room s2.1 s2.2 ready z st refl refl) in
             after D place e (code_steps save + 1) n (suc n) m.state.work st.work pc (e.word_of (entry_of b)) v v2
             (enter (Some gb) (go_on p e place entry_of w n) (frame ∷ stack) (machine no_temps st1))

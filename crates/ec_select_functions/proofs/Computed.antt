@@ -28,8 +28,8 @@ use Rattle.ec_ir.specs.declared.operations.Temp.{Temp}
 use Rattle.ec_ir.specs.Meaning.{Mach, machine}
 use Rattle.ec_ir.specs.Temporaries.{Content, bits, points, Held, with_content, low_bytes}
 use Rattle.ec_select_operations.specs.Homes.{HasHome}
-use Rattle.ec_select_bytes.specs.Values.{byte_of, constant_code}
-use Rattle.ec_select_bytes.proofs.Constants.{constants_are_right}
+use Rattle.ec_select_bytes.specs.Values.{byte_of}
+use Rattle.ec_select_numbers.specs.ByNumber.{put_code}
 use Rattle.ec_select_bytes.specs.Complements.{negation_code}
 use Rattle.ec_select_bytes.proofs.Turned.{negations_are_right}
 use Rattle.ec_select_operations.specs.Code.{same_location, move_code, reversed_code, combined_code}
@@ -37,8 +37,9 @@ use Rattle.ec_select_operations.specs.Needs.{Need, at_least, without, wanted}
 use Rattle.ec_select_functions.proofs.Setting.{Setting}
 use Rattle.ec_select_functions.specs.Relation.{HoldsContent, Matches}
 use Rattle.ec_select_functions.proofs.Match.{kept_left, wanted_most, least_here, least_other, without_other, at_width}
-use Rattle.ec_select_functions.proofs.Match.{read_first, written, held_row}
-use Rattle.ec_select_functions.proofs.Moves.{Frame, wider_frame, work_outside, narrower, numbers_kept, row_kept}
+use Rattle.ec_select_functions.proofs.Match.{read_first, written, written_wide, held_row}
+use Rattle.ec_select_functions.proofs.Moves.{Frame, Wide, beside_work, wider_frame, wider_wide, work_outside, narrower}
+use Rattle.ec_select_functions.proofs.Moves.{numbers_kept, row_kept}
 use Rattle.ec_select_functions.proofs.Moves.{row_value, stands_less, Moves, move_holds}
 use Rattle.ec_select_functions.proofs.Wrapped.{low_part, low_below, value_of_bytes, byte_of_bitwise, powers}
 
@@ -291,25 +292,23 @@ module _ (p : PlainProgram) (e : Env) (slots : ℕ) (home : Temp → Location) (
   pub constant_matches : (t : Temp) (need : Need) (m : Mach) (v : View) (n : ℤ) (c : ℕ) → HasHome slots t
       → N (without t.at need) m v
       → N need (machine (with_content t (bits (low_bytes t.bytes n)) m.temps) (worked c m.state))
-      (block e (constant_code (home t) (low_bytes 16 n) (wanted need t)) v)
+      (block e (put_code (home t) (low_bytes 16 n) (wanted need t)) v)
   constant_matches t need m v n c it z =
       let w = wanted need t in
       let low = low_bytes 16 n in
       let own = low_bytes t.bytes n in
       let most = wanted_most need t in
-      let v1 = block e (constant_code (home t) low w) v in
+      let v1 = block e (put_code (home t) low w) v in
       let k =
-      constants_are_right e (home t) w (base t) low v (stand t w it most)
+      y.numbers.put e (home t) low w (base t) v (stand t w it most)
       (narrower (base t) t.bytes w 30 most (work_outside (base t) t.bytes (y.layout.temps_work t it))) in
-      let frame : Frame v v1 (base t) w = λ i a b d o. k.same i d o in
-      let numbers =
-      numbers_kept v v1 (base t) w z.bytes frame (λ j l. rw (k.there j l) (byte_below low j)) (k.work (z.bytes 30 (omega arith))) in
-      written p e slots home base place y t (bits own) need (without t.at need) m (worked c m.state) v v1 it z
-      (λ u q. without_other t.at u need q) (wider_frame v v1 (base t) t.bytes w most frame) (
+      let frame : Wide v v1 (base t) w = beside_work v v1 (base t) w (λ i a b d f o. k.same i d f o) in
+      written_wide p e slots home base place y t (bits own) need (without t.at need) m (worked c m.state) v v1 it z
+      (λ u q. without_other t.at u need q) (wider_wide v v1 (base t) t.bytes w most frame) (
         value_of_bytes v1.at (base t) w low k.there ∙ low_part n w 16 (let room = it.most in omega arith)
             ∙ sym (low_part n w t.bytes most),
         low_below t.bytes n,
-      ) numbers refl (k.seen ∙ z.seen)
+      ) (k.bytes z.bytes) refl (k.seen ∙ z.seen)
       (kept_left y.inputs m.state v v1 (k.inputs) z.left) (k.safe ∙ z.safe)
 
   -- a temporary that was moved holds the content

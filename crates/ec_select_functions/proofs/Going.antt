@@ -23,6 +23,7 @@ use Rattle.ec_select_operations.specs.Routines.{HasRoutineOf}
 use Rattle.ec_select_functions.specs.Covered.{IsCovered, AreCovered}
 use Rattle.ec_select_functions.specs.Laws.{CanCall}
 use Rattle.ec_select_operations.specs.Needs.{Need, Facts, facts_of, needs, takes_count, IsLiveBy}
+use Rattle.ec_select_operations.specs.Pointers.{has_tables}
 use Rattle.ec_select_functions.specs.Relation.{Matches}
 use Rattle.ec_select_functions.proofs.Cells.{UsesCells}
 use Rattle.ec_select_functions.proofs.Behind.{GoesBehind, GoBehind}
@@ -65,7 +66,7 @@ module _ (p : PlainProgram) (functions : List PlainIrFunction) (e : Env) (slots 
     (end : ℕ) (results : ℕ → ℕ) (me : ℕ) (link : Linkage) (stack : List Call) where
   -- what the code of the function is made by
   abbrev at : Facts
-  at = facts_of labels all
+  at = facts_of (has_tables p.objects) labels all
 
   abbrev pub M : Need → Mach → View → Type 0
   M need m v = Matches p e y.inputs slots base place y.aside y.stands y.active y.called need m v
@@ -87,8 +88,8 @@ module _ (p : PlainProgram) (functions : List PlainIrFunction) (e : Env) (slots 
   -- an operation whose code stands at its use and which has been told so much, and those behind it
   abbrev pub own_told : Option Told → PlainIr → List PlainIr → List AsmItem
   own_told told i rest =
-      own_code p home link told (tells_next p at told i rest) (at.known (i ∷ rest)) (needs at rest) i
-      ++ items_told (tells_next p at told i rest) rest
+      own_code p home link told (tells_next link.core p home at told i rest) (at.known (i ∷ rest)) (needs at rest) i
+      ++ items_told (tells_next link.core p home at told i rest) rest
 
   abbrev pub own_items : PlainIr → List PlainIr → List AsmItem
   own_items i rest = own_told None i rest
@@ -98,9 +99,9 @@ module _ (p : PlainProgram) (functions : List PlainIrFunction) (e : Env) (slots 
       → ((l : ℕ) → HasRoutineOf e l i → ⊥) → HasAt e (first ++ items_told told (i ∷ rest)) pc end
       → HasAt e (first ++ own_told told i rest) pc end
   at_use_behind first told i rest pc linked none stands =
-      subst (λ x. HasAt e (first ++ (x ++ items_told (tells_next p at told i rest) rest)) pc end)
+      subst (λ x. HasAt e (first ++ (x ++ items_told (tells_next link.core p home at told i rest) rest)) pc end)
       (own_is (routine_used (at.known (i ∷ rest)) i (link.routine_of i)) (λ l. called_code home l (result_wanted (needs at rest) i) i)
-      (own_code p home link told (tells_next p at told i rest) (at.known (i ∷ rest)) (needs at rest) i)
+      (own_code p home link told (tells_next link.core p home at told i rest) (at.known (i ∷ rest)) (needs at rest) i)
       (λ l q. none l (linked l (used_is (takes_count (at.known (i ∷ rest)) i) (link.routine_of i) l q)).0)) stands
 
   -- the function runs: it is one of those that are active, which are main and those that were called, and its code is for the

@@ -12,6 +12,8 @@ mod Moves
 mod Match
 mod Computed
 mod ByNumber
+mod Bounds
+mod Next
 mod Accesses
 mod FixedRuns
 mod Limited
@@ -40,14 +42,17 @@ mod MemorySteps
 mod InZ
 mod PointerSteps
 mod PortSteps
+mod LowMasks
+mod Joined
+mod TopBits
 mod Steps
 mod Extended
 mod Standing
 mod Orders
 mod Truth
 mod Tested
+mod Ordered
 mod Masked
-mod Told
 mod Related
 mod Turned
 mod Multiplied

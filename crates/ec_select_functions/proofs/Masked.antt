@@ -15,8 +15,7 @@ use Rattle.ec_asm.specs.Pieces.{address, KindIs}
 use Rattle.ec_asm.specs.PieceLaws.{HoldsNumbers}
 use Rattle.ec_asm.proofs.Bytes.{put_here, put_other}
 use Rattle.ec_core.specs.declared.expressions.BinOp.{BinOp}
-use Rattle.ec_core.specs.declared.expressions.BinOp.TheVariants.{Add, Sub, Mul, Div, Rem, And, Or, Xor, Lt, Gt, Le, Ge}
-use Rattle.ec_core.specs.declared.expressions.BinOp.TheVariants.{Eq, Ne, Shl, Shr}
+use Rattle.ec_core.specs.declared.expressions.BinOp.TheVariants.{And}
 use Rattle.ec_ir_known.specs.Known.{is_byte}
 use Rattle.ec_ir_known.specs.declared.known.RightNumber.{RightNumber}
 use Rattle.ec_select_order.specs.declared.relations.Relation.{Relation}

@@ -13,6 +13,7 @@ use Rattle.ec_asm.specs.PieceLaws.{HoldsNumbers, IsReadFirst}
 use Rattle.ec_asm.specs.declared.pieces.Operator.TheVariants.{Sum}
 use Rattle.ec_asm.proofs.Compared.{copy_holds}
 use Rattle.ec_asm.proofs.Results.{pieces_are_straight, pieces_take}
+use Rattle.ec_select_places.specs.Steps.{z_pair}
 use Rattle.ec_select_operations.specs.Code.{same_location, pairs_code, transfer_code, move_code}
 use Rattle.ec_select_operations.specs.Places.{Apart, IsClear}
 use Rattle.ec_select_functions.proofs.Transfers.{Brought, pairs_bring, pairs_straight, pairs_steps}
@@ -30,6 +31,18 @@ widened v v1 b n f k x y w z o = f k x y (not_work k z) o
   where
     not_work : (k : ℕ) → Outside 26 6 k → k ≢ 30
     not_work k z q = let l = z (omega arith) in omega arith
+
+-- such an address is not R30, and not R31
+pub off_low_work : (k : ℕ) → Outside 26 6 k → k ≢ 30
+off_low_work k z q = let l = z (omega arith) in omega arith
+
+pub off_high_work : (k : ℕ) → Outside 26 6 k → k ≢ 31
+off_high_work k z q = let l = z (omega arith) in omega arith
+
+-- of the work registers R0, R1, R30 and R31 alone have changed
+pub beside_work : (v v1 : View) (b n : ℕ)
+    → ((k : ℕ) → k ≢ 0 → k ≢ 1 → k ≢ 30 → k ≢ 31 → Outside b n k → v1.at k ≡ v.at k) → Wide v v1 b n
+beside_work v v1 b n f k x y w z o = f k x y (off_low_work k z) (off_high_work k z) o
 
 pub work_outside : (a n : ℕ) → IsClear a n → Outside a n 30
 work_outside a n x l =
@@ -50,6 +63,9 @@ narrower b n m k l h x = let q = h x in omega arith
 
 pub wider_frame : (v v1 : View) (b n m : ℕ) → m ≤ n → Frame v v1 b m → Frame v v1 b n
 wider_frame v v1 b n m l f k x y z o = f k x y z (narrower b n m k l o)
+
+pub wider_wide : (v v1 : View) (b n m : ℕ) → m ≤ n → Wide v v1 b m → Wide v v1 b n
+wider_wide v v1 b n m l f k x y w z o = f k x y w z (narrower b n m k l o)
 
 pub outside_row : (b n a m j : ℕ) → Apart b n a m → j < m → Outside b n (a + j)
 outside_row b n a m j x l le =
@@ -106,6 +122,10 @@ row_value f g a b (suc n) h =
 pub stands_less : (e : Env) (p : Location) (n m a : ℕ) (k : Kind) → m ≤ n → StandsFrom e p n a k → StandsFrom e p m a k
 stands_less e p n m a k l s =
     record { at = λ i q. s.at i (omega arith); kind = λ i q. s.kind i (omega arith); clear = s.clear }
+
+-- R30 and R31
+pub z_stands : (e : Env) (n : ℕ) → StandsFrom e z_pair n 30 Own
+z_stands e n = record { at = λ i l. refl; kind = λ i l. refl; clear = omega arith }
 
 -- ---- copies
 

@@ -1,7 +1,8 @@
 -- Negations of fixed-point numbers that are stopped at the end of the range.
 use Rattle.std.proofs.Common.{◌≡◌, ◌≢◌, ℕ, suc, ◌+◌, ◌-◌, ◌*◌, ◌/◌, ◌%◌, ◌^◌, ◌<◌, ◌≤◌, Bool, true, false, refl, sym, ap, ◌∙◌, subst, arith}
 use Rattle.std.proofs.Common.{ℤ, pos, neg_ℤ, ◌-ℤ◌, ◌++◌, append-nil, ⊎_elim}
-use Rattle.std.proofs.lemmas.Bool.{cases_lt}
+use Rattle.std.specs.Prelude.{◌==◌, ◌&&◌, if◌then◌else◌}
+use Rattle.std.proofs.lemmas.Bool.{cases_lt, and_parts, eqb-true}
 use Rattle.std.proofs.lemmas.Int.{ints}
 use Rattle.std.proofs.Math.Nat.{zero-div}
 use Rattle.ec_fx.specs.declared.formats.FxKind.{FxKind}
@@ -11,6 +12,7 @@ use Rattle.ec_fx.specs.Formats.{format_of}
 use Rattle.ec_fx.specs.Results.{fit}
 use Rattle.ec_fx.proofs.FormatLemmas.{IsFormat-format_of}
 use Rattle.ec_asm.specs.declared.pieces.Location.{Location}
+use Rattle.ec_asm.specs.declared.pieces.Location.TheVariants.{InRegisters, InMemory}
 use Rattle.ec_asm.specs.View.{View}
 use Rattle.ec_asm.specs.Change.{Env, Own}
 use Rattle.ec_asm.specs.Items.{HasAt, block, code_steps}
@@ -34,9 +36,10 @@ use Rattle.ec_fxcode.specs.ClampLaws.{HoldsResult, IsClearOfEnds}
 use Rattle.ec_fxcode.proofs.Alike.{zeros}
 use Rattle.ec_fxcode.proofs.Fits.{plus}
 use Rattle.ec_fxcode.proofs.Moves.{no_log}
-use Rattle.ec_fxcode_limits.specs.Limits.{limited_code}
+use Rattle.ec_fxcode_limits.specs.Limits.{limited_code, opposite_code}
 use Rattle.ec_fxcode_limits.specs.LimitLaws.{added}
 use Rattle.ec_fxcode_limits.proofs.Limited.{limited_sums_are_right}
+use Rattle.ec_fxcode_limits.proofs.Opposite.{opposites_are_right}
 use Rattle.ec_fxcode_shifts.specs.ShiftLaws.{number_in, fixed_in}
 use Rattle.ec_fxcode_shifts.proofs.Shifted.{div_one}
 use Rattle.ec_select_bytes.specs.Values.{constant_code}
@@ -45,15 +48,16 @@ use Rattle.ec_select_bytes.proofs.Straight.{values_are_straight, values_take}
 use Rattle.ec_select_fixed.specs.FixedLaws.{IsUnaryResult}
 use Rattle.ec_select_fixed.proofs.Formats.{kind_bits, fixed_bytes}
 use Rattle.ec_select_fixed.proofs.Unaries.{negated}
-use Rattle.ec_select_operations.specs.Code.{is_signed, aside_location, negated_code}
+use Rattle.ec_select_operations.specs.Code.{is_signed, aside_location, move_code, from_zero_code, negated_code}
 use Rattle.ec_select_operations.specs.Homes.{HasHome}
 use Rattle.ec_select_operations.specs.Needs.{Need, wanted}
 use Rattle.ec_select_functions.specs.Covered.{IsFixedUnary}
 use Rattle.ec_select_functions.specs.Relation.{Matches}
 use Rattle.ec_select_functions.proofs.FixedRuns.{clear_of_ends}
 use Rattle.ec_select_functions.proofs.Follow.{Follows, after}
-use Rattle.ec_select_functions.proofs.Match.{kept_left, wanted_most, written_wide}
-use Rattle.ec_select_functions.proofs.Moves.{Wide, numbers_kept, row_value, work_outside}
+use Rattle.ec_select_functions.proofs.Match.{kept_left, wanted_most, read_first, written_wide}
+use Rattle.ec_select_functions.proofs.Moves.{Wide, move_holds, move_straight, move_steps, numbers_kept, row_value, work_outside}
+use Rattle.ec_select_functions.proofs.Computed.{moved_numbers}
 use Rattle.ec_select_functions.proofs.Setting.{Setting}
 
 -- ---- results
@@ -75,18 +79,18 @@ module _ (p : PlainProgram) (e : Env) (slots : ℕ) (home : Temp → Location) (
   aside_stands : (n : ℕ) → StandsFrom e aside_location n 8 Own
   aside_stands n = record { at = λ j l. refl; kind = λ j l. refl; clear = omega arith }
 
-  negation_passes : (kind : FxKind) (s : Bool) (mode : Mode) (c n pc end : ℕ) (t a : Temp) (need need0 : Need) (m : Mach) (v : View)
+  from_zero_passes : (kind : FxKind) (s : Bool) (mode : Mode) (c n pc end : ℕ) (t a : Temp) (need need0 : Need) (m : Mach) (v : View)
       (o : Outcome Value)
       → HasHome slots t → HasHome slots a → t.bytes ≡ (format_of kind).bits / 8 → a.bytes ≡ (format_of kind).bits / 8
       → mode.saturate ≡ true → (format_of kind).bits / 8 ≤ 6 → M need0 m v → ((u : ℕ) → u ≢ t.at → need u ≤ need0 u)
-      → HasAt e (negated_code (format_of kind).signed (home a) (home t) ((format_of kind).bits / 8)) pc end
+      → HasAt e (from_zero_code (format_of kind).signed (home a) (home t) ((format_of kind).bits / 8)) pc end
       → 14 + 12 * ((format_of kind).bits / 8) ≤ c
       →
       ((z : ℕ) (v2 : View) → IsUnaryResult Minus (fixed kind s) mode (value v.at (base a) ((format_of kind).bits / 8)) z
       → M need (machine (with_content t (bits z) m.temps) (worked c m.state)) v2
       → Follows p place e n (m.state.work + c) end v2 o)
       → Follows p place e n m.state.work pc v o
-  negation_passes kind s mode c n pc end t a need need0 m v o it ia same_t same_a sat few h more at room onward =
+  from_zero_passes kind s mode c n pc end t a need need0 m v o it ia same_t same_a sat few h more at room onward =
       let f = format_of kind in
       let k = f.bits / 8 in
       let top = k - 1 in
@@ -170,6 +174,120 @@ module _ (p : PlainProgram) (e : Env) (slots : ℕ) (home : Temp → Location) (
       (omega arith)
       (omega (arith, steps1, steps2, steps3, room, one))
       (onward z v3 (negated (record { kind = kind; sat = s }) mode x z holds) matches)
+
+  -- one byte with a sign in the register of the result
+  opposite_passes : (kind : FxKind) (s : Bool) (mode : Mode) (r c n pc end : ℕ) (t a : Temp) (need need0 : Need) (m : Mach) (v : View)
+      (o : Outcome Value)
+      → HasHome slots t → HasHome slots a → t.bytes ≡ 1 → a.bytes ≡ 1 → (format_of kind).bits / 8 ≡ 1
+      → (format_of kind).signed ≡ true → home t ≡ InRegisters r
+      → mode.saturate ≡ true → M need0 m v → ((u : ℕ) → u ≢ t.at → need u ≤ need0 u)
+      → HasAt e (move_code (home a) (InRegisters r) 1 ++ opposite_code r) pc end → 14 ≤ c
+      →
+      ((z : ℕ) (v2 : View) → IsUnaryResult Minus (fixed kind s) mode (value v.at (base a) ((format_of kind).bits / 8)) z
+      → M need (machine (with_content t (bits z) m.temps) (worked c m.state)) v2
+      → Follows p place e n (m.state.work + c) end v2 o)
+      → Follows p place e n m.state.work pc v o
+  opposite_passes kind s mode r c n pc end t a need need0 m v o it ia same_t same_a one signed is sat h more at room onward =
+      let f = format_of kind in
+      let move = move_code (home a) (home t) 1 in
+      let stands : HasAt e (move ++ opposite_code (base t)) pc end =
+      subst (λ (i : ℕ). HasAt e (move ++ opposite_code i) pc end) register
+      (subst (λ (q : Location). HasAt e (move_code (home a) q 1 ++ opposite_code r) pc end) (sym is) at) in
+      let parts = has_parts e move (opposite_code (base t)) pc end stands in
+      let v1 = block e move v in
+      let sa = subst (λ (i : ℕ). StandsFrom e (home a) i (base a) Own) same_a (y.layout.temps_at a ia) in
+      let moved = move_holds e (home a) (home t) 1 (base a) (base t) v sa st
+      (read_first p e slots home base place y t a 1 it ia (omega (arith, same_a))) h.bytes in
+      let numbers1 = moved_numbers p e slots home base place y v v1 (base a) (base t) 1 sa.clear h.bytes moved in
+      let eight : f.bits ≡ 8 = kind_bits kind ∙ ap (λ (i : ℕ). 8 * i) one in
+      let run = opposites_are_right f mode e (base t) parts.0 end v1 signed eight sat two numbers1 parts.2 in
+      let v2 = run.last in
+      let few = run.at_most in
+      let go1 = block_goes e move pc parts.0 v (move_straight (home a) (home t) 1) parts.1 in
+      let steps = move_steps (home a) (home t) 1 in
+      let goes = goes_on_to e (code_steps move) run.steps pc parts.0 end v v1 v2 go1 run.goes in
+      let z = value v2.at (base t) 1 in
+      let x = value v.at (base a) 1 in
+      let byte : v1.at (base t) ≡ x =
+      (let e0 : base t + 0 ≡ base t = omega arith in
+      let there : v1.at (base t + 0) ≡ v.at (base a + 0) = moved.there 0 (omega arith) in
+      ap v1.at (sym e0) ∙ there ∙ (let q : v.at (base a + 0) ≡ value v.at (base a) 1 = omega arith in q)) in
+      let exact : neg_ℤ (number_in true 1 (v1.at (base t))) ≡ neg_ℤ (number_in f.signed 1 x) =
+      ap (λ (i : ℕ). neg_ℤ (number_in true 1 i)) byte ∙ ap (λ (b : Bool). neg_ℤ (number_in b 1 x)) (sym signed) in
+      let holds : HoldsResult 1 (negation_of (fixed_in f 1 x) mode) z =
+      subst (λ (i : ℤ). HoldsResult 1 (fit f mode i) z) (exact ∙ sym (div_one (neg_ℤ (number_in f.signed 1 x)))) run.holds in
+      let wide : Wide v v2 (base t) t.bytes =
+      λ i x1 w lo hi out.
+      let inside : Outside (base t) 1 i = subst (λ (q : ℕ). Outside (base t) q i) same_t out in
+      run.same i x1 w (λ q. let l = hi (omega (arith, q)) in omega (arith, l, q)) (λ q. let l = hi (omega (arith, q)) in omega
+      (arith, l, q)) inside
+      ∙ moved.frame i x1 w (λ q. let l = hi (omega (arith, q)) in omega (arith, l, q)) inside in
+      let held = λ (j : ℕ) (l : j < 1). (let b : v2.at (base t + j) < 256 = run.numbers (base t + j) (omega (arith, two)) in b) in
+      let w = wanted need t in
+      let most = wanted_most need t in
+      let low : value v2.at (base t) w ≡ z % 256 ^ w = sym (value_mod v2.at (base t) w 1 (omega (arith, most, same_t)) held) in
+      let below : z < 256 ^ t.bytes = subst (λ (i : ℕ). z < 256 ^ i) (sym same_t) (value_below v2.at (base t) 1 held) in
+      let matches = written_wide p e slots home base place y t (bits z) need need0 m (worked c m.state) v v2 it h more wide (low, below)
+      run.numbers refl (run.seen ∙ moved.quiet.seen ∙ h.seen)
+      (kept_left y.inputs m.state v v2 (run.inputs ∙ moved.quiet.inputs) h.left) (run.safe ∙ moved.quiet.safe ∙ h.safe) in
+      let result : IsUnaryResult Minus (fixed kind s) mode (value v.at (base a) (f.bits / 8)) z =
+      negated (record { kind = kind; sat = s }) mode (value v.at (base a) (f.bits / 8)) z
+      (subst (λ (i : ℕ). HoldsResult i (negation_of (fixed_in f i (value v.at (base a) i)) mode) z) (sym one) holds) in
+      after p place e (code_steps move + run.steps) n n m.state.work (m.state.work + c) pc end v v2 o goes (omega arith)
+      (omega (arith, few, steps, room)) (onward z v2 result matches)
+    where
+      st : StandsFrom e (home t) 1 (base t) Own
+      st = subst (λ (i : ℕ). StandsFrom e (home t) i (base t) Own) same_t (y.layout.temps_at t it)
+
+      two : 2 ≤ base t
+      two = st.clear
+
+      register : r ≡ base t
+      register = by_place (subst (λ (q : Location). StandsFrom e q 1 (base t) Own) is st)
+        where
+          by_place : StandsFrom e (InRegisters r) 1 (base t) Own → r ≡ base t
+          by_place k = let q = k.at 0 (omega arith) in omega (arith, q)
+
+  negation_passes : (kind : FxKind) (s : Bool) (mode : Mode) (c n pc end : ℕ) (t a : Temp) (need need0 : Need) (m : Mach) (v : View)
+      (o : Outcome Value)
+      → HasHome slots t → HasHome slots a → t.bytes ≡ (format_of kind).bits / 8 → a.bytes ≡ (format_of kind).bits / 8
+      → mode.saturate ≡ true → (format_of kind).bits / 8 ≤ 6 → M need0 m v → ((u : ℕ) → u ≢ t.at → need u ≤ need0 u)
+      → HasAt e (negated_code (format_of kind).signed (home a) (home t) ((format_of kind).bits / 8)) pc end
+      → 14 + 12 * ((format_of kind).bits / 8) ≤ c
+      →
+      ((z : ℕ) (v2 : View) → IsUnaryResult Minus (fixed kind s) mode (value v.at (base a) ((format_of kind).bits / 8)) z
+      → M need (machine (with_content t (bits z) m.temps) (worked c m.state)) v2
+      → Follows p place e n (m.state.work + c) end v2 o)
+      → Follows p place e n m.state.work pc v o
+  negation_passes kind s mode c n pc end t a need need0 m v o it ia same_t same_a sat few h more at room onward =
+      by_place (home t) refl at
+    where
+      sign : Bool
+      sign = (format_of kind).signed
+
+      k : ℕ
+      k = (format_of kind).bits / 8
+
+      others : HasAt e (from_zero_code sign (home a) (home t) k) pc end → Follows p place e n m.state.work pc v o
+      others there =
+          from_zero_passes kind s mode c n pc end t a need need0 m v o it ia same_t same_a sat few h more there room onward
+
+      by_place : (q : Location) → home t ≡ q → HasAt e (negated_code sign (home a) q k) pc end → Follows p place e n m.state.work pc v o
+      by_place (InMemory u j) is there =
+          others (subst (λ (q : Location). HasAt e (from_zero_code sign (home a) q k) pc end) (sym is) there)
+      by_place (InRegisters r) is there = by_kind (sign && k == 1) refl there
+        where
+          by_kind : (b : Bool) → (sign && k == 1) ≡ b
+              → HasAt e (if b then move_code (home a) (InRegisters r) 1 ++ opposite_code r
+              else from_zero_code sign (home a) (InRegisters r) k) pc end
+              → Follows p place e n m.state.work pc v o
+          by_kind true q there =
+              let parts = and_parts sign (k == 1) q in
+              let one = eqb-true k 1 parts.1 in
+              opposite_passes kind s mode r c n pc end t a need need0 m v o it ia (same_t ∙ one) (same_a ∙ one) one parts.0 is sat h more
+              there (omega (arith, room)) onward
+          by_kind false q there =
+              others (subst (λ (q : Location). HasAt e (from_zero_code sign (home a) q k) pc end) (sym is) there)
 
   pub negated_passes : (op : UnOp) (ty : PlainType) (mode : Mode) (c n pc end : ℕ) (t a : Temp) (need need0 : Need) (m : Mach) (v : View)
       (o : Outcome Value)

@@ -112,10 +112,10 @@ sides s b x z h p q same =
 -- ---- signed numbers
 
 -- h is half of the power
-up_low : (x h : ℕ) → x < h → (x + h) % (2 * h) ≡ x + h
+pub up_low : (x h : ℕ) → x < h → (x + h) % (2 * h) ≡ x + h
 up_low x h l = kept_below (x + h) (2 * h) (omega arith)
 
-up_high : (x h : ℕ) → h ≤ x → x < 2 * h → (x + h) % (2 * h) ≡ x - h
+pub up_high : (x h : ℕ) → h ≤ x → x < 2 * h → (x + h) % (2 * h) ≡ x - h
 up_high x h l k =
     let e : x + h ≡ 1 * (2 * h) + (x - h) = omega arith in
     ap (λ t. t % (2 * h)) e ∙ mod-mul-add 1 (2 * h) (x - h) (omega arith)
@@ -160,7 +160,7 @@ up_once x z h k l q =
     (cases_lt x h)
 
 -- half of a power of 256
-half_of : (b : ℕ) → 1 ≤ b → (h : ℕ) × (256 ^ b ≡ 2 * h) × (256 ^ b / 2 ≡ h)
+pub half_of : (b : ℕ) → 1 ≤ b → (h : ℕ) × (256 ^ b ≡ 2 * h) × (256 ^ b / 2 ≡ h)
 half_of zero l = absurd (omega arith)
 half_of (suc n) l =
     let s : 256 ^ suc n ≡ 256 ^ n * 256 = pow-suc 256 n in

@@ -907,6 +907,24 @@ advanced_is minus n taken a i o e x h l k =
     by_sign false g = let w : i + times ≡ o + far * 65536 = plus_step n x.lifts.k x.index i o e x.lifts.is g in omega (arith, w, l, k)
     by_sign true g = let w : i + far * 65536 ≡ o + times = minus_step n x.lifts.k x.index i o e x.lifts.is g in omega (arith, w, l, k)
 
+-- where of an address its low two bytes alone are taken, they are right for any address
+pub advanced_low : (minus : Bool) (n : ℤ) (taken a i o e : ℕ) → IsIndex n taken
+    → pos i +ℤ moved_elements minus n *ℤ pos e ≡ pos o
+    → moved_by minus ((a + i) % 65536) (taken * (e % 65536) % 65536) ≡ (a + o) % 65536
+advanced_low minus n taken a i o e x h =
+    ap (moved_by minus ((a + i) % 65536)) (x.same (e % 65536) ∙ mul-mod_second x.index e 65536) ∙ by_sign minus h
+  where
+    far : ℕ
+    far = x.lifts.k * e
+
+    times : ℕ
+    times = x.index * e
+
+    by_sign : (minus : Bool) → pos i +ℤ moved_elements minus n *ℤ pos e ≡ pos o
+        → moved_by minus ((a + i) % 65536) (times % 65536) ≡ (a + o) % 65536
+    by_sign false g = let w : i + times ≡ o + far * 65536 = plus_step n x.lifts.k x.index i o e x.lifts.is g in omega (arith, w)
+    by_sign true g = let w : i + far * 65536 ≡ o + times = minus_step n x.lifts.k x.index i o e x.lifts.is g in omega (arith, w)
+
 -- an offset and the distance from it, which is taken modulo 65,536 and then by its sign
 plus_far : (w i o far times : ℕ) → i + times ≡ o + far * 65536 → i ≤ 32767 → o ≤ 32767 → w + o < 16777216
     → far_moved_by false (w + i) (times % 65536) ≡ w + o

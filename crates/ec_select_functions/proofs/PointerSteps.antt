@@ -1,8 +1,8 @@
 -- Operators and conversions of pointers: what their code does for them.
-use Rattle.std.proofs.Common.{◌≡◌, ◌≢◌, ℕ, zero, suc, ◌+◌, ◌*◌, ◌%◌, ◌^◌, ◌<◌, ◌≤◌, inl, inr, ⊎_elim}
+use Rattle.std.proofs.Common.{◌≡◌, ◌≢◌, ℕ, zero, suc, ◌+◌, ◌-◌, ◌*◌, ◌%◌, ◌^◌, ◌<◌, ◌≤◌, inl, inr, ⊎_elim}
 use Rattle.std.proofs.Common.{Bool, true, false, ◌&&◌, ◌||◌, ℤ, pos, ◌*ℤ◌, List, [], ◌∷◌, ◌++◌, Option, Some, None}
 use Rattle.std.proofs.Common.{Result, Ok, Err, refl, sym, ap, ◌∙◌, subst, arith, append-nil, ◌⊎◌}
-use Rattle.std.specs.Prelude.{◌==◌, nat_le, if◌then◌else◌, slice_get, slice_index, not}
+use Rattle.std.specs.Prelude.{◌==◌, nat_le, if◌then◌else◌, slice_get, not}
 use Rattle.std.specs.Int.{from_bool}
 use Rattle.std.proofs.lemmas.Bool.{cases_lt, eqb-true, leb-true, leb-false, cases_eq, false≢true, and_parts, eq-eqb}
 use Rattle.std.proofs.lemmas.Nat.{mod_below}
@@ -21,10 +21,10 @@ use Rattle.ec_asm.specs.View.{View}
 use Rattle.ec_asm.specs.Change.{Env, Own}
 use Rattle.ec_asm.specs.Items.{HasAt, block, all_straight, code_steps}
 use Rattle.ec_asm.specs.Pieces.{StandsFrom, Outside, Keeps, value}
-use Rattle.ec_asm.specs.PieceLaws.{HoldsNumbers}
+use Rattle.ec_asm.specs.PieceLaws.{HoldsNumbers, AreHeld}
 use Rattle.ec_asm.proofs.Hoare.{has_parts, block_goes, goes_on_to, block-append, straight-append, steps-append}
-use Rattle.ec_asm.proofs.Numbers.{pow_pos}
-use Rattle.std.proofs.Common.{min}
+use Rattle.ec_asm.proofs.Numbers.{pow_pos, value_mod}
+use Rattle.std.proofs.Common.{min, max}
 use Rattle.ec_core.specs.declared.expressions.BinOp.{BinOp}
 use Rattle.ec_core.specs.declared.expressions.BinOp.TheVariants.{Add, Sub, Lt}
 use Rattle.ec_core.specs.declared.expressions.BinOp.TheVariants.{Gt, Le, Ge, Eq, Ne}
@@ -57,14 +57,17 @@ use Rattle.ec_select_order.specs.declared.relations.Relation.{Relation}
 use Rattle.ec_select_order.specs.declared.relations.Relation.TheVariants.{Less as IsBelow, NotLess, Equal as IsSame}
 use Rattle.ec_select_order.specs.declared.relations.Relation.TheVariants.{NotEqual}
 use Rattle.ec_select_places.specs.Numbers.{Place, number_of, IsPlace, places_stand}
-use Rattle.ec_select_order.specs.Relations.{relation_code}
-use Rattle.ec_select_order.specs.Laws.{Tells}
-use Rattle.ec_select_places.specs.Steps.{scale_index_code, advance_code}
+use Rattle.ec_select_order.specs.Relations.{stand_so, relation_in_code}
+use Rattle.ec_select_order.specs.Laws.{TellsIn}
+use Rattle.ec_select_order.proofs.Truths.{relations_are_told_in}
+use Rattle.ec_select_places.specs.Steps.{scale_index_code, advance_code, z_pair, compared_bytes as ordered_bytes}
+use Rattle.ec_select_places.proofs.Advanced.{places_are_told}
+use Rattle.ec_select_places.proofs.FarPlaces.{far_places_are_told}
 use Rattle.ec_select_places.specs.Indexes.{is_addend, can_add, add_index_code}
 use Rattle.ec_select_places.specs.IndexLaws.{Adds}
 use Rattle.ec_select_places.specs.Far.{advance_far_code}
 use Rattle.ec_select_places.specs.FarLaws.{IsFarPlace, MayRelate, LeavesWork, far_moved_by}
-use Rattle.ec_select_places.specs.StepLaws.{LeavesZ, Scales, Advances, index_of, moved_by}
+use Rattle.ec_select_places.specs.StepLaws.{LeavesZ, MayBeInZ, Scales, Advances, index_of, moved_by}
 use Rattle.ec_select_pointers.specs.Addresses.{field_code}
 use Rattle.ec_select_pointers.specs.AddressLaws.{HasPut as IsPut}
 use Rattle.ec_select_pointers.specs.Far.{field_far_code}
@@ -72,25 +75,23 @@ use Rattle.ec_select_places.specs.DistanceLaws.{signed_number, IsFrom, Differs}
 use Rattle.ec_select_places.specs.ConversionLaws.{HasPut}
 use Rattle.ec_select_places.specs.Distances.{elements_code}
 use Rattle.ec_select_places.specs.Conversions.{embedded, embed_code}
-use Rattle.ec_select_operations.specs.declared.families.Told.{Told}
+use Rattle.ec_select_operations.specs.declared.families.Told.TheVariants.{Index}
 use Rattle.ec_select_operations.specs.declared.families.Family.{Family}
 use Rattle.ec_select_operations.specs.declared.families.Family.TheVariants.{Compared}
-use Rattle.ec_select_operations.specs.Code.{is_apart}
-use Rattle.ec_select_operations.specs.Code.{Linkage, own_code, tells_next, ops_code, told_by, tells, family_of, is_signed}
-use Rattle.ec_select_operations.specs.Code.{is_only_tested}
-use Rattle.ec_select_operations.specs.Code.{wanted_bytes}
+use Rattle.ec_select_operations.specs.Code.{Linkage, own_code, tells_next, ops_code, family_of, by_kind}
 use Rattle.ec_select_operations.specs.Code.{move_code, conversion_code, is_far, moved_code, offset_code, is_difference}
+use Rattle.ec_select_operations.specs.Code.{truth_register, truth_at_code}
 use Rattle.ec_select_operations.specs.Code.{takes_index, indexed_code}
 use Rattle.ec_select_operations.specs.Code.{related_bytes, member_code, known_index, known_bytes, known_offset, known_offset_code}
 use Rattle.ec_select_operations.specs.Code.{pointers_code}
 use Rattle.ec_select_functions.specs.Covered.{IsPointerBinary, IsPointerConversion}
 use Rattle.ec_select_operations.specs.Homes.{HasHome}
 use Rattle.ec_select_operations.specs.Needs.{Need, Facts, is_fixed, is_whole, facts_of, before, needs, wanted, at_least}
-use Rattle.ec_select_operations.specs.Needs.{without, all_or_none}
-use Rattle.ec_select_operations.specs.Needs.{first_wanted, second_wanted, compared_bytes, number_taken, moves_pointer, right_taken}
-use Rattle.ec_select_operations.specs.Needs.{right_needed, number_known}
+use Rattle.ec_select_operations.specs.Needs.{without, all_or_none, first_wanted, second_wanted, compared_bytes}
+use Rattle.ec_select_operations.specs.Needs.{number_taken, moves_pointer, right_taken, right_needed, number_known}
+use Rattle.ec_select_operations.specs.Needs.{masked_bytes, joined_bytes, pointer_wanted, moved_wanted}
 use Rattle.ec_select_operations.specs.Places.{Apart, IsClear}
-use Rattle.ec_select_operations.specs.Pointers.{is_into_data, IsPointerIn, IsPointerSize, home_of}
+use Rattle.ec_select_operations.specs.Pointers.{has_tables, is_into_data, IsPointerIn, IsPointerSize, home_of}
 use Rattle.ec_select_functions.specs.Relation.{FramesStand, Matches, HoldsContent}
 use Rattle.ec_select_functions.proofs.Checked.{checked_on, performed}
 use Rattle.ec_select_functions.proofs.Follow.{Follows, after, from_held, next_next, held_is}
@@ -101,9 +102,10 @@ use Rattle.ec_select_functions.proofs.Match.{least_other}
 use Rattle.ec_select_functions.proofs.Match.{without_other, held_row}
 use Rattle.ec_select_functions.proofs.Moves.{Frame, Wide, numbers_kept, row_value, narrower, stands_less}
 use Rattle.ec_select_functions.proofs.Moves.{move_straight, move_steps}
-use Rattle.ec_select_functions.proofs.Moves.{move_brings}
+use Rattle.ec_select_functions.proofs.Moves.{move_brings, off_low_work, off_high_work, z_stands}
 use Rattle.ec_select_functions.proofs.Transfers.{Brought}
 use Rattle.ec_select_functions.proofs.Numeric.{from_numeric}
+use Rattle.ec_select_functions.proofs.Ordered.{ArePlaces, first_of}
 use Rattle.ec_select_functions.proofs.PointerNumbers.{HavePlaces, AreApartIn, objects_have_places, place_of, tag_byte}
 use Rattle.ec_select_functions.proofs.PointerNumbers.{IsAddressed, IsIntoSpace}
 use Rattle.ec_select_functions.proofs.PointerNumbers.{places_core, low_address, offset_small, is_place, is_far_place}
@@ -112,11 +114,15 @@ use Rattle.ec_select_functions.proofs.PointerNumbers.{MayCompare, compared_alike
 use Rattle.ec_select_functions.proofs.PointerNumbers.{places_compare, comparison_is}
 use Rattle.ec_select_functions.proofs.PointerNumbers.{Distance, difference_is, IsMoved, moved_is, IsIndex, index_is}
 use Rattle.ec_select_functions.proofs.PointerNumbers.{moved_elements, offset_moves, far_offset_moves, known_index_is}
-use Rattle.ec_select_functions.proofs.PointerNumbers.{advanced_is, in_space_is, low_numbers, low_is_offset, embedded_is}
-use Rattle.ec_select_functions.proofs.Related.{told_matches}
+use Rattle.ec_select_functions.proofs.PointerNumbers.{advanced_is, advanced_low, in_space_is, low_numbers, low_is_offset, embedded_is}
+use Rattle.ec_select_functions.proofs.Related.{tells_to, told_matches}
 use Rattle.ec_select_functions.proofs.Setting.{Setting, together}
 use Rattle.ec_select_functions.proofs.Taken.{TakenNumber, as_known, no_number, HasNumber, number_or_none}
 use Rattle.ec_select_functions.proofs.Wrapped.{low_below, kept_below}
+
+-- the code of one kind of operations
+kind_is : (own : Bool) (code others : List AsmItem) → own ≡ true → by_kind own code others ≡ code
+kind_is own code others q = ap (λ x. by_kind x code others) q
 
 -- ---- bytes
 
@@ -157,6 +163,11 @@ moved_pointer p n q bytes z i w =
 far_bytes : (core : Core) (bytes : ℕ) → is_far core bytes ≡ true → bytes ≡ 3
 far_bytes Small bytes h = absurd cc
 far_bytes Large bytes h = eqb-true bytes 3 h
+
+-- and one of two bytes has none
+two_near : (core : Core) → is_far core 2 ≡ false
+two_near Small = refl
+two_near Large = refl
 
 -- ---- operands
 
@@ -323,22 +334,24 @@ module _ (p : PlainProgram) (e : Env) (slots : ℕ) (home : Temp → Location) (
     seen : w.seen ≡ v.seen
 
   -- the code moves a pointer by so many elements
-  pub offset_matches : (core : Core) → core ≡ e.core → (minus signed : Bool) (t a b : Temp) (size c low : ℕ) (k : ℤ) (q : ObjectPointer)
-      (z : PointerValue) (need need0 : Need) (m : Mach) (v : View) → HasHome slots t → HasHome slots a → HasHome slots b → t.bytes ≡ a.bytes
+  pub offset_matches : (core : Core) → core ≡ e.core → (minus signed : Bool) (t a : Temp) (l : Location) (from bytes size c low : ℕ) (k : ℤ)
+      (q : ObjectPointer) (z : PointerValue) (need need0 : Need) (m : Mach) (v : View) → HasHome slots t → HasHome slots a
+      → StandsFrom e l bytes from Own → MayBeInZ l from bytes → 1 ≤ bytes → t.bytes ≡ a.bytes
       → IsPointerIn p a.bytes q → value v.at (base a) a.bytes ≡ number_of (place_of p place a.bytes (Some q))
-      → value v.at (base b) b.bytes ≡ low → IsIndex k (index_of signed b.bytes low)
+      → value v.at from bytes ≡ low → IsIndex k (index_of signed bytes low)
       → IsMoved p q (moved_elements minus k *ℤ pos size) z → ((u : ℕ) → u ≢ t.at → need u ≤ need0 u) → Shown need0 m v
       → Shown need (machine (with_content t (content_of t.bytes (Pointer z)) m.temps) (worked c m.state))
-      (block e (scale_index_code (home b) signed b.bytes (size % 65536)
+      (block e (scale_index_code l signed bytes (size % 65536)
       ++ (move_code (home a) (home t) a.bytes ++ moved_code core a.bytes minus (home t))) v)
-  offset_matches core one_core minus signed t a b size c low k q z need need0 m v it ia ib same i number index ix moves more h =
+  offset_matches core one_core minus signed t a l from bytes size c low k q z need need0 m v it ia il free some same i number index ix
+      moves more h =
       subst (λ (x : View). Shown need (machine (with_content t (content_of t.bytes (Pointer z)) m.temps) (worked c m.state)) x)
       (sym whole_block)
       (moved_written t a c q (moved_elements minus k *ℤ pos size) z need need0 m v v3 it same i moves more h ad.number_is ad.numbers frame
       (ad.inputs ∙ mv.inputs ∙ sc.inputs) (ad.safe ∙ mv.safe ∙ sc.safe) (ad.seen ∙ mv.seen ∙ sc.seen))
     where
       scale : List AsmItem
-      scale = scale_index_code (home b) signed b.bytes (size % 65536)
+      scale = scale_index_code l signed bytes (size % 65536)
 
       move : List AsmItem
       move = move_code (home a) (home t) a.bytes
@@ -376,9 +389,8 @@ module _ (p : PlainProgram) (e : Env) (slots : ℕ) (home : Temp → Location) (
       to_stands : StandsFrom e (home t) a.bytes (base t) Own
       to_stands = subst (λ (n : ℕ). StandsFrom e (home t) n (base t) Own) same (y.layout.temps_at t it)
 
-      sc : Scales v (index_of signed b.bytes (value v.at (base b) b.bytes) * (size % 65536) % 65536) v1
-      sc = y.pointers.scaled e (home b) signed b.bytes (size % 65536) (base b) v (y.layout.temps_at b ib)
-          (leaves_z (base b) b.bytes b.bytes (omega arith) (y.layout.temps_work b ib)) ib.some (mod_below size 65536 (omega arith)) h.bytes
+      sc : Scales v (index_of signed bytes (value v.at from bytes) * (size % 65536) % 65536) v1
+      sc = y.pointers.scaled e l signed bytes (size % 65536) from v il free some (mod_below size 65536 (omega arith)) h.bytes
 
       mv : Brought v1 (base a) (base t) a.bytes v2
       mv = move_brings e (home a) (home t) a.bytes (base a) (base t) v1 (y.layout.temps_at a ia) to_stands
@@ -413,9 +425,9 @@ module _ (p : PlainProgram) (e : Env) (slots : ℕ) (home : Temp → Location) (
           (λ j l. subst (λ (n : ℕ). n < 256) (sym (brought j l)) (held_row v (base a) a.bytes some_a h.bytes j l))
           (subst (λ (n : ℕ). n < 256) (sym (z_kept 0 (omega arith))) (sc.numbers 30 (omega arith)))
 
-      index_there : value v2.at 30 2 ≡ index_of signed b.bytes low * (size % 65536) % 65536
+      index_there : value v2.at 30 2 ≡ index_of signed bytes low * (size % 65536) % 65536
       index_there =
-          row_value v2.at v1.at 30 30 2 z_kept ∙ sc.number_is ∙ ap (λ (n : ℕ). index_of signed b.bytes n * (size % 65536) % 65536) index
+          row_value v2.at v1.at 30 30 2 z_kept ∙ sc.number_is ∙ ap (λ (n : ℕ). index_of signed bytes n * (size % 65536) % 65536) index
 
       -- the pointer before, at its new place
       number_before : value v2.at (base t) a.bytes ≡ number_of (place_of p place a.bytes (Some q))
@@ -438,7 +450,7 @@ module _ (p : PlainProgram) (e : Env) (slots : ℕ) (home : Temp → Location) (
       near : is_far core a.bytes ≡ false → IsAdvanced v2 (base t) a.bytes to_number (block e (advance_code minus (home t)) v2)
       near is_near =
           record {
-            number_is = near_number core one_core minus (base t) a.bytes size (index_of signed b.bytes low) k q z v2 w is_near some_t i ix
+            number_is = near_number core one_core minus (base t) a.bytes size (index_of signed bytes low) k q z v2 w is_near some_t i ix
                 moves numbers2 number_before (advances.number_is ∙ ap (moved_by minus (value v2.at (base t) 2)) index_there)
                 (λ r. keeps.same (base t + 2) (omega (arith, some_t)) (omega (arith, some_t)) (λ o. omega arith));
             numbers = advances.numbers;
@@ -474,8 +486,8 @@ module _ (p : PlainProgram) (e : Env) (slots : ℕ) (home : Temp → Location) (
           three_bytes Small bytes h = absurd cc
           three_bytes Large bytes h = eqb-true bytes 3 h
 
-          from : ℕ
-          from = place q.object + tag_byte a.bytes (home_of p q.object) * 65536
+          start : ℕ
+          start = place q.object + tag_byte a.bytes (home_of p q.object) * 65536
 
           work : a.bytes ≡ 3 → LeavesWork (base t) 3
           work three j l u =
@@ -488,19 +500,19 @@ module _ (p : PlainProgram) (e : Env) (slots : ℕ) (home : Temp → Location) (
               let stands : StandsFrom e (home t) 3 (base t) Own = subst (λ (n : ℕ). StandsFrom e (home t) n (base t) Own) three to_stands in
               let fa = y.pointers.far.advanced minus e (home t) (base t) v2 stands
               (leaves_z (base t) t.bytes 3 (omega (arith, same, three)) clear_t) (work three) numbers2 in
-              let full : value v2.at (base t) 3 ≡ from + q.offset =
+              let full : value v2.at (base t) 3 ≡ start + q.offset =
               subst (λ (n : ℕ). value v2.at (base t) n ≡ number_of (place_of p place a.bytes (Some q))) three number_before ∙ omega arith in
               let limit = subst (λ (n : ℕ). to_number < 256 ^ n) three
               (number_below p place have a.bytes (Some moves.to) i.size moved_in) in
-              let is_to : from + moves.to.offset ≡ to_number = (rw (object, tag) (omega arith)) in
-              let small : from + moves.to.offset < 16777216 = omega (arith, limit, is_to) in
-              let behind : far_moved_by minus (from + q.offset) (index_of signed b.bytes low * (size % 65536) % 65536)
-              ≡ from + moves.to.offset =
-              far_advanced_is minus k (index_of signed b.bytes low) from q.offset moves.to.offset size ix moves.offset
+              let is_to : start + moves.to.offset ≡ to_number = (rw (object, tag) (omega arith)) in
+              let small : start + moves.to.offset < 16777216 = omega (arith, limit, is_to) in
+              let behind : far_moved_by minus (start + q.offset) (index_of signed bytes low * (size % 65536) % 65536)
+              ≡ start + moves.to.offset =
+              far_advanced_is minus k (index_of signed bytes low) start q.offset moves.to.offset size ix moves.offset
               (offset_small p place have q i.pointed) (offset_small p place have moves.to moves.pointed) small in
               record {
                 number_is = fa.number_is ∙ ap (λ (n : ℕ). far_moved_by minus n (value v2.at 30 2)) full
-                    ∙ ap (far_moved_by minus (from + q.offset)) index_there ∙ behind ∙ is_to;
+                    ∙ ap (far_moved_by minus (start + q.offset)) index_there ∙ behind ∙ is_to;
                 numbers = fa.numbers;
                 same = fa.same;
                 inputs = fa.inputs;
@@ -523,16 +535,67 @@ module _ (p : PlainProgram) (e : Env) (slots : ℕ) (home : Temp → Location) (
           ∙ mv.same k r0 (subst (λ (n : ℕ). Outside (base t) n k) same o)
           ∙ sc.same k r0 r1 (λ u. let z = low_off u in omega arith) (λ u. let z = high_off (omega arith) in omega arith)
 
+  -- R26 is of no such bytes
+  off_pair : (b n : ℕ) → IsClear b n → Outside b n 26
+  off_pair b n clear o = ⊎_elim (λ (x : b < 26). let z = clear.high.left x in omega arith)
+      (λ (x : 26 ≤ b). let z = clear.high.right x in absurd (omega arith)) (cases_lt b 26)
+
+  -- an index that can be added to a temporary has not R26, and is none of the temporary's bytes
+  pub record IsAside (t : Temp) (from bytes : ℕ) : Type 0 where
+    pub off : Outside from bytes 26
+    pub apart : (j : ℕ) → j < bytes → Outside (base t) t.bytes (from + j)
+
+  pub temp_aside : (signed : Bool) (t b : Temp) (size : ℕ) → HasHome slots t → HasHome slots b
+      → can_add signed (home b) (home t) b.bytes size ≡ true → IsAside t (base b) b.bytes
+  temp_aside signed t b size it ib can = record { off = off_pair (base b) b.bytes (y.layout.temps_work b ib); apart = outside }
+    where
+      -- the index is none of the result's bytes
+      apart : Apart (base t) t.bytes (base b) b.bytes
+      apart = ⊎_elim
+          (λ (r : t.at ≡ b.at). ⊎_elim
+          (λ (x : base t ≡ base b). absurd (other_register (home b) (home t) (y.layout.temps_at b ib) (y.layout.temps_at t it) x can))
+          (λ (x : Apart (base t) t.bytes (base b) b.bytes). x) (y.layout.temps_again t b it ib r))
+          (λ (r : t.at ≢ b.at). y.layout.temps_apart t b it ib r)
+          (cases_eq t.at b.at)
+        where
+          other_register : (p q : Location) → StandsFrom e p b.bytes (base b) Own → StandsFrom e q t.bytes (base t) Own → base t ≡ base b
+              → can_add signed p q b.bytes size ≡ true → ⊥
+          other_register (InRegisters r) (InRegisters d) sp sq x can =
+              let z = sp.at 0 ib.some in
+              let w = sq.at 0 it.some in
+              let equal : r ≡ d = omega (arith, x, z, w) in
+              false≢true (ap not (sym (eq-eqb r d equal)) ∙ (and_parts (not (r == d)) (is_addend signed b.bytes size) can).0)
+          other_register (InRegisters r) (InMemory o k) sp sq x can = absurd cc
+          other_register (InMemory o k) (InRegisters d) sp sq x can = absurd cc
+          other_register (InMemory o k) (InMemory u j) sp sq x can = absurd cc
+
+      outside : (j : ℕ) → j < b.bytes → Outside (base t) t.bytes (base b + j)
+      outside j l o = ⊎_elim (λ (x : base t < base b). let z = apart.left x in omega arith)
+          (λ (x : base b ≤ base t). let z = apart.right x in absurd (omega arith)) (cases_lt (base t) (base b))
+
+  -- one in R30 and R31 is such an index
+  pub z_aside : (t : Temp) (bytes : ℕ) → HasHome slots t → bytes ≤ 2 → IsAside t 30 bytes
+  z_aside t bytes it few = record { off = λ o. omega arith; apart = outside }
+    where
+      clear : IsClear (base t) t.bytes
+      clear = y.layout.temps_work t it
+
+      outside : (j : ℕ) → j < bytes → Outside (base t) t.bytes (30 + j)
+      outside j l o = ⊎_elim (λ (x : base t < 26). let z = clear.high.left x in omega arith)
+          (λ (x : 26 ≤ base t). let z = clear.high.right x in absurd (omega (arith, few))) (cases_lt (base t) 26)
+
   -- the code moves a pointer by an index as it stands
-  pub indexed_matches : (core : Core) → core ≡ e.core → (minus signed : Bool) (t a b : Temp) (size c low : ℕ) (k : ℤ) (q : ObjectPointer)
-      (z : PointerValue) (need need0 : Need) (m : Mach) (v : View) → HasHome slots t → HasHome slots a → HasHome slots b → t.bytes ≡ a.bytes
-      → takes_index core signed (home b) (home t) a.bytes b.bytes (size % 65536) ≡ true
+  pub indexed_matches : (core : Core) → core ≡ e.core → (minus signed : Bool) (t a : Temp) (l : Location) (from bytes size c low : ℕ)
+      (k : ℤ) (q : ObjectPointer) (z : PointerValue) (need need0 : Need) (m : Mach) (v : View) → HasHome slots t → HasHome slots a
+      → StandsFrom e l bytes from Own → IsAside t from bytes → 1 ≤ bytes → t.bytes ≡ a.bytes
+      → takes_index core signed l (home t) a.bytes bytes (size % 65536) ≡ true
       → IsPointerIn p a.bytes q → value v.at (base a) a.bytes ≡ number_of (place_of p place a.bytes (Some q))
-      → value v.at (base b) b.bytes ≡ low → IsIndex k (index_of signed b.bytes low)
+      → value v.at from bytes ≡ low → IsIndex k (index_of signed bytes low)
       → IsMoved p q (moved_elements minus k *ℤ pos size) z → ((u : ℕ) → u ≢ t.at → need u ≤ need0 u) → Shown need0 m v
       → Shown need (machine (with_content t (content_of t.bytes (Pointer z)) m.temps) (worked c m.state))
-      (block e (indexed_code minus (home a) (home b) (home t) a.bytes b.bytes (size % 65536)) v)
-  indexed_matches core one_core minus signed t a b size c low k q z need need0 m v it ia ib same takes i number index ix moves more h =
+      (block e (indexed_code minus (home a) l (home t) a.bytes bytes (size % 65536)) v)
+  indexed_matches core one_core minus signed t a l from bytes size c low k q z need need0 m v it ia il aside some same takes i
+      number index ix moves more h =
       subst (λ (x : View). Shown need (machine (with_content t (content_of t.bytes (Pointer z)) m.temps) (worked c m.state)) x)
       (sym (block-append e move add v))
       (moved_written t a c q (moved_elements minus k *ℤ pos size) z need need0 m v v2 it same i moves more h behind ad.numbers frame
@@ -542,7 +605,7 @@ module _ (p : PlainProgram) (e : Env) (slots : ℕ) (home : Temp → Location) (
       move = move_code (home a) (home t) a.bytes
 
       add : List AsmItem
-      add = add_index_code minus (home b) (home t) b.bytes (size % 65536)
+      add = add_index_code minus l (home t) bytes (size % 65536)
 
       v1 : View
       v1 = block e move v
@@ -550,8 +613,8 @@ module _ (p : PlainProgram) (e : Env) (slots : ℕ) (home : Temp → Location) (
       v2 : View
       v2 = block e add v1
 
-      parts : (not (is_far core a.bytes) ≡ true) × (can_add signed (home b) (home t) b.bytes (size % 65536) ≡ true)
-      parts = and_parts (not (is_far core a.bytes)) (can_add signed (home b) (home t) b.bytes (size % 65536)) takes
+      parts : (not (is_far core a.bytes) ≡ true) × (can_add signed l (home t) bytes (size % 65536) ≡ true)
+      parts = and_parts (not (is_far core a.bytes)) (can_add signed l (home t) bytes (size % 65536)) takes
 
       is_near : is_far core a.bytes ≡ false
       is_near = not_true (is_far core a.bytes) parts.0
@@ -566,14 +629,11 @@ module _ (p : PlainProgram) (e : Env) (slots : ℕ) (home : Temp → Location) (
       clear_t : IsClear (base t) t.bytes
       clear_t = y.layout.temps_work t it
 
-      clear_b : IsClear (base b) b.bytes
-      clear_b = y.layout.temps_work b ib
-
       some_a : 2 ≤ base a
       some_a = (y.layout.temps_at a ia).clear
 
-      some_b : 2 ≤ base b
-      some_b = (y.layout.temps_at b ib).clear
+      some_b : 2 ≤ from
+      some_b = il.clear
 
       some_t : 2 ≤ base t
       some_t = (y.layout.temps_at t it).clear
@@ -585,39 +645,9 @@ module _ (p : PlainProgram) (e : Env) (slots : ℕ) (home : Temp → Location) (
       mv = move_brings e (home a) (home t) a.bytes (base a) (base t) v (y.layout.temps_at a ia) to_stands
           (read_first p e slots home base place y t a a.bytes it ia (omega arith)) h.bytes
 
-      -- R26 is of neither
-      off_pair : (t : Temp) → IsClear (base t) t.bytes → Outside (base t) t.bytes 26
-      off_pair t clear o = ⊎_elim (λ (x : base t < 26). let z = clear.high.left x in omega arith)
-          (λ (x : 26 ≤ base t). let z = clear.high.right x in absurd (omega arith)) (cases_lt (base t) 26)
-
-      -- and the index is none of the result's bytes
-      apart : Apart (base t) t.bytes (base b) b.bytes
-      apart = ⊎_elim
-          (λ (r : t.at ≡ b.at). ⊎_elim
-          (λ (x : base t ≡ base b). absurd (other_register (home b) (home t) (y.layout.temps_at b ib) (y.layout.temps_at t it) x parts.1))
-          (λ (x : Apart (base t) t.bytes (base b) b.bytes). x) (y.layout.temps_again t b it ib r))
-          (λ (r : t.at ≢ b.at). y.layout.temps_apart t b it ib r)
-          (cases_eq t.at b.at)
-        where
-          other_register : (p q : Location) → StandsFrom e p b.bytes (base b) Own → StandsFrom e q t.bytes (base t) Own → base t ≡ base b
-              → can_add signed p q b.bytes (size % 65536) ≡ true → ⊥
-          other_register (InRegisters r) (InRegisters d) sp sq x can =
-              let z = sp.at 0 ib.some in
-              let w = sq.at 0 it.some in
-              let equal : r ≡ d = omega (arith, x, z, w) in
-              false≢true (ap not (sym (eq-eqb r d equal))
-              ∙ (and_parts (not (r == d)) (is_addend signed b.bytes (size % 65536)) can).0)
-          other_register (InRegisters r) (InMemory o k) sp sq x can = absurd cc
-          other_register (InMemory o k) (InRegisters d) sp sq x can = absurd cc
-          other_register (InMemory o k) (InMemory u j) sp sq x can = absurd cc
-
-      outside : (j : ℕ) → j < b.bytes → Outside (base t) t.bytes (base b + j)
-      outside j l o = ⊎_elim (λ (x : base t < base b). let z = apart.left x in omega arith)
-          (λ (x : base b ≤ base t). let z = apart.right x in absurd (omega arith)) (cases_lt (base t) (base b))
-
-      index_kept : (j : ℕ) → j < b.bytes → v1.at (base b + j) ≡ v.at (base b + j)
+      index_kept : (j : ℕ) → j < bytes → v1.at (from + j) ≡ v.at (from + j)
       index_kept j l =
-          mv.same (base b + j) (omega (arith, some_b)) (subst (λ (n : ℕ). Outside (base t) n (base b + j)) same (outside j l))
+          mv.same (from + j) (omega (arith, some_b)) (subst (λ (n : ℕ). Outside (base t) n (from + j)) same (aside.apart j l))
 
       numbers1 : HoldsNumbers v1
       numbers1 = numbers_kept v v1 (base t) a.bytes h.bytes (λ k x z w o. mv.same k x o)
@@ -634,33 +664,391 @@ module _ (p : PlainProgram) (e : Env) (slots : ℕ) (home : Temp → Location) (
                   (λ (x : 26 ≤ base t). let z = clear_t.high.right x in absurd (omega arith)) (cases_lt (base t) 26)
 
       ad : Adds v1 (base t) (moved_by minus (value v1.at (base t) 2)
-          (index_of signed b.bytes (value v1.at (base b) b.bytes) * (size % 65536) % 65536)) v2
-      ad = y.pointers.added minus signed e (home b) (home t) b.bytes (size % 65536) (base b) (base t) v1 (y.layout.temps_at b ib)
-          (stands_less e (home t) a.bytes 2 (base t) Own two to_stands) ib.some (off_pair b clear_b)
-          (narrower (base t) t.bytes 2 26 (omega (arith, two, same)) (off_pair t clear_t))
-          (λ j l. narrower (base t) t.bytes 2 (base b + j) (omega (arith, two, same)) (outside j l)) parts.1 numbers1
+          (index_of signed bytes (value v1.at from bytes) * (size % 65536) % 65536)) v2
+      ad = y.pointers.added minus signed e l (home t) bytes (size % 65536) from (base t) v1 il
+          (stands_less e (home t) a.bytes 2 (base t) Own two to_stands) some aside.off
+          (narrower (base t) t.bytes 2 26 (omega (arith, two, same)) (off_pair (base t) t.bytes clear_t))
+          (λ j l. narrower (base t) t.bytes 2 (from + j) (omega (arith, two, same)) (aside.apart j l)) parts.1 numbers1
 
       number_before : value v1.at (base t) a.bytes ≡ number_of (place_of p place a.bytes (Some q))
       number_before = row_value v1.at v.at (base a) (base t) a.bytes mv.there ∙ number
 
-      index_there : value v1.at (base b) b.bytes ≡ low
-      index_there = row_value v1.at v.at (base b) (base b) b.bytes index_kept ∙ index
+      index_there : value v1.at from bytes ≡ low
+      index_there = row_value v1.at v.at from from bytes index_kept ∙ index
 
       behind : value v2.at (base t) a.bytes ≡ number_of (place_of p place a.bytes (Some moves.to))
-      behind = near_number core one_core minus (base t) a.bytes size (index_of signed b.bytes low) k q z v1 v2 is_near some_t i ix moves
+      behind = near_number core one_core minus (base t) a.bytes size (index_of signed bytes low) k q z v1 v2 is_near some_t i ix moves
           numbers1 number_before
           (ad.number_is
-          ∙ ap (λ (n : ℕ). moved_by minus (value v1.at (base t) 2) (index_of signed b.bytes n * (size % 65536) % 65536)) index_there)
+          ∙ ap (λ (n : ℕ). moved_by minus (value v1.at (base t) 2) (index_of signed bytes n * (size % 65536) % 65536)) index_there)
           (λ r. ad.same (base t + 2) (omega (arith, some_t)) (omega (arith, some_t)) (third_off r) (λ o. omega arith))
         where
           third_off : a.bytes ≡ 3 → base t + 2 ≢ 26
-          third_off r x = let o = off_pair t clear_t in let z = o (omega (arith, x)) in omega (arith, z, r, same, x)
+          third_off r x = let o = off_pair (base t) t.bytes clear_t in let z = o (omega (arith, x)) in omega (arith, z, r, same, x)
 
       frame : Wide v v2 (base t) t.bytes
       frame k r0 r1 low_off high_off o =
           ad.same k r0 r1 (λ (x : k ≡ 26). let z = high_off (omega (arith, x)) in omega (arith, z, x))
           (narrower (base t) t.bytes 2 k (omega (arith, two, same)) o)
           ∙ mv.same k r0 (subst (λ (n : ℕ). Outside (base t) n k) same o)
+
+  -- ---- the two bytes of an address
+
+  -- a pointer of which no more bytes are needed holds them
+  holds_low : (f : ℕ → ℕ) (a n bytes : ℕ) (q : ObjectPointer) → n ≤ 2 → IsPointerIn p bytes q → AreHeld f a 2
+      → value f a 2 ≡ (place q.object + q.offset) % 65536 → HoldsContent p place f a n bytes (points q)
+  holds_low f a n bytes q l i held is =
+      holds_pointer f a n bytes (Some q) i
+      (less_value f a 2 n (number_of (place_of p place bytes (Some q))) l held (is ∙ omega arith))
+
+  -- the code moves them by so many elements
+  pub low_offset_matches : (core : Core) (minus signed : Bool) (t a : Temp) (l : Location) (from bytes size c low : ℕ) (k : ℤ)
+      (q : ObjectPointer) (z : PointerValue) (need need0 : Need) (m : Mach) (v : View) → HasHome slots t → HasHome slots a
+      → StandsFrom e l bytes from Own → MayBeInZ l from bytes → 1 ≤ bytes → t.bytes ≡ a.bytes
+      → IsPointerIn p a.bytes q → wanted need t ≤ 2
+      → value v.at (base a) 2 ≡ number_of (place_of p place a.bytes (Some q)) % 256 ^ 2
+      → value v.at from bytes ≡ low → IsIndex k (index_of signed bytes low)
+      → IsMoved p q (moved_elements minus k *ℤ pos size) z → ((u : ℕ) → u ≢ t.at → need u ≤ need0 u) → Shown need0 m v
+      → Shown need (machine (with_content t (content_of t.bytes (Pointer z)) m.temps) (worked c m.state))
+      (block e (scale_index_code l signed bytes (size % 65536)
+      ++ (move_code (home a) (home t) 2 ++ moved_code core 2 minus (home t))) v)
+  low_offset_matches core minus signed t a l from bytes size c low k q z need need0 m v it ia il free some same i few number index ix
+      moves more h =
+      subst (λ (x : PointerValue). Shown need (machine (with_content t (content_of t.bytes (Pointer x)) m.temps)
+      (worked c m.state)) (block e (scale ++ (move ++ moved_code core 2 minus (home t))) v)) (sym moves.is)
+      (subst (λ (x : View). Shown need (machine (with_content t (points moves.to) m.temps) (worked c m.state)) x) (sym whole_block)
+      (written_wide p e slots home base place y t (points moves.to) need need0 m (worked c m.state) v v3 it h more
+      frame held ad.numbers refl
+      (ad.keeps.seen ∙ mv.seen ∙ sc.seen ∙ h.seen) (kept_left y.inputs m.state v v3 (ad.keeps.inputs ∙ mv.inputs ∙ sc.inputs)
+      h.left) (ad.keeps.safe ∙ mv.safe ∙ sc.safe ∙ h.safe)))
+    where
+      scale : List AsmItem
+      scale = scale_index_code l signed bytes (size % 65536)
+
+      move : List AsmItem
+      move = move_code (home a) (home t) 2
+
+      advance : List AsmItem
+      advance = advance_code minus (home t)
+
+      v1 : View
+      v1 = block e scale v
+
+      v2 : View
+      v2 = block e move v1
+
+      v3 : View
+      v3 = block e advance v2
+
+      advance_is : moved_code core 2 minus (home t) ≡ advance
+      advance_is = ap (λ (x : Bool). if x then advance_far_code minus (home t) else advance) (two_near core)
+
+      whole_block : block e (scale ++ (move ++ moved_code core 2 minus (home t))) v ≡ v3
+      whole_block =
+          ap (λ code. block e (scale ++ (move ++ code)) v) advance_is ∙ block-append e scale (move ++ advance) v
+          ∙ block-append e move advance v1
+
+      two : 2 ≤ a.bytes
+      two = ⊎_elim (λ (r : a.bytes ≡ 2). omega arith) (λ (r : a.bytes ≡ 3). omega arith) i.size
+
+      two_t : 2 ≤ t.bytes
+      two_t = omega (arith, two, same)
+
+      clear_a : IsClear (base a) a.bytes
+      clear_a = y.layout.temps_work a ia
+
+      some_a : 2 ≤ base a
+      some_a = (y.layout.temps_at a ia).clear
+
+      some_t : 2 ≤ base t
+      some_t = (y.layout.temps_at t it).clear
+
+      from_stands : StandsFrom e (home a) 2 (base a) Own
+      from_stands = stands_less e (home a) a.bytes 2 (base a) Own two (y.layout.temps_at a ia)
+
+      to_stands : StandsFrom e (home t) 2 (base t) Own
+      to_stands = stands_less e (home t) t.bytes 2 (base t) Own two_t (y.layout.temps_at t it)
+
+      work : LeavesZ (base t) 2
+      work = leaves_z (base t) t.bytes 2 two_t (y.layout.temps_work t it)
+
+      sc : Scales v (index_of signed bytes (value v.at from bytes) * (size % 65536) % 65536) v1
+      sc = y.pointers.scaled e l signed bytes (size % 65536) from v il free some (mod_below size 65536 (omega arith)) h.bytes
+
+      mv : Brought v1 (base a) (base t) 2 v2
+      mv = move_brings e (home a) (home t) 2 (base a) (base t) v1 from_stands to_stands
+          (read_first p e slots home base place y t a 2 it ia two) sc.numbers
+
+      -- the pointer is there until it is brought to its place
+      brought : (j : ℕ) → j < 2 → v2.at (base t + j) ≡ v.at (base a + j)
+      brought j l =
+          let w = off_work (base a) a.bytes j clear_a (omega (arith, l, two)) in
+          mv.there j l
+          ∙ sc.same (base a + j) (omega (arith, some_a)) (omega (arith, some_a)) (λ u. let z = w.0 u in omega arith)
+          (λ u. let z = w.1 (omega arith) in omega arith)
+
+      -- R30 and R31 are kept meanwhile
+      low_kept : v2.at (30 + 0) ≡ v1.at (30 + 0)
+      low_kept = mv.same 30 (omega arith) work.low
+
+      high_kept : v2.at (30 + 1) ≡ v1.at (30 + 1)
+      high_kept = mv.same 31 (omega arith) work.high
+
+      frame2 : Frame v1 v2 (base t) 2
+      frame2 k x z w o = mv.same k x o
+
+      numbers2 : HoldsNumbers v2
+      numbers2 = numbers_kept v1 v2 (base t) 2 sc.numbers frame2
+          (λ j l. subst (λ (n : ℕ). n < 256) (sym (brought j l)) (held_row v (base a) 2 some_a h.bytes j l))
+          (subst (λ (n : ℕ). n < 256) (sym low_kept) (sc.numbers 30 (omega arith)))
+
+      index_there : value v2.at 30 2 ≡ index_of signed bytes low * (size % 65536) % 65536
+      index_there =
+          (rw (low_kept, high_kept) refl) ∙ sc.number_is ∙ ap (λ (n : ℕ). index_of signed bytes n * (size % 65536) % 65536) index
+
+      moved_in : IsPointerIn p a.bytes moves.to
+      moved_in = moved_pointer p a.bytes q (moved_elements minus k *ℤ pos size) z i moves
+
+      address_before : value v2.at (base t) 2 ≡ (place q.object + q.offset) % 65536
+      address_before = row_value v2.at v.at (base a) (base t) 2 brought ∙ number ∙ omega arith
+
+      ad : Advances v2 (base t) (moved_by minus (value v2.at (base t) 2) (value v2.at 30 2)) v3
+      ad = y.pointers.advanced minus e (home t) (base t) v2 to_stands work numbers2
+
+      address_behind : value v3.at (base t) 2 ≡ (place moves.to.object + moves.to.offset) % 65536
+      address_behind =
+          ad.number_is ∙ ap (λ (n : ℕ). moved_by minus n (value v2.at 30 2)) address_before
+          ∙ ap (moved_by minus ((place q.object + q.offset) % 65536)) index_there
+          ∙ advanced_low minus k (index_of signed bytes low) (place q.object) q.offset moves.to.offset size ix moves.offset
+          ∙ ap (λ (o : ℕ). (place o + moves.to.offset) % 65536) (sym moves.object)
+
+      target : IsPointerIn p t.bytes moves.to
+      target = subst (λ (n : ℕ). IsPointerIn p n moves.to) (sym same) moved_in
+
+      held : HoldsContent p place v3.at (base t) (wanted need t) t.bytes (points moves.to)
+      held = holds_low v3.at (base t) (wanted need t) t.bytes moves.to few target (held_row v3 (base t) 2 some_t ad.numbers) address_behind
+
+      frame : Wide v v3 (base t) t.bytes
+      frame k r0 r1 low_off high_off o =
+          ad.keeps.same k r0 r1 (narrower (base t) t.bytes 2 k two_t o)
+          ∙ mv.same k r0 (narrower (base t) t.bytes 2 k two_t o)
+          ∙ sc.same k r0 r1 (λ u. let z = low_off u in omega arith) (λ u. let z = high_off (omega arith) in omega arith)
+
+  -- or by an index as it stands
+  pub low_indexed_matches : (minus signed : Bool) (t a : Temp) (l : Location) (from bytes size c low : ℕ) (k : ℤ)
+      (q : ObjectPointer) (z : PointerValue) (need need0 : Need) (m : Mach) (v : View) → HasHome slots t → HasHome slots a
+      → StandsFrom e l bytes from Own → IsAside t from bytes → 1 ≤ bytes → t.bytes ≡ a.bytes
+      → can_add signed l (home t) bytes (size % 65536) ≡ true
+      → IsPointerIn p a.bytes q → wanted need t ≤ 2
+      → value v.at (base a) 2 ≡ number_of (place_of p place a.bytes (Some q)) % 256 ^ 2
+      → value v.at from bytes ≡ low → IsIndex k (index_of signed bytes low)
+      → IsMoved p q (moved_elements minus k *ℤ pos size) z → ((u : ℕ) → u ≢ t.at → need u ≤ need0 u) → Shown need0 m v
+      → Shown need (machine (with_content t (content_of t.bytes (Pointer z)) m.temps) (worked c m.state))
+      (block e (indexed_code minus (home a) l (home t) 2 bytes (size % 65536)) v)
+  low_indexed_matches minus signed t a l from bytes size c low k q z need need0 m v it ia il aside some same can i few number index ix moves
+      more h =
+      subst (λ (x : PointerValue). Shown need (machine (with_content t (content_of t.bytes (Pointer x)) m.temps)
+      (worked c m.state)) (block e (move ++ add) v)) (sym moves.is)
+      (subst (λ (x : View). Shown need (machine (with_content t (points moves.to) m.temps) (worked c m.state)) x)
+      (sym (block-append e move add v))
+      (written_wide p e slots home base place y t (points moves.to) need need0 m (worked c m.state) v v2 it h more
+      frame held ad.numbers refl (ad.seen ∙ mv.seen ∙ h.seen) (kept_left y.inputs m.state v v2 (ad.inputs ∙ mv.inputs) h.left)
+      (ad.safe ∙ mv.safe ∙ h.safe)))
+    where
+      move : List AsmItem
+      move = move_code (home a) (home t) 2
+
+      add : List AsmItem
+      add = add_index_code minus l (home t) bytes (size % 65536)
+
+      v1 : View
+      v1 = block e move v
+
+      v2 : View
+      v2 = block e add v1
+
+      two : 2 ≤ a.bytes
+      two = ⊎_elim (λ (r : a.bytes ≡ 2). omega arith) (λ (r : a.bytes ≡ 3). omega arith) i.size
+
+      two_t : 2 ≤ t.bytes
+      two_t = omega (arith, two, same)
+
+      some_a : 2 ≤ base a
+      some_a = (y.layout.temps_at a ia).clear
+
+      some_b : 2 ≤ from
+      some_b = il.clear
+
+      some_t : 2 ≤ base t
+      some_t = (y.layout.temps_at t it).clear
+
+      clear_t : IsClear (base t) t.bytes
+      clear_t = y.layout.temps_work t it
+
+      to_stands : StandsFrom e (home t) 2 (base t) Own
+      to_stands = stands_less e (home t) t.bytes 2 (base t) Own two_t (y.layout.temps_at t it)
+
+      off_target : Outside (base t) 2 30
+      off_target = (leaves_z (base t) t.bytes 2 two_t clear_t).low
+
+      apart : (j : ℕ) → j < bytes → Outside (base t) 2 (from + j)
+      apart j u = narrower (base t) t.bytes 2 (from + j) two_t (aside.apart j u)
+
+      mv : Brought v (base a) (base t) 2 v1
+      mv = move_brings e (home a) (home t) 2 (base a) (base t) v
+          (stands_less e (home a) a.bytes 2 (base a) Own two (y.layout.temps_at a ia))
+          to_stands (read_first p e slots home base place y t a 2 it ia two) h.bytes
+
+      index_kept : (j : ℕ) → j < bytes → v1.at (from + j) ≡ v.at (from + j)
+      index_kept j u = mv.same (from + j) (omega (arith, some_b)) (apart j u)
+
+      numbers1 : HoldsNumbers v1
+      numbers1 = numbers_kept v v1 (base t) 2 h.bytes (λ j x z w o. mv.same j x o)
+          (λ j u. subst (λ (n : ℕ). n < 256) (sym (mv.there j u)) (held_row v (base a) 2 some_a h.bytes j u))
+          (subst (λ (n : ℕ). n < 256) (sym (mv.same 30 (omega arith) off_target)) (h.bytes 30 (omega arith)))
+
+      ad : Adds v1 (base t) (moved_by minus (value v1.at (base t) 2)
+          (index_of signed bytes (value v1.at from bytes) * (size % 65536) % 65536)) v2
+      ad = y.pointers.added minus signed e l (home t) bytes (size % 65536) from (base t) v1 il to_stands some aside.off
+          (narrower (base t) t.bytes 2 26 two_t (off_pair (base t) t.bytes clear_t)) apart can numbers1
+
+      index_there : value v1.at from bytes ≡ low
+      index_there = row_value v1.at v.at from from bytes index_kept ∙ index
+
+      moved_in : IsPointerIn p a.bytes moves.to
+      moved_in = moved_pointer p a.bytes q (moved_elements minus k *ℤ pos size) z i moves
+
+      address_before : value v1.at (base t) 2 ≡ (place q.object + q.offset) % 65536
+      address_before = row_value v1.at v.at (base a) (base t) 2 mv.there ∙ number ∙ omega arith
+
+      address_behind : value v2.at (base t) 2 ≡ (place moves.to.object + moves.to.offset) % 65536
+      address_behind =
+          ad.number_is
+          ∙ ap (λ (n : ℕ). moved_by minus (value v1.at (base t) 2) (index_of signed bytes n * (size % 65536) % 65536)) index_there
+          ∙ ap (λ (n : ℕ). moved_by minus n (index_of signed bytes low * (size % 65536) % 65536)) address_before
+          ∙ advanced_low minus k (index_of signed bytes low) (place q.object) q.offset moves.to.offset size ix moves.offset
+          ∙ ap (λ (o : ℕ). (place o + moves.to.offset) % 65536) (sym moves.object)
+
+      target : IsPointerIn p t.bytes moves.to
+      target = subst (λ (n : ℕ). IsPointerIn p n moves.to) (sym same) moved_in
+
+      held : HoldsContent p place v2.at (base t) (wanted need t) t.bytes (points moves.to)
+      held = holds_low v2.at (base t) (wanted need t) t.bytes moves.to few target (held_row v2 (base t) 2 some_t ad.numbers) address_behind
+
+      frame : Wide v v2 (base t) t.bytes
+      frame j r0 r1 low_off high_off o =
+          ad.same j r0 r1 (λ (x : j ≡ 26). let z = high_off (omega (arith, x)) in omega (arith, z, x))
+          (narrower (base t) t.bytes 2 j two_t o)
+          ∙ mv.same j r0 (narrower (base t) t.bytes 2 j two_t o)
+
+  -- or by a known number of them
+  pub low_known_matches : (core : Core) (minus signed : Bool) (t a : Temp) (bytes number size c : ℕ) (k : ℤ)
+      (q : ObjectPointer) (z : PointerValue) (need need0 : Need) (m : Mach) (v : View) → HasHome slots t → HasHome slots a
+      → t.bytes ≡ a.bytes → IsPointerIn p a.bytes q → wanted need t ≤ 2
+      → value v.at (base a) 2 ≡ number_of (place_of p place a.bytes (Some q)) % 256 ^ 2
+      → IsIndex k (known_index signed bytes number) → IsMoved p q (moved_elements minus k *ℤ pos size) z
+      → ((u : ℕ) → u ≢ t.at → need u ≤ need0 u) → Shown need0 m v
+      → Shown need (machine (with_content t (content_of t.bytes (Pointer z)) m.temps) (worked c m.state))
+      (block e (move_code (home a) (home t) 2
+      ++ member_code core 2 (home t) (known_offset minus (known_bytes signed bytes number size))) v)
+  low_known_matches core minus signed t a bytes number_known size c k q z need need0 m v it ia same i few number ix moves more h =
+      subst (λ (x : PointerValue). Shown need (machine (with_content t (content_of t.bytes (Pointer x)) m.temps)
+      (worked c m.state)) (block e (move ++ member_code core 2 (home t) offset) v)) (sym moves.is)
+      (subst (λ (x : View). Shown need (machine (with_content t (points moves.to) m.temps) (worked c m.state)) x) (sym whole_block)
+      (written_wide p e slots home base place y t (points moves.to) need need0 m (worked c m.state) v v2 it h more
+      frame held numbers2 refl (put.seen ∙ mv.seen ∙ h.seen)
+      (kept_left y.inputs m.state v v2 (put.inputs ∙ mv.inputs) h.left) (put.safe ∙ mv.safe ∙ h.safe)))
+    where
+      taken : ℕ
+      taken = known_index signed bytes number_known
+
+      distance : ℕ
+      distance = known_bytes signed bytes number_known size
+
+      few_bytes : distance < 65536
+      few_bytes = mod_below (taken * (size % 65536)) 65536 (omega arith)
+
+      offset : ℕ
+      offset = known_offset minus distance
+
+      move : List AsmItem
+      move = move_code (home a) (home t) 2
+
+      member : List AsmItem
+      member = field_code (home t) offset
+
+      v1 : View
+      v1 = block e move v
+
+      v2 : View
+      v2 = block e member v1
+
+      member_is : member_code core 2 (home t) offset ≡ member
+      member_is = ap (λ (x : Bool). if x then field_far_code (home t) offset else member) (two_near core)
+
+      whole_block : block e (move ++ member_code core 2 (home t) offset) v ≡ v2
+      whole_block = ap (λ l. block e (move ++ l) v) member_is ∙ block-append e move member v
+
+      two : 2 ≤ a.bytes
+      two = ⊎_elim (λ (r : a.bytes ≡ 2). omega arith) (λ (r : a.bytes ≡ 3). omega arith) i.size
+
+      two_t : 2 ≤ t.bytes
+      two_t = omega (arith, two, same)
+
+      some_a : 2 ≤ base a
+      some_a = (y.layout.temps_at a ia).clear
+
+      some_t : 2 ≤ base t
+      some_t = (y.layout.temps_at t it).clear
+
+      to_stands : StandsFrom e (home t) 2 (base t) Own
+      to_stands = stands_less e (home t) t.bytes 2 (base t) Own two_t (y.layout.temps_at t it)
+
+      off_target : Outside (base t) 2 30
+      off_target = (leaves_z (base t) t.bytes 2 two_t (y.layout.temps_work t it)).low
+
+      mv : Brought v (base a) (base t) 2 v1
+      mv = move_brings e (home a) (home t) 2 (base a) (base t) v
+          (stands_less e (home a) a.bytes 2 (base a) Own two (y.layout.temps_at a ia))
+          to_stands (read_first p e slots home base place y t a 2 it ia two) h.bytes
+
+      frame1 : Frame v v1 (base t) 2
+      frame1 j x z w o = mv.same j x o
+
+      numbers1 : HoldsNumbers v1
+      numbers1 = numbers_kept v v1 (base t) 2 h.bytes frame1
+          (λ j l. subst (λ (n : ℕ). n < 256) (sym (mv.there j l)) (held_row v (base a) 2 some_a h.bytes j l))
+          (subst (λ (n : ℕ). n < 256) (sym (mv.same 30 (omega arith) off_target)) (h.bytes 30 (omega arith)))
+
+      moved_in : IsPointerIn p a.bytes moves.to
+      moved_in = moved_pointer p a.bytes q (moved_elements minus k *ℤ pos size) z i moves
+
+      put : IsPut v1 (base t) 2 ((value v1.at (base t) 2 + offset) % 65536) v2
+      put = y.pointers.fields e (home t) offset (base t) v1 to_stands off_target numbers1
+
+      numbers2 : HoldsNumbers v2
+      numbers2 = put.numbers numbers1
+
+      address_before : value v1.at (base t) 2 ≡ (place q.object + q.offset) % 65536
+      address_before = row_value v1.at v.at (base a) (base t) 2 mv.there ∙ number ∙ omega arith
+
+      address_behind : value v2.at (base t) 2 ≡ (place moves.to.object + moves.to.offset) % 65536
+      address_behind =
+          put.number_is ∙ ap (λ (n : ℕ). (n + offset) % 65536) address_before
+          ∙ offset_moves minus ((place q.object + q.offset) % 65536) distance few_bytes
+          ∙ advanced_low minus k taken (place q.object) q.offset moves.to.offset size ix moves.offset
+          ∙ ap (λ (o : ℕ). (place o + moves.to.offset) % 65536) (sym moves.object)
+
+      target : IsPointerIn p t.bytes moves.to
+      target = subst (λ (n : ℕ). IsPointerIn p n moves.to) (sym same) moved_in
+
+      held : HoldsContent p place v2.at (base t) (wanted need t) t.bytes (points moves.to)
+      held = holds_low v2.at (base t) (wanted need t) t.bytes moves.to few target (held_row v2 (base t) 2 some_t numbers2) address_behind
+
+      frame : Wide v v2 (base t) t.bytes
+      frame k r0 r1 low_off high_off o =
+          put.same k (off_low_work k high_off) (off_high_work k high_off) (narrower (base t) t.bytes 2 k two_t o)
+          ∙ mv.same k r0 (narrower (base t) t.bytes 2 k two_t o)
 
   -- ---- pointers that are moved by known numbers
 
@@ -757,7 +1145,7 @@ module _ (p : PlainProgram) (e : Env) (slots : ℕ) (home : Temp → Location) (
           record {
             number_is = ⊎_elim without_tag with_tag i.size;
             numbers = low.numbers;
-            same = λ j work o. low.same j work (narrower (base t) a.bytes 2 j two o);
+            same = λ j work high o. low.same j work high (narrower (base t) a.bytes 2 j two o);
             inputs = low.inputs;
             safe = low.safe;
             seen = low.seen;
@@ -805,8 +1193,10 @@ module _ (p : PlainProgram) (e : Env) (slots : ℕ) (home : Temp → Location) (
           with_tag : a.bytes ≡ 3 → value w.at (base t) a.bytes ≡ to_number
           with_tag r =
               let outside = off_target 3 (omega (arith, r)) in
+              let outside_high = (leaves_z (base t) t.bytes 3 (omega (arith, r, same)) clear_t).high in
               let other : base t + 2 ≢ 30 = λ s. let o = outside (omega (arith, s)) in omega (arith, o, s) in
-              let last : w.at (base t + 2) ≡ v1.at (base t + 2) = low.same (base t + 2) other (λ o. omega arith) in
+              let high : base t + 2 ≢ 31 = λ s. let o = outside_high (omega (arith, s)) in omega (arith, o, s) in
+              let last : w.at (base t + 2) ≡ v1.at (base t + 2) = low.same (base t + 2) other high (λ o. omega arith) in
               let full : value v1.at (base t) 3 ≡ number_of (place_of p place 3 (Some q)) =
               subst (λ (n : ℕ). value v1.at (base t) n ≡ number_of (place_of p place n (Some q))) r number_before in
               let tag3 : tag_byte 3 (home_of p moves.to.object) ≡ tag_byte 3 (home_of p q.object) =
@@ -878,7 +1268,7 @@ module _ (p : PlainProgram) (e : Env) (slots : ℕ) (home : Temp → Location) (
       frame : Wide v v2 (base t) t.bytes
       frame j r0 r1 low_off high_off o =
           let off : Outside (base t) a.bytes j = subst (λ (n : ℕ). Outside (base t) n j) same o in
-          put.same j (λ (x : j ≡ 30). let z = high_off (omega (arith, x)) in omega (arith, z, x)) off ∙ mv.same j r0 off
+          put.same j (off_low_work j high_off) (off_high_work j high_off) off ∙ mv.same j r0 off
 
   -- ---- differences
 
@@ -1079,6 +1469,19 @@ module _ (p : PlainProgram) (e : Env) (slots : ℕ) (home : Temp → Location) (
 
 -- ---- operations
 
+-- two bytes are moved where no more are needed, and else all
+two_bytes : (w : ℕ) → w < 3 → 2 ≡ max 2 w
+two_bytes w few = omega (arith, few)
+
+every_byte : (t a : Temp) (w : ℕ) → t.bytes ≡ a.bytes → IsPointerSize a.bytes → w ≤ t.bytes → 3 ≤ w → a.bytes ≡ max 2 w
+every_byte t a w same size most l =
+    ⊎_elim (λ (r : a.bytes ≡ 2). absurd (omega (arith, r, same, most, l))) (λ (r : a.bytes ≡ 3). omega (arith, r, same, most, l)) size
+
+-- so many are needed of a pointer that is moved
+pointer_some : (w : ℕ) → (w == 0) ≡ false → pointer_wanted w ≡ max 2 w
+pointer_some zero q = absurd cc
+pointer_some (suc w) q = refl
+
 -- where some bytes are wanted, all are
 all_when : (bytes k : ℕ) → (k == 0) ≡ false → all_or_none bytes k ≡ bytes
 all_when bytes zero q = absurd cc
@@ -1095,13 +1498,8 @@ width_size Data = inl refl
 width_size FarFlash = inr refl
 width_size Generic = inr refl
 
-pointer_size : (bytes : ℕ) (space : SpaceId) → bytes ≡ width space → IsPointerSize bytes
+pub pointer_size : (bytes : ℕ) (space : SpaceId) → bytes ≡ width space → IsPointerSize bytes
 pointer_size bytes space q = subst IsPointerSize (sym q) (width_size space)
-
--- an operator of pointers tells the next operation nothing
-none_told : (f : Family) (s x : Bool) → (if x then told_by true f s else None) ≡ None
-none_told f s true = refl
-none_told f s false = refl
 
 binary_room : (op : BinOp) (ty aty bty : PlainType) → 640 ≤ 64 * binary_words op ty aty bty
 binary_room op ty aty bty = by_kind (is_bitwise op && is_integer ty)
@@ -1171,7 +1569,7 @@ module _ (p : PlainProgram) (functions : List PlainIrFunction) (e : Env) (slots 
     (end : ℕ) (results : ℕ → ℕ) (me : ℕ) (link : Linkage) (stack : List Call) where
   -- what the code of the function is made by
   abbrev at : Facts
-  at = facts_of labels all
+  at = facts_of (has_tables p.objects) labels all
 
   abbrev M : Need → Mach → View → Type 0
   M need m v = Matches p e y.inputs slots base place y.aside y.stands y.active y.called need m v
@@ -1185,8 +1583,8 @@ module _ (p : PlainProgram) (functions : List PlainIrFunction) (e : Env) (slots 
   -- an operation whose code stands at its use, and those behind it
   abbrev own_items : PlainIr → List PlainIr → List AsmItem
   own_items i rest =
-      own_code p home link None (tells_next p at None i rest) (at.known (i ∷ rest)) (needs at rest) i
-      ++ ops_code p home link at (tells_next p at None i rest) rest
+      own_code p home link None (tells_next link.core p home at None i rest) (at.known (i ∷ rest)) (needs at rest) i
+      ++ ops_code p home link at (tells_next link.core p home at None i rest) rest
 
   -- its code, where it has been told nothing and tells nothing, and its second operand may be known to hold a number
   abbrev known_code : Option RightNumber → PlainIr → List PlainIr → List AsmItem
@@ -1196,23 +1594,19 @@ module _ (p : PlainProgram) (functions : List PlainIrFunction) (e : Env) (slots 
   abbrev code_of : PlainIr → List PlainIr → List AsmItem
   code_of i rest = known_code None i rest
 
-  -- an operation whose second operand may be known to hold a number, and those behind it
-  abbrev plain_told : PlainIr → List PlainIr → Option Told
-  plain_told i rest = tells None None i (slice_get rest 0) (slice_get rest 1) (slice_index (wanted_bytes at rest) 0)
-
-  abbrev known_items : Option RightNumber → PlainIr → List PlainIr → List AsmItem
-  known_items known i rest =
-      own_code p home link None (plain_told i rest) known (needs at rest) i ++ ops_code p home link at (plain_told i rest) rest
-
   -- what is needed before an operator that shifts no fixed-point number
   abbrev moving_needs : Option RightNumber → (op : BinOp) (t a : Temp) (aty : PlainType) (b : Temp) (bty : PlainType) → List PlainIr → Need
   moving_needs known op t a aty b bty rest =
       at_least a.at
+      (moved_wanted (moves_pointer op aty bty) (wanted (needs at rest) t)
       (first_wanted (is_whole aty || is_whole bty) op
-      (compared_bytes (number_taken known (is_whole aty || is_whole bty) op) a.bytes) (wanted (needs at rest) t))
+      (compared_bytes (number_taken known (is_whole aty || is_whole bty) op) a.bytes)
+      (masked_bytes (number_taken known (is_whole aty || is_whole bty) op) op (wanted (needs at rest) t))))
       (right_needed (right_taken known (moves_pointer op aty bty) (is_whole aty || is_whole bty) op) b.at
+      (moved_wanted (moves_pointer op bty aty) (wanted (needs at rest) t)
       (second_wanted (is_whole aty || is_whole bty) op
-      (compared_bytes (number_taken known (is_whole aty || is_whole bty) op) b.bytes) (wanted (needs at rest) t))
+      (compared_bytes (number_taken known (is_whole aty || is_whole bty) op) b.bytes)
+      (joined_bytes (number_taken known (is_whole aty || is_whole bty) op) (wanted (needs at rest) t))))
       (without t.at (needs at rest)))
 
   abbrev R : ℕ → List PlainIr → Mach → Outcome Value
@@ -1243,7 +1637,22 @@ module _ (p : PlainProgram) (functions : List PlainIrFunction) (e : Env) (slots 
   pointer_content bytes None i = pow_pos bytes
   pointer_content bytes (Some q) i = i
 
-  -- straight code that leaves the result, and what comes after it
+  -- straight code of its own that leaves the result, and what comes after it
+  own_passes : (own : List AsmItem) (i : PlainIr) (code : List AsmItem) (t : Temp) (content : Content) (rest : List PlainIr)
+      (n pc : ℕ) (m : Mach) (v : View)
+      → own ≡ code → all_straight code ≡ true → code_steps code ≤ 640 → 640 ≤ op_steps i
+      → HasAt e (own ++ items rest) pc end
+      → M (needs at rest) (resulted t content (op_steps i) m) (block e code v) → Rest (suc n) rest
+      → G (suc n) m.state.work pc v (R (suc n) rest (resulted t content (op_steps i) m))
+  own_passes own i code t content rest n pc m v is straight few room stands matches f =
+      let m1 = resulted t content (op_steps i) m in
+      let steps : code_steps own ≡ code_steps code = ap code_steps is in
+      goes_past p functions e slots home base place y labels all end results me link stack own (items rest) (suc n) (suc n)
+      m.state.work m1.state.work pc v (R (suc n) rest m1) stands
+      (ap all_straight is ∙ straight) (omega arith) (omega (arith, steps, few, room))
+      (λ mid u. f mid m1 _ u (subst (λ (w : List AsmItem). M (needs at rest) m1 (block e w v)) (sym is) matches))
+
+  -- where it has been told nothing
   straight_passes : (known : Option RightNumber) (i : PlainIr) (code : List AsmItem) (t : Temp) (content : Content) (rest : List PlainIr)
       (n pc : ℕ) (m : Mach) (v : View)
       → known_code known i rest ≡ code → all_straight code ≡ true → code_steps code ≤ 640 → 640 ≤ op_steps i
@@ -1251,27 +1660,29 @@ module _ (p : PlainProgram) (functions : List PlainIrFunction) (e : Env) (slots 
       → M (needs at rest) (resulted t content (op_steps i) m) (block e code v) → Rest (suc n) rest
       → G (suc n) m.state.work pc v (R (suc n) rest (resulted t content (op_steps i) m))
   straight_passes known i code t content rest n pc m v is straight few room stands matches f =
-      let m1 = resulted t content (op_steps i) m in
-      let own = known_code known i rest in
-      let steps : code_steps own ≡ code_steps code = ap code_steps is in
-      goes_past p functions e slots home base place y labels all end results me link stack own (items rest) (suc n) (suc n)
-      m.state.work m1.state.work pc v (R (suc n) rest m1) stands
-      (ap all_straight is ∙ straight) (omega arith) (omega (arith, steps, few, room))
-      (λ mid u. f mid m1 _ u (subst (λ (w : List AsmItem). M (needs at rest) m1 (block e w v)) (sym is) matches))
+      own_passes (known_code known i rest) i code t content rest n pc m v is straight few room stands matches f
 
   -- no code where no byte of the result is needed
+  no_code_passes : (own : List AsmItem) (i : PlainIr) (t : Temp) (content : Content) (rest : List PlainIr) (n pc : ℕ) (need0 : Need)
+      (m : Mach) (v : View)
+      → HasHome slots t → own ≡ [] → (wanted (needs at rest) t == 0) ≡ true → IsContent t.bytes content
+      → HasAt e (own ++ items rest) pc end → ((u : ℕ) → u ≢ t.at → needs at rest u ≤ need0 u) → M need0 m v
+      → 640 ≤ op_steps i → Rest (suc n) rest → G (suc n) m.state.work pc v (R (suc n) rest (resulted t content (op_steps i) m))
+  no_code_passes own i t content rest n pc need0 m v it empty none fits stands more h room f =
+      let zero_wanted : wanted (needs at rest) t ≡ 0 = eqb-true (wanted (needs at rest) t) 0 none in
+      let here = subst (λ (k : ℕ). HoldsContent p place v.at (base t) k t.bytes content) (sym zero_wanted)
+      (none_holds v.at (base t) t.bytes content fits) in
+      own_passes own i [] t content rest n pc m v empty refl (omega arith) room stands
+      (written_wide p e slots home base place y t content (needs at rest) need0 m (worked (op_steps i) m.state) v v
+      it h more (λ k a b c d o. refl) here h.bytes refl h.seen h.left h.safe) f
+
   nothing_passes : (known : Option RightNumber) (i : PlainIr) (t : Temp) (content : Content) (rest : List PlainIr) (n pc : ℕ) (need0 : Need)
       (m : Mach) (v : View)
       → HasHome slots t → known_code known i rest ≡ [] → (wanted (needs at rest) t == 0) ≡ true → IsContent t.bytes content
       → HasAt e (known_code known i rest ++ items rest) pc end → ((u : ℕ) → u ≢ t.at → needs at rest u ≤ need0 u) → M need0 m v
       → 640 ≤ op_steps i → Rest (suc n) rest → G (suc n) m.state.work pc v (R (suc n) rest (resulted t content (op_steps i) m))
   nothing_passes known i t content rest n pc need0 m v it empty none fits stands more h room f =
-      let zero_wanted : wanted (needs at rest) t ≡ 0 = eqb-true (wanted (needs at rest) t) 0 none in
-      let here = subst (λ (k : ℕ). HoldsContent p place v.at (base t) k t.bytes content) (sym zero_wanted)
-      (none_holds v.at (base t) t.bytes content fits) in
-      straight_passes known i [] t content rest n pc m v empty refl (omega arith) room stands
-      (written_wide p e slots home base place y t content (needs at rest) need0 m (worked (op_steps i) m.state) v v
-      it h more (λ k a b c d o. refl) here h.bytes refl h.seen h.left h.safe) f
+      no_code_passes (known_code known i rest) i t content rest n pc need0 m v it empty none fits stands more h room f
 
   -- what is needed before an operator
   abbrev operands_needed : (t a b : Temp) → ℕ → Need → Need
@@ -1297,6 +1708,33 @@ module _ (p : PlainProgram) (functions : List PlainIrFunction) (e : Env) (slots 
       let k = least_other a.at (all_or_none a.bytes w) b.at (at_least b.at (all_or_none b.bytes w) (without t.at need)) in
       omega (arith, all_bytes, l, k)
 
+  -- what is needed before a pointer is moved, which is the first operand or the second one
+  abbrev sides_needed : (t a b : Temp) (i j : ℕ) → Need → Need
+  sides_needed t a b i j need = at_least a.at i (at_least b.at j (without t.at need))
+
+  sides_other : (t a b : Temp) (i j : ℕ) (need : Need) (u : ℕ) → u ≢ t.at → need u ≤ sides_needed t a b i j need u
+  sides_other t a b i j need u d =
+      let x = without_other t.at u need d in
+      let z = least_other b.at j u (without t.at need) in
+      let w = least_other a.at i u (at_least b.at j (without t.at need)) in
+      omega arith
+
+  sides_there : (t a b : Temp) (i j : ℕ) (need : Need) → (i ≤ sides_needed t a b i j need a.at) × (j ≤ sides_needed t a b i j need b.at)
+  sides_there t a b i j need =
+      let x = least_here b.at j (without t.at need) in
+      let z = least_other a.at i b.at (at_least b.at j (without t.at need)) in
+      (least_here a.at i (at_least b.at j (without t.at need)), omega (arith, x, z))
+
+  two_within : (bytes w : ℕ) → IsPointerSize bytes → w ≤ bytes → max 2 w ≤ bytes
+  two_within bytes w size l =
+      ⊎_elim (λ (r : bytes ≡ 2). omega (arith, r, l)) (λ (r : bytes ≡ 3). omega (arith, r, l)) size
+
+  abbrev first_moved : (t a b : Temp) → ℕ → Need → Need
+  first_moved t a b w need = sides_needed t a b (pointer_wanted w) (all_or_none b.bytes w) need
+
+  abbrev second_moved : (t a b : Temp) → ℕ → Need → Need
+  second_moved t a b w need = sides_needed t a b (all_or_none a.bytes w) (pointer_wanted w) need
+
   -- a pointer that a temporary holds
   abbrev HoldsPointer : Mach → Temp → PointerValue → Type 0
   HoldsPointer m a x = m.temps a.at ≡ Some (record { bytes = a.bytes; content = content_of a.bytes (Pointer x) })
@@ -1319,17 +1757,24 @@ module _ (p : PlainProgram) (functions : List PlainIrFunction) (e : Env) (slots 
 
   -- ---- a pointer and a number of elements
 
-  offset_passes : (i : PlainIr) (minus signed : Bool) (t a b : Temp) (size low : ℕ) (x : PointerValue) (rest : List PlainIr) (n pc : ℕ)
-      (need0 : Need) (m : Mach) (v : View) → link.core ≡ e.core → HasHome slots t → HasHome slots a → HasHome slots b → t.bytes ≡ a.bytes
-      → IsPointerSize a.bytes → IsIntegerSize b.bytes
-      → code_of i rest ≡ offset_code link.core minus signed (home a) (home b) (home t) a.bytes b.bytes size (wanted (needs at rest) t)
-      → 640 ≤ op_steps i → HoldsPointer m a x → m.temps b.at ≡ Some (record { bytes = b.bytes; content = bits low })
-      → ((wanted (needs at rest) t == 0) ≡ false → (a.bytes ≤ wanted need0 a) × (b.bytes ≤ wanted need0 b))
-      → HasAt e (code_of i rest ++ items rest) pc end → ((u : ℕ) → u ≢ t.at → needs at rest u ≤ need0 u) → M need0 m v → Rest (suc n) rest
+  -- by an index that stands anywhere
+  index_passes : (own : List AsmItem) (i : PlainIr) (minus signed : Bool) (t a : Temp) (l : Location) (from bytes size low : ℕ)
+      (x : PointerValue) (rest : List PlainIr) (n pc : ℕ) (need0 : Need) (m : Mach) (v : View) → link.core ≡ e.core → HasHome slots t
+      → HasHome slots a → StandsFrom e l bytes from Own → MayBeInZ l from bytes
+      → (can_add signed l (home t) bytes (size % 65536) ≡ true → IsAside p e slots home base place y t from bytes)
+      → 1 ≤ bytes → t.bytes ≡ a.bytes
+      → IsPointerSize a.bytes → IsIntegerSize bytes
+      → own ≡ offset_code link.core minus signed (home a) l (home t) (max 2 (wanted (needs at rest) t)) bytes size
+      (wanted (needs at rest) t)
+      → 640 ≤ op_steps i → HoldsPointer m a x
+      → ((wanted (needs at rest) t == 0) ≡ false
+      → (max 2 (wanted (needs at rest) t) ≤ wanted need0 a) × (value v.at from bytes ≡ low) × (low < 256 ^ bytes))
+      → HasAt e (own ++ items rest) pc end → ((u : ℕ) → u ≢ t.at → needs at rest u ≤ need0 u) → M need0 m v → Rest (suc n) rest
       → G (suc n) m.state.work pc v (Onward n rest t m (worked (op_steps i) m.state)
       (as_pointer (sum_of_pointer x (referent_of p x (worked (op_steps i) m.state))
-      (moved_elements minus (number_of_bytes signed b.bytes low)) size)))
-  offset_passes i minus signed t a b size low x rest n pc need0 m v one_core it ia ib same sa sb code_is room qa qb there stands more h f =
+      (moved_elements minus (number_of_bytes signed bytes low)) size)))
+  index_passes own i minus signed t a l from bytes size low x rest n pc need0 m v one_core it ia il free aside some same sa sb code_is
+      room qa there stands more h f =
       by_pointer x qa (sum_of_pointer x (referent_of p x st) elements size) refl
     where
       st : State
@@ -1339,25 +1784,32 @@ module _ (p : PlainProgram) (functions : List PlainIrFunction) (e : Env) (slots 
       w = wanted (needs at rest) t
 
       elements : ℤ
-      elements = moved_elements minus (number_of_bytes signed b.bytes low)
+      elements = moved_elements minus (number_of_bytes signed bytes low)
 
       scale : List AsmItem
-      scale = scale_index_code (home b) signed b.bytes (size % 65536)
+      scale = scale_index_code l signed bytes (size % 65536)
+
+      -- so many bytes are moved
+      some_bytes : ℕ
+      some_bytes = max 2 w
 
       moved : List AsmItem
-      moved = moved_code link.core a.bytes minus (home t)
+      moved = moved_code link.core some_bytes minus (home t)
+
+      code_of_bytes : ℕ → List AsmItem
+      code_of_bytes bytes = scale ++ (move_code (home a) (home t) bytes ++ moved_code link.core bytes minus (home t))
 
       code : List AsmItem
-      code = scale ++ (move_code (home a) (home t) a.bytes ++ moved)
+      code = code_of_bytes some_bytes
 
       indexed : List AsmItem
-      indexed = indexed_code minus (home a) (home b) (home t) a.bytes b.bytes (size % 65536)
+      indexed = indexed_code minus (home a) l (home t) some_bytes bytes (size % 65536)
 
       takes : Bool
-      takes = takes_index link.core signed (home b) (home t) a.bytes b.bytes (size % 65536)
+      takes = takes_index link.core signed l (home t) some_bytes bytes (size % 65536)
 
       moved_form : (all_straight moved ≡ true) × (code_steps moved ≤ 20)
-      moved_form = by_far (is_far link.core a.bytes)
+      moved_form = by_far (is_far link.core some_bytes)
         where
           far : List AsmItem
           far = advance_far_code minus (home t)
@@ -1371,7 +1823,7 @@ module _ (p : PlainProgram) (functions : List PlainIrFunction) (e : Env) (slots 
               let most = short.at_most in
               (short.straight, omega (arith, most))
           by_far false =
-              let short = (y.pointers.steps_short (home b) (home t) signed minus b.bytes (size % 65536)).1 in
+              let short = (y.pointers.steps_short l (home t) signed minus bytes (size % 65536)).1 in
               let most = short.at_most in
               (short.straight, omega (arith, most))
 
@@ -1395,68 +1847,126 @@ module _ (p : PlainProgram) (functions : List PlainIrFunction) (e : Env) (slots 
           by_need : (k : Bool) → (w == 0) ≡ k → G (suc n) m.state.work pc v
               (R (suc n) rest (resulted t (content_of t.bytes (Pointer z)) (op_steps i) m))
           by_need true k =
-              nothing_passes None i t (content_of t.bytes (Pointer z)) rest n pc need0 m v it
+              no_code_passes own i t (content_of t.bytes (Pointer z)) rest n pc need0 m v it
               (code_is ∙ ap (λ j. if j then [] else (if takes then indexed else code)) k) k fits stands more h room f
           by_need false k = by_way takes refl
             where
-              l : (a.bytes ≤ wanted need0 a) × (b.bytes ≤ wanted need0 b)
-              l = there k
+              g : (some_bytes ≤ wanted need0 a) × (value v.at from bytes ≡ low) × (low < 256 ^ bytes)
+              g = there k
 
-              number : value v.at (base a) a.bytes ≡ number_of (place_of p place a.bytes (Some o))
-              number = whole_number need0 m v a (Some o) h ia q sa l.0
+              is_index : IsIndex (number_of_bytes signed bytes low) (index_of signed bytes low)
+              is_index = index_is signed bytes low sb g.2
 
-              held : (value v.at (base b) b.bytes ≡ low % 256 ^ b.bytes) × (low < 256 ^ b.bytes)
-              held = at_width p e slots home base place y need0 m v b _ b.bytes h ib qb refl l.1
+              move : List AsmItem
+              move = move_code (home a) (home t) some_bytes
 
-              index : value v.at (base b) b.bytes ≡ low
-              index = held.0 ∙ kept_below low (256 ^ b.bytes) held.1
+              done : List AsmItem → Type 0
+              done items = M (needs at rest) (resulted t (content_of t.bytes (Pointer z)) (op_steps i) m) (block e items v)
 
-              is_index : IsIndex (number_of_bytes signed b.bytes low) (index_of signed b.bytes low)
-              is_index = index_is signed b.bytes low sb held.1
+              -- all bytes are moved, or the two of the address
+              two_there : (few : w < 3) → value v.at (base a) 2 ≡ number_of (place_of p place a.bytes (Some o)) % 256 ^ 2
+              two_there few =
+                  let enough = g.0 in
+                  (pointer_low p e slots home base place y need0 m v a (Some o) 2 h ia q (omega (arith, enough))).0
+
+              all_there : a.bytes ≡ some_bytes → value v.at (base a) a.bytes ≡ number_of (place_of p place a.bytes (Some o))
+              all_there all_bytes = let enough = g.0 in whole_number need0 m v a (Some o) h ia q sa (omega (arith, enough, all_bytes))
+
+              scaled_done : done code
+              scaled_done =
+                  ⊎_elim
+                  (λ (few : w < 3). subst (λ bytes. done (code_of_bytes bytes)) (two_bytes w few)
+                  (low_offset_matches p e slots home base place y link.core minus signed t a l from bytes size (op_steps i) low
+                  (number_of_bytes signed bytes low) o z (needs at rest) need0 m v
+                  it ia il free some same into (omega (arith, few)) (two_there few) g.1 is_index moves more h))
+                  (λ (all_three : 3 ≤ w).
+                  let all_bytes = every_byte t a w same sa (wanted_most (needs at rest) t) all_three in
+                  subst (λ bytes. done (code_of_bytes bytes)) all_bytes
+                  (offset_matches p e slots home base place y link.core one_core minus signed t a l from bytes size (op_steps i) low
+                  (number_of_bytes signed bytes low) o z (needs at rest) need0 m v
+                  it ia il free some same into (all_there all_bytes) g.1 is_index moves more h))
+                  (cases_lt w 3)
+
+              indexed_done : takes ≡ true → done indexed
+              indexed_done way =
+                  let can = (and_parts (not (is_far link.core some_bytes)) (can_add signed l (home t) bytes (size % 65536)) way).1 in
+                  ⊎_elim
+                  (λ (few : w < 3). subst (λ n. done (indexed_code minus (home a) l (home t) n bytes (size % 65536))) (two_bytes w few)
+                  (low_indexed_matches p e slots home base place y minus signed t a l from bytes size (op_steps i) low
+                  (number_of_bytes signed bytes low) o z (needs at rest) need0 m v
+                  it ia il (aside can) some same can into (omega (arith, few)) (two_there few) g.1 is_index moves more h))
+                  (λ (all_three : 3 ≤ w).
+                  let all_bytes = every_byte t a w same sa (wanted_most (needs at rest) t) all_three in
+                  subst (λ n. done (indexed_code minus (home a) l (home t) n bytes (size % 65536))) all_bytes
+                  (indexed_matches p e slots home base place y link.core one_core minus signed t a l from bytes size (op_steps i) low
+                  (number_of_bytes signed bytes low) o z (needs at rest) need0 m v
+                  it ia il (aside can) some same
+                  (subst (λ n. takes_index link.core signed l (home t) n bytes (size % 65536) ≡ true) (sym all_bytes) way)
+                  into (all_there all_bytes) g.1 is_index moves more h))
+                  (cases_lt w 3)
 
               by_way : (way : Bool) → takes ≡ way → G (suc n) m.state.work pc v
                   (R (suc n) rest (resulted t (content_of t.bytes (Pointer z)) (op_steps i) m))
               by_way true way =
-                  let can = (and_parts (not (is_far link.core a.bytes)) (can_add signed (home b) (home t) b.bytes (size % 65536)) way).1 in
-                  let add = add_index_code minus (home b) (home t) b.bytes (size % 65536) in
-                  let short = y.pointers.added_short minus signed (home b) (home t) b.bytes (size % 65536) can in
-                  let steps = steps-append (move_code (home a) (home t) a.bytes) add in
-                  let steps1 = move_steps (home a) (home t) a.bytes in
+                  let can = (and_parts (not (is_far link.core some_bytes)) (can_add signed l (home t) bytes (size % 65536)) way).1 in
+                  let add = add_index_code minus l (home t) bytes (size % 65536) in
+                  let short = y.pointers.added_short minus signed l (home t) bytes (size % 65536) can in
+                  let steps = steps-append move add in
+                  let steps1 = move_steps (home a) (home t) some_bytes in
                   let most_add = short.at_most in
-                  let most = ia.most in
-                  straight_passes None i indexed t (content_of t.bytes (Pointer z)) rest n pc m v
+                  let most = it.most in
+                  own_passes own i indexed t (content_of t.bytes (Pointer z)) rest n pc m v
                   (code_is ∙ ap (λ j. if j then [] else (if takes then indexed else code)) k ∙ ap (λ j. if j then indexed else code) way)
-                  (straight-append (move_code (home a) (home t) a.bytes) add (move_straight (home a) (home t) a.bytes) short.straight)
-                  (omega (arith, steps, steps1, most_add, most)) room stands
-                  (indexed_matches p e slots home base place y link.core one_core minus signed t a b size (op_steps i) low
-                  (number_of_bytes signed b.bytes low) o z (needs at rest) need0 m v
-                  it ia ib same way into number index is_index moves more h) f
+                  (straight-append move add (move_straight (home a) (home t) some_bytes) short.straight)
+                  (omega (arith, steps, steps1, most_add, most)) room stands (indexed_done way) f
               by_way false way =
-                  let short = y.pointers.steps_short (home b) (home t) signed minus b.bytes (size % 65536) in
-                  let behind = straight-append (move_code (home a) (home t) a.bytes) moved
-                  (move_straight (home a) (home t) a.bytes) moved_form.0 in
-                  let steps = steps-append scale (move_code (home a) (home t) a.bytes ++ moved) in
-                  let steps1 = steps-append (move_code (home a) (home t) a.bytes) moved in
-                  let steps2 = move_steps (home a) (home t) a.bytes in
+                  let short = y.pointers.steps_short l (home t) signed minus bytes (size % 65536) in
+                  let behind = straight-append move moved (move_straight (home a) (home t) some_bytes) moved_form.0 in
+                  let steps = steps-append scale (move ++ moved) in
+                  let steps1 = steps-append move moved in
+                  let steps2 = move_steps (home a) (home t) some_bytes in
                   let most_scale = short.0.at_most in
                   let most_advance = moved_form.1 in
-                  let most = ia.most in
-                  straight_passes None i code t (content_of t.bytes (Pointer z)) rest n pc m v
+                  let most = it.most in
+                  own_passes own i code t (content_of t.bytes (Pointer z)) rest n pc m v
                   (code_is ∙ ap (λ j. if j then [] else (if takes then indexed else code)) k ∙ ap (λ j. if j then indexed else code) way)
-                  (straight-append scale (move_code (home a) (home t) a.bytes ++ moved) short.0.straight behind)
-                  (omega (arith, steps, steps1, steps2, most_scale, most_advance, most)) room stands
-                  (offset_matches p e slots home base place y link.core one_core minus signed t a b size (op_steps i) low
-                  (number_of_bytes signed b.bytes low) o z (needs at rest) need0 m v
-                  it ia ib same into number index is_index moves more h) f
+                  (straight-append scale (move ++ moved) short.0.straight behind)
+                  (omega (arith, steps, steps1, steps2, most_scale, most_advance, most)) room stands scaled_done f
+
+  -- by one that stands where its temporary does
+  offset_passes : (i : PlainIr) (minus signed : Bool) (t a b : Temp) (size low : ℕ) (x : PointerValue) (rest : List PlainIr) (n pc : ℕ)
+      (need0 : Need) (m : Mach) (v : View) → link.core ≡ e.core → HasHome slots t → HasHome slots a → HasHome slots b → t.bytes ≡ a.bytes
+      → IsPointerSize a.bytes → IsIntegerSize b.bytes
+      → code_of i rest ≡ offset_code link.core minus signed (home a) (home b) (home t) (max 2 (wanted (needs at rest) t)) b.bytes size
+      (wanted (needs at rest) t)
+      → 640 ≤ op_steps i → HoldsPointer m a x → m.temps b.at ≡ Some (record { bytes = b.bytes; content = bits low })
+      → ((wanted (needs at rest) t == 0) ≡ false → (max 2 (wanted (needs at rest) t) ≤ wanted need0 a) × (b.bytes ≤ wanted need0 b))
+      → HasAt e (code_of i rest ++ items rest) pc end → ((u : ℕ) → u ≢ t.at → needs at rest u ≤ need0 u) → M need0 m v → Rest (suc n) rest
+      → G (suc n) m.state.work pc v (Onward n rest t m (worked (op_steps i) m.state)
+      (as_pointer (sum_of_pointer x (referent_of p x (worked (op_steps i) m.state))
+      (moved_elements minus (number_of_bytes signed b.bytes low)) size)))
+  offset_passes i minus signed t a b size low x rest n pc need0 m v one_core it ia ib same sa sb code_is room qa qb there stands more h f =
+      index_passes (code_of i rest) i minus signed t a (home b) (base b) b.bytes size low x rest n pc need0 m v one_core it ia
+      (y.layout.temps_at b ib) (inl (leaves_z (base b) b.bytes b.bytes (omega arith) (y.layout.temps_work b ib)))
+      (λ can. temp_aside p e slots home base place y signed t b (size % 65536) it ib can) ib.some same sa sb
+      code_is room qa held stands more h f
+    where
+      held : (wanted (needs at rest) t == 0) ≡ false
+          → (max 2 (wanted (needs at rest) t) ≤ wanted need0 a) × (value v.at (base b) b.bytes ≡ low) × (low < 256 ^ b.bytes)
+      held some =
+          let l = there some in
+          let g = at_width p e slots home base place y need0 m v b _ b.bytes h ib qb refl l.1 in
+          (l.0, g.0 ∙ kept_below low (256 ^ b.bytes) g.1, g.1)
 
   -- the same where the number of elements is known, of which nothing is needed
   known_passes : (i : PlainIr) (minus signed : Bool) (t a b : Temp) (number : TakenNumber) (size low : ℕ) (x : PointerValue)
       (rest : List PlainIr) (n pc : ℕ) (need0 : Need) (m : Mach) (v : View) → link.core ≡ e.core → HasHome slots t → HasHome slots a
       → t.bytes ≡ a.bytes → IsPointerSize a.bytes → IsIntegerSize b.bytes → low ≡ low_bytes b.bytes number.number
       → known_code (Some (as_known number)) i rest
-      ≡ known_offset_code link.core minus signed (home a) (home t) a.bytes b.bytes (low_bytes 16 number.number) size
-      (wanted (needs at rest) t)
-      → 640 ≤ op_steps i → HoldsPointer m a x → ((wanted (needs at rest) t == 0) ≡ false → a.bytes ≤ wanted need0 a)
+      ≡ known_offset_code link.core minus signed (home a) (home t) (max 2 (wanted (needs at rest) t)) b.bytes
+      (low_bytes 16 number.number) size (wanted (needs at rest) t)
+      → 640 ≤ op_steps i → HoldsPointer m a x → ((wanted (needs at rest) t == 0) ≡ false
+      → max 2 (wanted (needs at rest) t) ≤ wanted need0 a)
       → HasAt e (known_code (Some (as_known number)) i rest ++ items rest) pc end → ((u : ℕ) → u ≢ t.at → needs at rest u ≤ need0 u)
       → M need0 m v → Rest (suc n) rest
       → G (suc n) m.state.work pc v (Onward n rest t m (worked (op_steps i) m.state)
@@ -1480,14 +1990,21 @@ module _ (p : PlainProgram) (functions : List PlainIrFunction) (e : Env) (slots 
       offset : ℕ
       offset = known_offset minus (known_bytes signed b.bytes bits_known size)
 
+      -- so many bytes are moved
+      some_bytes : ℕ
+      some_bytes = max 2 w
+
       member : List AsmItem
-      member = member_code link.core a.bytes (home t) offset
+      member = member_code link.core some_bytes (home t) offset
+
+      code_of_bytes : ℕ → List AsmItem
+      code_of_bytes bytes = move_code (home a) (home t) bytes ++ member_code link.core bytes (home t) offset
 
       code : List AsmItem
-      code = move_code (home a) (home t) a.bytes ++ member
+      code = code_of_bytes some_bytes
 
       member_form : (all_straight member ≡ true) × (code_steps member ≤ 9)
-      member_form = by_far (is_far link.core a.bytes)
+      member_form = by_far (is_far link.core some_bytes)
         where
           far : List AsmItem
           far = field_far_code (home t) offset
@@ -1527,17 +2044,36 @@ module _ (p : PlainProgram) (functions : List PlainIrFunction) (e : Env) (slots 
               nothing_passes (Some (as_known number)) i t (content_of t.bytes (Pointer z)) rest n pc need0 m v it
               (code_is ∙ ap (λ j. if j then [] else code) k) k fits stands more h room f
           by_need false k =
-              let number_at = whole_number need0 m v a (Some o) h ia q sa (there k) in
-              let steps = steps-append (move_code (home a) (home t) a.bytes) member in
-              let steps1 = move_steps (home a) (home t) a.bytes in
+              let move = move_code (home a) (home t) some_bytes in
+              let steps = steps-append move member in
+              let steps1 = move_steps (home a) (home t) some_bytes in
               let steps2 = member_form.1 in
-              let most = ia.most in
+              let most = it.most in
               straight_passes (Some (as_known number)) i code t (content_of t.bytes (Pointer z)) rest n pc m v
               (code_is ∙ ap (λ j. if j then [] else code) k)
-              (straight-append (move_code (home a) (home t) a.bytes) member (move_straight (home a) (home t) a.bytes) member_form.0)
-              (omega (arith, steps, steps1, steps2, most)) room stands
-              (known_matches p e slots home base place y link.core one_core minus signed t a b.bytes bits_known size (op_steps i)
-              (number_of_bytes signed b.bytes low) o z (needs at rest) need0 m v it ia same into number_at index moves more h) f
+              (straight-append move member (move_straight (home a) (home t) some_bytes) member_form.0)
+              (omega (arith, steps, steps1, steps2, most)) room stands (by_bytes (there k)) f
+            where
+              done : List AsmItem → Type 0
+              done items = M (needs at rest) (resulted t (content_of t.bytes (Pointer z)) (op_steps i) m) (block e items v)
+
+              -- all bytes, or the two of the address
+              by_bytes : some_bytes ≤ wanted need0 a → done code
+              by_bytes enough =
+                  ⊎_elim
+                  (λ (few : w < 3).
+                  let number_at = (pointer_low p e slots home base place y need0 m v a (Some o) 2 h ia q (omega (arith, enough))).0 in
+                  subst (λ bytes. done (code_of_bytes bytes)) (two_bytes w few)
+                  (low_known_matches p e slots home base place y link.core minus signed t a b.bytes bits_known size (op_steps i)
+                  (number_of_bytes signed b.bytes low) o z (needs at rest) need0 m v it ia same into (omega (arith, few)) number_at index
+                  moves more h))
+                  (λ (all_three : 3 ≤ w).
+                  let all_bytes = every_byte t a w same sa (wanted_most (needs at rest) t) all_three in
+                  let number_at = whole_number need0 m v a (Some o) h ia q sa (omega (arith, enough, all_bytes)) in
+                  subst (λ bytes. done (code_of_bytes bytes)) all_bytes
+                  (known_matches p e slots home base place y link.core one_core minus signed t a b.bytes bits_known size (op_steps i)
+                  (number_of_bytes signed b.bytes low) o z (needs at rest) need0 m v it ia same into number_at index moves more h))
+                  (cases_lt w 3)
 
   offset_is : (op : BinOp) (count : PlainType) → HaveOffsetTypes op count → (a : Operand) (x : PointerValue) (k : ℤ)
       → offset_result op a x k ≡ as_pointer (sum_of_pointer x a.of (moved_elements (is_difference op) k) a.element)
@@ -1550,7 +2086,7 @@ module _ (p : PlainProgram) (functions : List PlainIrFunction) (e : Env) (slots 
       (rest : List PlainIr) (n pc : ℕ) (m : Mach) (v : View)
       → IsPointerBinary p slots op t a b ty (pointer space const to) (integer signed bytes)
       → HasAt e (code_of (binary_op op ty mode t a (pointer space const to) b (integer signed bytes)) rest ++ items rest) pc end
-      → M (operands_needed t a b (wanted (needs at rest) t) (needs at rest)) m v
+      → M (first_moved t a b (wanted (needs at rest) t) (needs at rest)) m v
       → link.core ≡ e.core → Rest (suc n) rest → G (suc n) m.state.work pc v
       (P n (binary_op op ty mode t a (pointer space const to) b (integer signed bytes)) rest m)
   pointer_first op ty mode t a space const to b signed bytes rest n pc m v k stands h one_core f =
@@ -1561,11 +2097,11 @@ module _ (p : PlainProgram) (functions : List PlainIrFunction) (e : Env) (slots 
       (sym (offset_is op (integer signed bytes) k.types.0 (operand_of p (pointer space const to) (Pointer x) st)
       x (number_of_bytes signed b.bytes low)))
       (offset_passes i (is_difference op) signed t a b (size_of_type p.structs to) low x rest n pc
-      (operands_needed t a b w (needs at rest)) m v one_core k.result k.left k.right
+      (first_moved t a b w (needs at rest)) m v one_core k.result k.left k.right
       same (pointer_size a.bytes space k.left_bytes) (subst IsIntegerSize (sym k.right_bytes) k.right_known) refl
       (binary_room op ty (pointer space const to) (integer signed bytes)) qa qb
-      (λ some. (first_there t a b w (needs at rest) some, second_there t a b w (needs at rest) some)) stands
-      (other_needed t a b w (needs at rest)) h f)))
+      there stands
+      (sides_other t a b (pointer_wanted w) (all_or_none b.bytes w) (needs at rest)) h f)))
     where
       i : PlainIr
       i = binary_op op ty mode t a (pointer space const to) b (integer signed bytes)
@@ -1579,9 +2115,70 @@ module _ (p : PlainProgram) (functions : List PlainIrFunction) (e : Env) (slots 
       same : t.bytes ≡ a.bytes
       same = k.result_bytes ∙ ap scalar_size k.types.1 ∙ sym k.left_bytes
 
+      there : (w == 0) ≡ false → (max 2 w ≤ wanted (first_moved t a b w (needs at rest)) a)
+          × (b.bytes ≤ wanted (first_moved t a b w (needs at rest)) b)
+      there some =
+          let moved = pointer_some w some in
+          let all_bytes = all_when b.bytes w some in
+          let l = sides_there t a b (pointer_wanted w) (all_or_none b.bytes w) (needs at rest) in
+          let size = pointer_size a.bytes space k.left_bytes in
+          let most = wanted_most (needs at rest) t in
+          let few = two_within a.bytes w size (omega (arith, most, same)) in
+          (omega (arith, moved, l.0, few), omega (arith, all_bytes, l.1))
+
+  -- ---- a pointer that is told its index
+
+  -- R30 and R31 hold what a temporary does
+  abbrev pub HoldsIndex : Temp → Mach → View → Type 0
+  HoldsIndex b m v = (x : Held) → m.temps b.at ≡ Some x → x.bytes ≡ b.bytes → HoldsContent p place v.at 30 b.bytes b.bytes x.content
+
+  -- the code of an operation that has been told of an index
+  abbrev pub told_code : Option RightNumber → PlainIr → List PlainIr → List AsmItem
+  told_code known i rest = own_code p home link (Some Index) None known (needs at rest) i
+
+  index_first : (own : List AsmItem) (op : BinOp) (ty : PlainType) (mode : Mode) (t a : Temp) (space : SpaceId) (const : Bool)
+      (to : PlainType) (b : Temp) (signed : Bool) (bytes : ℕ) (rest : List PlainIr) (n pc : ℕ) (need0 : Need) (m : Mach) (v : View)
+      → IsPointerBinary p slots op t a b ty (pointer space const to) (integer signed bytes) → b.bytes ≤ 2
+      → own ≡ offset_code link.core (is_difference op) signed (home a) z_pair (home t) (max 2 (wanted (needs at rest) t)) b.bytes
+      (size_of_type p.structs to) (wanted (needs at rest) t)
+      → HasAt e (own ++ items rest) pc end → HoldsIndex b m v
+      → pointer_wanted (wanted (needs at rest) t) ≤ need0 a.at
+      → ((u : ℕ) → u ≢ t.at → needs at rest u ≤ need0 u) → M need0 m v → link.core ≡ e.core → Rest (suc n) rest
+      → G (suc n) m.state.work pc v (P n (binary_op op ty mode t a (pointer space const to) b (integer signed bytes)) rest m)
+  index_first own op ty mode t a space const to b signed bytes rest n pc need0 m v k few code_is stands held there more h one_core f =
+      from_pointer p place e space const to a m.temps st _ (suc n) m.state.work pc v
+      (λ x qa into. from_numeric p place e (integer signed bytes) b m.temps st _ (suc n) m.state.work pc v tt (sym k.right_bytes)
+      (λ low qb.
+      subst (λ r. G (suc n) m.state.work pc v (Onward n rest t m st r))
+      (sym (offset_is op (integer signed bytes) k.types.0 (operand_of p (pointer space const to) (Pointer x) st)
+      x (number_of_bytes signed b.bytes low)))
+      (index_passes own i (is_difference op) signed t a z_pair 30 b.bytes (size_of_type p.structs to) low x rest n pc need0 m v one_core
+      k.result k.left (z_stands e b.bytes) (inr (refl, few)) (λ can. z_aside p e slots home base place y t b.bytes k.result few)
+      k.right.some same (pointer_size a.bytes space k.left_bytes)
+      (subst IsIntegerSize (sym k.right_bytes) k.right_known) code_is
+      (binary_room op ty (pointer space const to) (integer signed bytes)) qa
+      (λ some. let g = held _ qb refl in (enough some, g.0 ∙ kept_below low (256 ^ b.bytes) g.1, g.1)) stands more h f)))
+    where
+      i : PlainIr
+      i = binary_op op ty mode t a (pointer space const to) b (integer signed bytes)
+
+      st : State
+      st = worked (op_steps i) m.state
+
+      same : t.bytes ≡ a.bytes
+      same = k.result_bytes ∙ ap scalar_size k.types.1 ∙ sym k.left_bytes
+
+      enough : (wanted (needs at rest) t == 0) ≡ false → max 2 (wanted (needs at rest) t) ≤ wanted need0 a
+      enough some =
+          let w = wanted (needs at rest) t in
+          let moved = pointer_some w some in
+          let most = wanted_most (needs at rest) t in
+          let few = two_within a.bytes w (pointer_size a.bytes space k.left_bytes) (omega (arith, most, same)) in
+          omega (arith, moved, there, few)
+
   -- what is needed before an operator that takes a number
   abbrev first_needed : (t a : Temp) → ℕ → Need → Need
-  first_needed t a w need = at_least a.at (all_or_none a.bytes w) (without t.at need)
+  first_needed t a w need = at_least a.at (pointer_wanted w) (without t.at need)
 
   known_first : (op : BinOp) (number : TakenNumber) (ty : PlainType) (mode : Mode) (t a : Temp) (space : SpaceId) (const : Bool)
       (to : PlainType) (b : Temp) (signed : Bool) (bytes : ℕ)
@@ -1617,16 +2214,19 @@ module _ (p : PlainProgram) (functions : List PlainIrFunction) (e : Env) (slots 
       same : t.bytes ≡ a.bytes
       same = k.result_bytes ∙ ap scalar_size k.types.1 ∙ sym k.left_bytes
 
-      there : (w == 0) ≡ false → a.bytes ≤ wanted (first_needed t a w (needs at rest)) a
+      there : (w == 0) ≡ false → max 2 w ≤ wanted (first_needed t a w (needs at rest)) a
       there some =
-          let all_bytes = all_when a.bytes w some in
-          let l = least_here a.at (all_or_none a.bytes w) (without t.at (needs at rest)) in
-          omega (arith, all_bytes, l)
+          let moved = pointer_some w some in
+          let l = least_here a.at (pointer_wanted w) (without t.at (needs at rest)) in
+          let size = pointer_size a.bytes space k.left_bytes in
+          let most = wanted_most (needs at rest) t in
+          let few = two_within a.bytes w size (omega (arith, most, same)) in
+          omega (arith, moved, l, few)
 
       more : (u : ℕ) → u ≢ t.at → needs at rest u ≤ first_needed t a w (needs at rest) u
       more u d =
           let r = without_other t.at u (needs at rest) d in
-          let s = least_other a.at (all_or_none a.bytes w) u (without t.at (needs at rest)) in
+          let s = least_other a.at (pointer_wanted w) u (without t.at (needs at rest)) in
           omega arith
 
   pointer_second : (ty : PlainType) (mode : Mode) (t a : Temp) (signed : Bool) (bytes : ℕ) (b : Temp)
@@ -1634,7 +2234,7 @@ module _ (p : PlainProgram) (functions : List PlainIrFunction) (e : Env) (slots 
       (rest : List PlainIr) (n pc : ℕ) (m : Mach) (v : View)
       → IsPointerBinary p slots Add t a b ty (integer signed bytes) (pointer space const to)
       → HasAt e (code_of (binary_op Add ty mode t a (integer signed bytes) b (pointer space const to)) rest ++ items rest) pc end
-      → M (operands_needed t a b (wanted (needs at rest) t) (needs at rest)) m v
+      → M (second_moved t a b (wanted (needs at rest) t) (needs at rest)) m v
       → link.core ≡ e.core → Rest (suc n) rest → G (suc n) m.state.work pc v
       (P n (binary_op Add ty mode t a (integer signed bytes) b (pointer space const to)) rest m)
   pointer_second ty mode t a signed bytes b space const to rest n pc m v k stands h one_core f =
@@ -1642,11 +2242,11 @@ module _ (p : PlainProgram) (functions : List PlainIrFunction) (e : Env) (slots 
       (λ low qa. from_pointer p place e space const to b m.temps st _ (suc n) m.state.work pc v
       (λ x qb into.
       offset_passes i false signed t b a (size_of_type p.structs to) low x rest n pc
-      (operands_needed t a b w (needs at rest)) m v one_core k.result k.right k.left
+      (second_moved t a b w (needs at rest)) m v one_core k.result k.right k.left
       same (pointer_size b.bytes space k.right_bytes) (subst IsIntegerSize (sym k.left_bytes) k.left_known) refl
       (binary_room Add ty (integer signed bytes) (pointer space const to)) qb qa
-      (λ some. (second_there t a b w (needs at rest) some, first_there t a b w (needs at rest) some)) stands
-      (other_needed t a b w (needs at rest)) h f))
+      there stands
+      (sides_other t a b (all_or_none a.bytes w) (pointer_wanted w) (needs at rest)) h f))
     where
       i : PlainIr
       i = binary_op Add ty mode t a (integer signed bytes) b (pointer space const to)
@@ -1659,6 +2259,17 @@ module _ (p : PlainProgram) (functions : List PlainIrFunction) (e : Env) (slots 
 
       same : t.bytes ≡ b.bytes
       same = k.result_bytes ∙ ap scalar_size k.types.2 ∙ sym k.right_bytes
+
+      there : (w == 0) ≡ false
+          → (max 2 w ≤ wanted (second_moved t a b w (needs at rest)) b) × (a.bytes ≤ wanted (second_moved t a b w (needs at rest)) a)
+      there some =
+          let moved = pointer_some w some in
+          let all_bytes = all_when a.bytes w some in
+          let l = sides_there t a b (all_or_none a.bytes w) (pointer_wanted w) (needs at rest) in
+          let size = pointer_size b.bytes space k.right_bytes in
+          let most = wanted_most (needs at rest) t in
+          let few = two_within b.bytes w size (omega (arith, most, same)) in
+          (omega (arith, moved, l.1, few), omega (arith, all_bytes, l.0))
 
   -- ---- two pointers
 
@@ -1733,25 +2344,66 @@ module _ (p : PlainProgram) (functions : List PlainIrFunction) (e : Env) (slots 
               need0 m v k.result k.left k.right (k.result_bytes ∙ ap scalar_size k.types.2)
               same size_a k.left_known.1 left right far (other_needed t a b w (needs at rest)) h) f
 
-  -- what is known of two places that a relation is of, by the core
-  abbrev ArePlaces : Core → Relation → (X Z : Place) → Type 0
-  ArePlaces Small r X Z = IsPlace X × IsPlace Z
-  ArePlaces Large r X Z = IsFarPlace X × IsFarPlace Z × MayRelate r X Z
+  -- the code of a relation of two pointers, whose truth value is made in register d
+  abbrev related_code : (d : ℕ) → Core → Relation → (l u : Location) → ℕ → List AsmItem
+  related_code d core r l u bytes = relation_in_code d r false l u (related_bytes core r bytes)
 
-  -- the code of a relation of two pointers
-  abbrev related_code : Core → Relation → (l u : Location) → ℕ → List AsmItem
-  related_code core r l u bytes = relation_code r false l u (related_bytes core r bytes)
-
-  related : (core : Core) (r : Relation) (l u : Location) (bytes a b pc to : ℕ) (X Z : Place) (v : View)
+  related : (d : ℕ) (core : Core) (r : Relation) (l u : Location) (bytes a b pc to : ℕ) (X Z : Place) (v : View)
       → IsPointerSize bytes → StandsFrom e l bytes a Own → StandsFrom e u bytes b Own → HoldsNumbers v → ArePlaces core r X Z
-      → value v.at a bytes ≡ number_of X → value v.at b bytes ≡ number_of Z → HasAt e (related_code core r l u bytes) pc to
-      → Tells e (3 + 3 * bytes) pc v to (places_stand r X Z)
-  related Small r l u bytes a b pc to X Z v size left right numbers places xl zu stands =
-      let two : 2 ≤ bytes = ⊎_elim (λ (q : bytes ≡ 2). omega arith) (λ (q : bytes ≡ 3). omega arith) size in
-      y.pointers.compared r e l u bytes a b pc to X Z v two left right numbers places.0 places.1 xl zu stands
-  related Large r l u bytes a b pc to X Z v size left right numbers places xl zu stands =
-      let one : 1 ≤ bytes = ⊎_elim (λ (q : bytes ≡ 2). omega arith) (λ (q : bytes ≡ 3). omega arith) size in
-      y.pointers.far.compared r e l u bytes a b pc to X Z v one left right numbers places.0 places.1 places.2 xl zu stands
+      → value v.at a bytes ≡ number_of X → value v.at b bytes ≡ number_of Z → HasAt e (related_code d core r l u bytes) pc to
+      → TellsIn d e (3 + 3 * bytes) pc v to (places_stand r X Z)
+  related d core r l u bytes a b pc to X Z v size left right numbers places xl zu stands =
+      by_size (related_bytes core r bytes - 1) (let q = some core in omega arith)
+    where
+      two : 2 ≤ bytes
+      two = ⊎_elim (λ (q : bytes ≡ 2). omega arith) (λ (q : bytes ≡ 3). omega arith) size
+
+      order_some : (r : Relation) → 1 ≤ ordered_bytes r bytes
+      order_some IsBelow = omega arith
+      order_some NotLess = omega arith
+      order_some IsSame = omega (arith, two)
+      order_some NotEqual = omega (arith, two)
+
+      order_few : (r : Relation) → ordered_bytes r bytes ≤ bytes
+      order_few IsBelow = two
+      order_few NotLess = two
+      order_few IsSame = omega arith
+      order_few NotEqual = omega arith
+
+      some : (core : Core) → 1 ≤ related_bytes core r bytes
+      some Small = order_some r
+      some Large = omega (arith, two)
+
+      few : (core : Core) → related_bytes core r bytes ≤ bytes
+      few Small = order_few r
+      few Large = omega arith
+
+      told : (core : Core) → ArePlaces core r X Z
+          → stand_so r false (related_bytes core r bytes) (value v.at a (related_bytes core r bytes))
+          (value v.at b (related_bytes core r bytes)) ≡ places_stand r X Z
+      told Small are = places_are_told value_mod r e l u bytes a b X Z v two left right numbers are.0 are.1 xl zu
+      told Large are = far_places_are_told r bytes a b X Z v are.0 are.1 are.2 xl zu
+
+      by_size : (m : ℕ) → related_bytes core r bytes ≡ suc m → TellsIn d e (3 + 3 * bytes) pc v to (places_stand r X Z)
+      by_size m q =
+          let within : suc m ≤ bytes = subst (λ j. j ≤ bytes) q (few core) in
+          let truth : stand_so r false (suc m) (value v.at a (suc m)) (value v.at b (suc m)) ≡ places_stand r X Z =
+          subst (λ j. stand_so r false j (value v.at a j) (value v.at b j) ≡ places_stand r X Z) q (told core places) in
+          let k = relations_are_told_in d r false e l u m a b pc to v (stands_less e l bytes (suc m) a Own within left)
+          (stands_less e u bytes (suc m) b Own within right) numbers
+          (subst (λ j. HasAt e (relation_in_code d r false l u j) pc to) q stands) in
+          let most = k.at_most in
+          record {
+            steps = k.steps;
+            at_most = omega (arith, most, within);
+            last = k.last;
+            goes = k.goes;
+            told = k.told ∙ ap from_bool truth;
+            same = k.same;
+            inputs = k.inputs;
+            safe = k.safe;
+            seen = k.seen;
+          }
 
   -- and what comes after it
   related_passes : (r : Relation) (t l u : Temp) (bytes c : ℕ) (X Z : Place) (rest : List PlainIr) (n pc : ℕ)
@@ -1759,14 +2411,14 @@ module _ (p : PlainProgram) (functions : List PlainIrFunction) (e : Env) (slots 
       → HasHome slots t → HasHome slots l → HasHome slots u → l.bytes ≡ bytes → u.bytes ≡ bytes
       → IsPointerSize bytes → ArePlaces link.core r X Z
       → value v.at (base l) bytes ≡ number_of X → value v.at (base u) bytes ≡ number_of Z → 640 ≤ c
-      → HasAt e ((related_code link.core r (home l) (home u) bytes ++ conversion_code false (InRegisters 30) (home t) 1
+      → HasAt e ((related_code (truth_register (home t)) link.core r (home l) (home u) bytes ++ truth_at_code (home t)
       (wanted (needs at rest) t)) ++ items rest) pc end
       → ((k : ℕ) → k ≢ t.at → needs at rest k ≤ need0 k) → M need0 m v → Rest (suc n) rest
       → G (suc n) m.state.work pc v (R (suc n) rest (resulted t (bits (low_bytes t.bytes (pos (from_bool (places_stand r X Z))))) c m))
   related_passes r t l u bytes c X Z rest n pc need0 m v it il iu ql qu size places xl zu room stands more h f =
       let k = wanted (needs at rest) t in
-      let relation = related_code link.core r (home l) (home u) bytes in
-      let conversion = conversion_code false (InRegisters 30) (home t) 1 k in
+      let relation = related_code (truth_register (home t)) link.core r (home l) (home u) bytes in
+      let conversion = truth_at_code (home t) k in
       let s1 = has_parts e (relation ++ conversion) (items rest) pc end stands in
       let s2 = has_parts e relation conversion pc s1.0 s1.1 in
       let few : bytes ≤ 3 = ⊎_elim (λ (q : bytes ≡ 2). omega arith) (λ (q : bytes ≡ 3). omega arith) size in
@@ -1774,11 +2426,12 @@ module _ (p : PlainProgram) (functions : List PlainIrFunction) (e : Env) (slots 
       ql (y.layout.temps_at l il) in
       let right : StandsFrom e (home u) bytes (base u) Own =
       subst (λ (j : ℕ). StandsFrom e (home u) j (base u) Own) qu (y.layout.temps_at u iu) in
-      let told = related link.core r (home l) (home u) bytes (base l) (base u) pc s2.0 X Z v size left right
-      h.bytes places xl zu s2.1 in
+      let told = tells_to (truth_register (home t)) e (3 + 3 * bytes) pc v s2.0 _ h.bytes
+      (related (truth_register (home t)) link.core r (home l) (home u) bytes (base l) (base u) pc s2.0 X Z v size left right
+      h.bytes places xl zu s2.1) in
       let m1 = resulted t (bits (low_bytes t.bytes (pos (from_bool (places_stand r X Z))))) c m in
-      let second = block_goes e conversion s2.0 s1.0 told.last (tell_straight (InRegisters 30) (home t) k) s2.2 in
-      let take = tell_steps (InRegisters 30) (home t) k in
+      let second = block_goes e conversion s2.0 s1.0 told.last (tell_straight (InRegisters (truth_register (home t))) (home t) k) s2.2 in
+      let take = tell_steps (InRegisters (truth_register (home t))) (home t) k in
       let take1 = told.at_most in
       let most = wanted_most (needs at rest) t in
       let eight = it.most in
@@ -1789,24 +2442,29 @@ module _ (p : PlainProgram) (functions : List PlainIrFunction) (e : Env) (slots 
       (block e conversion told.last) (R (suc n) rest m1) goes (omega arith)
       (omega (arith, take, take1, most, eight, few, room)) (f s1.0 m1 (block e conversion told.last) s1.2 matches)
 
-  -- the places that a relation of an operator is of
-  abbrev first_of : {A : Type 0} → (exchanged : Bool) → A → A → A
-  first_of true x z = z
-  first_of false x z = x
+  -- what is shown where such a relation holds, and where it does not
+  abbrev pub Decided : BinOp → Relation → Bool → PlainType → Mode → (t a : Temp) → PlainType → Temp → PlainType → List PlainIr
+      → (n pc : ℕ) → Need → Mach → View → Type 0
+  Decided op r exchanged ty mode t a aty b bty rest n pc need0 m v =
+      (X Z : Place) → ArePlaces link.core r (first_of exchanged X Z) (first_of exchanged Z X)
+      → (a.bytes ≤ wanted need0 a → value v.at (base a) a.bytes ≡ number_of X)
+      → (b.bytes ≤ wanted need0 b → value v.at (base b) a.bytes ≡ number_of Z)
+      → G (suc n) m.state.work pc v (R (suc n) rest
+      (resulted t (bits (low_bytes t.bytes (pos (from_bool (places_stand r (first_of exchanged X Z) (first_of exchanged Z X))))))
+      (op_steps (binary_op op ty mode t a aty b bty)) m))
 
-  comparison_follows : (op : BinOp) (r : Relation) (exchanged : Bool) → family_of op ≡ Compared r exchanged → is_comparison op ≡ true
+  pub comparison_decided : (op : BinOp) (r : Relation) (exchanged : Bool) → family_of op ≡ Compared r exchanged → is_comparison op ≡ true
       → ((X Z : Place) → places_compare op X Z ≡ places_stand r (first_of exchanged X Z) (first_of exchanged Z X))
       → ((X Z : Place) → MayCompare op X Z → MayRelate r (first_of exchanged X Z) (first_of exchanged Z X))
       → (ty : PlainType) (mode : Mode) (t a : Temp) (space : SpaceId) (const : Bool) (to : PlainType) (b : Temp)
       (space2 : SpaceId) (const2 : Bool) (to2 : PlainType)
-      (rest : List PlainIr) (n pc : ℕ) (m : Mach) (v : View) → space ≡ space2
-      → IsPointerBinary p slots op t a b ty (pointer space const to) (pointer space2 const2 to2)
-      → HasAt e (code_of (binary_op op ty mode t a (pointer space const to) b (pointer space2 const2 to2)) rest ++ items rest) pc end
-      → M (operands_needed t a b (wanted (needs at rest) t) (needs at rest)) m v
-      → link.core ≡ e.core → Rest (suc n) rest → G (suc n) m.state.work pc v
+      (rest : List PlainIr) (n pc : ℕ) (need0 : Need) (m : Mach) (v : View) → space ≡ space2
+      → IsPointerBinary p slots op t a b ty (pointer space const to) (pointer space2 const2 to2) → M need0 m v → link.core ≡ e.core
+      → Decided op r exchanged ty mode t a (pointer space const to) b (pointer space2 const2 to2) rest n pc need0 m v
+      → G (suc n) m.state.work pc v
       (P n (binary_op op ty mode t a (pointer space const to) b (pointer space2 const2 to2)) rest m)
-  comparison_follows op r exchanged is compares relates banks ty mode t a space const to b space2 const2 to2 rest n pc m v
-      one_space k stands h one_core f =
+  comparison_decided op r exchanged is compares relates banks ty mode t a space const to b space2 const2 to2 rest n pc need0 m v
+      one_space k h one_core onward =
       from_pointer p place e space const to a m.temps st _ (suc n) m.state.work pc v
       (λ x qa into. from_pointer p place e space2 const2 to2 b m.temps st _ (suc n) m.state.work pc v
       (λ z qb also.
@@ -1823,6 +2481,94 @@ module _ (p : PlainProgram) (functions : List PlainIrFunction) (e : Env) (slots 
       st : State
       st = worked (op_steps i) m.state
 
+      same : b.bytes ≡ a.bytes
+      same = k.right_bytes ∙ ap width (sym one_space) ∙ sym k.left_bytes
+
+      size_a : IsPointerSize a.bytes
+      size_a = pointer_size a.bytes space k.left_bytes
+
+      by_result : (x z : PointerValue) → HoldsPointer m a x → HoldsPointer m b z → IsIntoSpace p space x
+          → IsIntoSpace p space z → (d : Result ℤ Undefined)
+          → comparison_of_pointers op x (referent_of p x st) z (referent_of p z st) ≡ d
+          → G (suc n) m.state.work pc v (Onward n rest t m st (as_number d))
+      by_result x z qa qb into also (Err point) u = tt
+      by_result x z qa qb into also (Ok number) u =
+          subst (λ (d : ℤ). G (suc n) m.state.work pc v (R (suc n) rest
+          (resulted t (bits (low_bytes t.bytes d)) (op_steps i) m))) (sym number_is) (onward X Z places left right)
+        where
+          X : Place
+          X = place_of p place a.bytes x
+
+          Z : Place
+          Z = place_of p place a.bytes z
+
+          ix : IsAddressed p a.bytes x
+          ix = addressed need0 m v a x h k.left qa
+
+          iz : IsAddressed p a.bytes z
+          iz = subst (λ (d : ℕ). IsAddressed p d z) same (addressed need0 m v b z h k.right qb)
+
+          number_is : number ≡ pos (from_bool (places_stand r (first_of exchanged X Z) (first_of exchanged Z X)))
+          number_is =
+              subst (λ (d : ℕ). IsAddressed p d x → IsAddressed p d z
+              → number ≡ pos (from_bool (places_compare op (place_of p place d x) (place_of p place d z))))
+              (sym k.left_bytes)
+              (λ c d. comparison_is p place (have p e slots home base place y) op compares space x z st number
+              (are_apart p e slots home base place y st h.frames) c d into also u) ix iz
+              ∙ ap (λ (d : Bool). pos (from_bool d)) (relates X Z)
+
+          left : a.bytes ≤ wanted need0 a → value v.at (base a) a.bytes ≡ number_of X
+          left l = whole_number need0 m v a x h k.left qa size_a l
+
+          right : b.bytes ≤ wanted need0 b → value v.at (base b) a.bytes ≡ number_of Z
+          right l = subst (λ (d : ℕ). value v.at (base b) d ≡ number_of (place_of p place d z)) same
+              (whole_number need0 m v b z h k.right qb (subst IsPointerSize (sym same) size_a) l)
+
+          -- the relation may be told of them
+          places : ArePlaces link.core r (first_of exchanged X Z) (first_of exchanged Z X)
+          places = by_link link.core one_core
+            where
+              places_of : HavePlaces p place
+              places_of = have p e slots home base place y
+
+              is_small : Small ≡ e.core → places_of.core ≡ Small
+              is_small small = have_core p e slots home base place y ∙ sym small
+
+              both : (Q : Place → Type 0) → Q X → Q Z → (d : Bool) → Q (first_of d X Z) × Q (first_of d Z X)
+              both Q x z true = (z, x)
+              both Q x z false = (x, z)
+
+              by_link : (core : Core) → core ≡ e.core → ArePlaces core r (first_of exchanged X Z) (first_of exchanged Z X)
+              by_link Small small =
+                  both IsPlace (is_place p place places_of a.bytes x ix (is_small small))
+                  (is_place p place places_of a.bytes z iz (is_small small)) exchanged
+              by_link Large large =
+                  let far = both IsFarPlace (is_far_place p place places_of a.bytes x ix)
+                  (is_far_place p place places_of a.bytes z iz) exchanged in (
+                    far.0,
+                    far.1,
+                    banks X Z (compared_alike p place op compares a.bytes x z (referent_of p x st) (referent_of p z st) number u),
+                  )
+
+  comparison_follows : (op : BinOp) (r : Relation) (exchanged : Bool) → family_of op ≡ Compared r exchanged → is_comparison op ≡ true
+      → ((X Z : Place) → places_compare op X Z ≡ places_stand r (first_of exchanged X Z) (first_of exchanged Z X))
+      → ((X Z : Place) → MayCompare op X Z → MayRelate r (first_of exchanged X Z) (first_of exchanged Z X))
+      → (ty : PlainType) (mode : Mode) (t a : Temp) (space : SpaceId) (const : Bool) (to : PlainType) (b : Temp)
+      (space2 : SpaceId) (const2 : Bool) (to2 : PlainType)
+      (rest : List PlainIr) (n pc : ℕ) (m : Mach) (v : View) → space ≡ space2
+      → IsPointerBinary p slots op t a b ty (pointer space const to) (pointer space2 const2 to2)
+      → HasAt e (code_of (binary_op op ty mode t a (pointer space const to) b (pointer space2 const2 to2)) rest ++ items rest) pc end
+      → M (operands_needed t a b (wanted (needs at rest) t) (needs at rest)) m v
+      → link.core ≡ e.core → Rest (suc n) rest → G (suc n) m.state.work pc v
+      (P n (binary_op op ty mode t a (pointer space const to) b (pointer space2 const2 to2)) rest m)
+  comparison_follows op r exchanged is compares relates banks ty mode t a space const to b space2 const2 to2 rest n pc m v
+      one_space k stands h one_core f =
+      comparison_decided op r exchanged is compares relates banks ty mode t a space const to b space2 const2 to2 rest n pc need0 m v
+      one_space k h one_core (λ X Z places left right. by_need X Z places left right (w == 0) refl)
+    where
+      i : PlainIr
+      i = binary_op op ty mode t a (pointer space const to) b (pointer space2 const2 to2)
+
       w : ℕ
       w = wanted (needs at rest) t
 
@@ -1838,108 +2584,47 @@ module _ (p : PlainProgram) (functions : List PlainIrFunction) (e : Env) (slots 
       room : 640 ≤ op_steps i
       room = binary_room op ty (pointer space const to) (pointer space2 const2 to2)
 
-      code_is : code_of i rest ≡ pointers_code link.core (Compared r exchanged) (home a) (home b) (home t) a.bytes
-          (size_of_type p.structs to) w
-      code_is = ap (λ (d : Family). pointers_code link.core d (home a) (home b) (home t) a.bytes (size_of_type p.structs to) w) is
+      size : ℕ
+      size = size_of_type p.structs to
 
-      by_result : (x z : PointerValue) → HoldsPointer m a x → HoldsPointer m b z → IsIntoSpace p space x
-          → IsIntoSpace p space z → (d : Result ℤ Undefined)
-          → comparison_of_pointers op x (referent_of p x st) z (referent_of p z st) ≡ d
-          → G (suc n) m.state.work pc v (Onward n rest t m st (as_number d))
-      by_result x z qa qb into also (Err point) u = tt
-      by_result x z qa qb into also (Ok number) u =
-          subst (λ (d : ℤ). G (suc n) m.state.work pc v (R (suc n) rest
-          (resulted t (bits (low_bytes t.bytes d)) (op_steps i) m))) (sym number_is) (by_need (w == 0) refl)
+      code_is : code_of i rest ≡ pointers_code None link.core (Compared r exchanged) (home a) (home b) (home t) a.bytes size w
+      code_is = ap (λ (d : Family). pointers_code None link.core d (home a) (home b) (home t) a.bytes size w) is
+
+      by_need : (X Z : Place) → ArePlaces link.core r (first_of exchanged X Z) (first_of exchanged Z X)
+          → (a.bytes ≤ wanted need0 a → value v.at (base a) a.bytes ≡ number_of X)
+          → (b.bytes ≤ wanted need0 b → value v.at (base b) a.bytes ≡ number_of Z) → (j : Bool) → (w == 0) ≡ j
+          → G (suc n) m.state.work pc v (R (suc n) rest
+          (resulted t (bits (low_bytes t.bytes (pos (from_bool (places_stand r (first_of exchanged X Z) (first_of exchanged Z X))))))
+          (op_steps i) m))
+      by_need X Z places left right true j =
+          let truth = places_stand r (first_of exchanged X Z) (first_of exchanged Z X) in
+          nothing_passes None i t (bits (low_bytes t.bytes (pos (from_bool truth)))) rest n pc need0 m v k.result
+          (code_is ∙ none exchanged) j (low_below t.bytes (pos (from_bool truth))) stands
+          (other_needed t a b w (needs at rest)) h room f
         where
-          X : Place
-          X = place_of p place a.bytes x
-
-          Z : Place
-          Z = place_of p place a.bytes z
-
-          ix : IsAddressed p a.bytes x
-          ix = addressed need0 m v a x h k.left qa
-
-          iz : IsAddressed p a.bytes z
-          iz = subst (λ (d : ℕ). IsAddressed p d z) same (addressed need0 m v b z h k.right qb)
-
-          truth : Bool
-          truth = places_stand r (first_of exchanged X Z) (first_of exchanged Z X)
-
-          number_is : number ≡ pos (from_bool truth)
-          number_is =
-              subst (λ (d : ℕ). IsAddressed p d x → IsAddressed p d z
-              → number ≡ pos (from_bool (places_compare op (place_of p place d x) (place_of p place d z))))
-              (sym k.left_bytes)
-              (λ c d. comparison_is p place (have p e slots home base place y) op compares space x z st number
-              (are_apart p e slots home base place y st h.frames) c d into also u) ix iz
-              ∙ ap (λ (d : Bool). pos (from_bool d)) (relates X Z)
-
-          by_need : (j : Bool) → (w == 0) ≡ j → G (suc n) m.state.work pc v
-              (R (suc n) rest (resulted t (bits (low_bytes t.bytes (pos (from_bool truth)))) (op_steps i) m))
-          by_need true j =
-              nothing_passes None i t (bits (low_bytes t.bytes (pos (from_bool truth)))) rest n pc need0 m v k.result
-              (code_is ∙ none exchanged) j (low_below t.bytes (pos (from_bool truth))) stands
-              (other_needed t a b w (needs at rest)) h room f
-            where
-              none : (d : Bool) → pointers_code link.core (Compared r d) (home a) (home b) (home t) a.bytes
-                  (size_of_type p.structs to) w ≡ []
-              none false = rw j refl
-              none true = rw j refl
-          by_need false j = by_side exchanged code_is places
-            where
-              left : value v.at (base a) a.bytes ≡ number_of X
-              left = whole_number need0 m v a x h k.left qa size_a (first_there t a b w (needs at rest) j)
-
-              right : value v.at (base b) a.bytes ≡ number_of Z
-              right = subst (λ (d : ℕ). value v.at (base b) d ≡ number_of (place_of p place d z)) same
-                  (whole_number need0 m v b z h k.right qb (subst IsPointerSize (sym same) size_a) (second_there t a b w (needs at rest) j))
-
-              -- the relation may be told of them
-              places : ArePlaces link.core r (first_of exchanged X Z) (first_of exchanged Z X)
-              places = by_link link.core one_core
-                where
-                  places_of : HavePlaces p place
-                  places_of = have p e slots home base place y
-
-                  is_small : Small ≡ e.core → places_of.core ≡ Small
-                  is_small small = have_core p e slots home base place y ∙ sym small
-
-                  both : (P : Place → Type 0) → P X → P Z → (d : Bool) → P (first_of d X Z) × P (first_of d Z X)
-                  both P x z true = (z, x)
-                  both P x z false = (x, z)
-
-                  by_link : (core : Core) → core ≡ e.core → ArePlaces core r (first_of exchanged X Z) (first_of exchanged Z X)
-                  by_link Small small =
-                      both IsPlace (is_place p place places_of a.bytes x ix (is_small small))
-                      (is_place p place places_of a.bytes z iz (is_small small))
-                      exchanged
-                  by_link Large large =
-                      let far = both IsFarPlace (is_far_place p place places_of a.bytes x ix)
-                      (is_far_place p place places_of a.bytes z iz) exchanged in (
-                        far.0,
-                        far.1,
-                        banks X Z (compared_alike p place op compares a.bytes x z (referent_of p x st) (referent_of p z st) number u),
-                      )
-
-              by_side : (d : Bool) → code_of i rest ≡ pointers_code link.core (Compared r d) (home a) (home b) (home t)
-                  a.bytes (size_of_type p.structs to) w
-                  → ArePlaces link.core r (first_of d X Z) (first_of d Z X)
-                  → G (suc n) m.state.work pc v (R (suc n) rest
-                  (resulted t (bits (low_bytes t.bytes (pos
-                  (from_bool (places_stand r (first_of d X Z) (first_of d Z X)))))) (op_steps i) m))
-              by_side false c places =
-                  let code : code_of i rest ≡ related_code link.core r (home a) (home b) a.bytes ++ conversion_code false
-                  (InRegisters 30) (home t) 1 w = c ∙ rw j refl in
-                  related_passes r t a b a.bytes (op_steps i) X Z rest n pc need0 m v k.result k.left k.right refl
-                  same size_a places left right room
-                  (subst (λ (d : List AsmItem). HasAt e (d ++ items rest) pc end) code stands) (other_needed t a b w (needs at rest)) h f
-              by_side true c places =
-                  let code : code_of i rest ≡ related_code link.core r (home b) (home a) a.bytes ++ conversion_code false
-                  (InRegisters 30) (home t) 1 w = c ∙ rw j refl in
-                  related_passes r t b a a.bytes (op_steps i) Z X rest n pc need0 m v k.result k.right k.left same
-                  refl size_a places right left room
-                  (subst (λ (d : List AsmItem). HasAt e (d ++ items rest) pc end) code stands) (other_needed t a b w (needs at rest)) h f
+          none : (d : Bool) → pointers_code None link.core (Compared r d) (home a) (home b) (home t) a.bytes size w ≡ []
+          none false = rw j refl
+          none true = rw j refl
+      by_need X Z places left right false j =
+          by_side exchanged code_is places (left (first_there t a b w (needs at rest) j)) (right (second_there t a b w (needs at rest) j))
+        where
+          by_side : (d : Bool) → code_of i rest ≡ pointers_code None link.core (Compared r d) (home a) (home b) (home t) a.bytes size w
+              → ArePlaces link.core r (first_of d X Z) (first_of d Z X)
+              → value v.at (base a) a.bytes ≡ number_of X → value v.at (base b) a.bytes ≡ number_of Z
+              → G (suc n) m.state.work pc v (R (suc n) rest
+              (resulted t (bits (low_bytes t.bytes (pos (from_bool (places_stand r (first_of d X Z) (first_of d Z X)))))) (op_steps i) m))
+          by_side false c places left right =
+              let code : code_of i rest ≡ related_code (truth_register (home t)) link.core r (home a) (home b) a.bytes
+              ++ truth_at_code (home t) w = c ∙ rw j refl in
+              related_passes r t a b a.bytes (op_steps i) X Z rest n pc need0 m v k.result k.left k.right refl
+              same size_a places left right room
+              (subst (λ (d : List AsmItem). HasAt e (d ++ items rest) pc end) code stands) (other_needed t a b w (needs at rest)) h f
+          by_side true c places left right =
+              let code : code_of i rest ≡ related_code (truth_register (home t)) link.core r (home b) (home a) a.bytes
+              ++ truth_at_code (home t) w = c ∙ rw j refl in
+              related_passes r t b a a.bytes (op_steps i) Z X rest n pc need0 m v k.result k.right k.left same
+              refl size_a places right left room
+              (subst (λ (d : List AsmItem). HasAt e (d ++ items rest) pc end) code stands) (other_needed t a b w (needs at rest)) h f
 
   two_pointers : (op : BinOp) (ty : PlainType) (mode : Mode) (t a : Temp) (space : SpaceId) (const : Bool)
       (to : PlainType) (b : Temp) (space2 : SpaceId) (const2 : Bool) (to2 : PlainType)
@@ -1984,24 +2669,9 @@ module _ (p : PlainProgram) (functions : List PlainIrFunction) (e : Env) (slots 
       (bty : PlainType) (rest : List PlainIr) (n pc : ℕ) (m : Mach) (v : View) → Type 0
   IsShown known op ty mode t a aty b bty rest n pc m v =
       HoldsKnown known b m → IsPointerBinary p slots op t a b ty aty bty
-      → HasAt e (known_items known (binary_op op ty mode t a aty b bty) rest) pc end
+      → HasAt e (known_code known (binary_op op ty mode t a aty b bty) rest ++ items rest) pc end
       → M (moving_needs known op t a aty b bty rest) m v
       → link.core ≡ e.core → Rest (suc n) rest → G (suc n) m.state.work pc v (P n (binary_op op ty mode t a aty b bty) rest m)
-
-  -- where an operand is a pointer, nothing is told
-  untold : (known : Option RightNumber) (op : BinOp) (ty : PlainType) (mode : Mode) (t a : Temp) (aty : PlainType) (b : Temp)
-      (bty : PlainType) (rest : List PlainIr) (pc : ℕ)
-      → is_apart (family_of op) mode ty aty bty ≡ true → HasAt e (known_items known (binary_op op ty mode t a aty b bty) rest) pc end
-      → HasAt e (known_code known (binary_op op ty mode t a aty b bty) rest ++ items rest) pc end
-  untold known op ty mode t a aty b bty rest pc apart stands =
-      subst (λ (x : Option Told). HasAt e (own_code p home link None x known (needs at rest)
-      (binary_op op ty mode t a aty b bty) ++ ops_code p home link at x rest) pc end)
-      (none (is_only_tested t (slice_get rest 0) (slice_index (wanted_bytes at rest) 0))) stands
-    where
-      none : (x : Bool)
-          → (if x then told_by (is_apart (family_of op) mode ty aty bty) (family_of op) (is_signed aty) else None) ≡ None
-      none true = ap (λ z. told_by z (family_of op) (is_signed aty)) apart
-      none false = refl
 
   -- two pointers, of which the second one is known to hold no number of elements
   both_follow : (known : Option RightNumber) (op : BinOp) (ty : PlainType) (mode : Mode) (t a : Temp) (space : SpaceId) (const : Bool)
@@ -2009,41 +2679,35 @@ module _ (p : PlainProgram) (functions : List PlainIrFunction) (e : Env) (slots 
       (v : View)
       → IsShown known op ty mode t a (pointer space const to) b (pointer space2 const2 to2) rest n pc m v
   both_follow None op ty mode t a space const to b space2 const2 to2 rest n pc m v held k stands h one_core f =
-      two_pointers op ty mode t a space const to b space2 const2 to2 rest n pc m v k
-      (untold None op ty mode t a (pointer space const to) b (pointer space2 const2 to2) rest pc refl stands) h one_core f
+      two_pointers op ty mode t a space const to b space2 const2 to2 rest n pc m v k stands h one_core f
   both_follow (Some x) op ty mode t a space const to b space2 const2 to2 rest n pc m v held k stands h one_core f =
-      two_pointers op ty mode t a space const to b space2 const2 to2 rest n pc m v k
-      (untold (Some x) op ty mode t a (pointer space const to) b (pointer space2 const2 to2) rest pc refl stands) h one_core f
+      two_pointers op ty mode t a space const to b space2 const2 to2 rest n pc m v k stands h one_core f
 
   first_follows : (known : Option RightNumber) (op : BinOp) (ty : PlainType) (mode : Mode) (t a : Temp) (space : SpaceId) (const : Bool)
       (to : PlainType) (b : Temp) (signed : Bool) (bytes : ℕ) (rest : List PlainIr) (n pc : ℕ) (m : Mach) (v : View)
       → IsShown known op ty mode t a (pointer space const to) b (integer signed bytes) rest n pc m v
-  first_follows None op ty mode t a space const to b signed bytes rest n pc m v held k stands h one_core f =
-      pointer_first op ty mode t a space const to b signed bytes rest n pc m v k
-      (untold None op ty mode t a (pointer space const to) b (integer signed bytes) rest pc refl stands) h one_core f
+  first_follows None Add ty mode t a space const to b signed bytes rest n pc m v held k stands h one_core f =
+      pointer_first Add ty mode t a space const to b signed bytes rest n pc m v k stands h one_core f
+  first_follows None Sub ty mode t a space const to b signed bytes rest n pc m v held k stands h one_core f =
+      pointer_first Sub ty mode t a space const to b signed bytes rest n pc m v k stands h one_core f
+  first_follows None op ty mode t a space const to b signed bytes rest n pc m v held k stands h one_core f = absurd k.types.0
   first_follows (Some x) op ty mode t a space const to b signed bytes rest n pc m v held k stands h one_core f =
       by_number (number_or_none x) held k stands h one_core f
     where
       with_number : (op : BinOp) (x : TakenNumber)
           → IsShown (Some (as_known x)) op ty mode t a (pointer space const to) b (integer signed bytes) rest n pc m v
       with_number Add x held k stands h one_core f =
-          known_first Add x ty mode t a space const to b signed bytes rest n pc m v k (held x.number refl)
-          (untold (Some (as_known x)) Add ty mode t a (pointer space const to) b (integer signed bytes) rest pc refl stands) h one_core f
+          known_first Add x ty mode t a space const to b signed bytes rest n pc m v k (held x.number refl) stands h one_core f
       with_number Sub x held k stands h one_core f =
-          known_first Sub x ty mode t a space const to b signed bytes rest n pc m v k (held x.number refl)
-          (untold (Some (as_known x)) Sub ty mode t a (pointer space const to) b (integer signed bytes) rest pc refl stands) h one_core f
+          known_first Sub x ty mode t a space const to b signed bytes rest n pc m v k (held x.number refl) stands h one_core f
       with_number op x held k stands h one_core f = absurd k.types.0
 
       with_none : (op : BinOp) (byte : Bool)
           → IsShown (Some (no_number byte)) op ty mode t a (pointer space const to) b (integer signed bytes) rest n pc m v
       with_none Add byte held k stands h one_core f =
-          pointer_first Add ty mode t a space const to b signed bytes rest n pc m v k
-          (untold (Some (no_number byte)) Add ty mode t a (pointer space const to) b (integer signed bytes) rest pc refl stands)
-          h one_core f
+          pointer_first Add ty mode t a space const to b signed bytes rest n pc m v k stands h one_core f
       with_none Sub byte held k stands h one_core f =
-          pointer_first Sub ty mode t a space const to b signed bytes rest n pc m v k
-          (untold (Some (no_number byte)) Sub ty mode t a (pointer space const to) b (integer signed bytes) rest pc refl stands)
-          h one_core f
+          pointer_first Sub ty mode t a space const to b signed bytes rest n pc m v k stands h one_core f
       with_none op byte held k stands h one_core f = absurd k.types.0
 
       by_number : HasNumber x ⊎ (x ≡ no_number x.in_byte)
@@ -2059,17 +2723,15 @@ module _ (p : PlainProgram) (functions : List PlainIrFunction) (e : Env) (slots 
       (b : Temp) (space : SpaceId) (const : Bool) (to : PlainType) (rest : List PlainIr) (n pc : ℕ) (m : Mach) (v : View)
       → IsShown known op ty mode t a (integer signed bytes) b (pointer space const to) rest n pc m v
   second_follows None Add ty mode t a signed bytes b space const to rest n pc m v held k stands h one_core f =
-      pointer_second ty mode t a signed bytes b space const to rest n pc m v k
-      (untold None Add ty mode t a (integer signed bytes) b (pointer space const to) rest pc refl stands) h one_core f
+      pointer_second ty mode t a signed bytes b space const to rest n pc m v k stands h one_core f
   second_follows (Some x) Add ty mode t a signed bytes b space const to rest n pc m v held k stands h one_core f =
-      pointer_second ty mode t a signed bytes b space const to rest n pc m v k
-      (untold (Some x) Add ty mode t a (integer signed bytes) b (pointer space const to) rest pc refl stands) h one_core f
+      pointer_second ty mode t a signed bytes b space const to rest n pc m v k stands h one_core f
   second_follows known op ty mode t a signed bytes b space const to rest n pc m v held k stands h one_core f = absurd k.types.0
 
   pub pointer_binary_follows : (known : Option RightNumber) (op : BinOp) (ty : PlainType) (mode : Mode) (t a : Temp) (aty : PlainType)
       (b : Temp) (bty : PlainType) (rest : List PlainIr) (n pc : ℕ) (m : Mach) (v : View) → HoldsKnown known b m
       → IsPointerBinary p slots op t a b ty aty bty
-      → HasAt e (known_items known (binary_op op ty mode t a aty b bty) rest) pc end
+      → HasAt e (known_code known (binary_op op ty mode t a aty b bty) rest ++ items rest) pc end
       → M (moving_needs known op t a aty b bty rest) m v
       → link.core ≡ e.core → Rest (suc n) rest → G (suc n) m.state.work pc v (P n (binary_op op ty mode t a aty b bty) rest m)
   pointer_binary_follows known op ty mode t a aty b bty rest n pc m v = by_types aty bty
@@ -2095,6 +2757,45 @@ module _ (p : PlainProgram) (functions : List PlainIrFunction) (e : Env) (slots 
       by_types (array of len) (pointer space const to) held k stands h one_core f = absurd k.types.1
       by_types (struct index) (pointer space const to) held k stands h one_core f = absurd k.types.1
       by_types x z held k stands h one_core f = absurd (let g = k.pointer in cc)
+
+  -- a pointer that is moved by an index in R30, which is told, and of which nothing is needed any more
+  pub index_follows : (known : Option RightNumber) (op : BinOp) (ty : PlainType) (mode : Mode) (t a : Temp) (aty : PlainType) (b : Temp)
+      (bty : PlainType) (rest : List PlainIr) (n pc : ℕ) (need0 : Need) (m : Mach) (v : View) → IsPointerBinary p slots op t a b ty aty bty
+      → moves_pointer op aty bty ≡ true → nat_le b.bytes 2 ≡ true
+      → HasAt e (told_code known (binary_op op ty mode t a aty b bty) rest ++ items rest) pc end → HoldsIndex b m v
+      → pointer_wanted (wanted (needs at rest) t) ≤ need0 a.at
+      → ((u : ℕ) → u ≢ t.at → needs at rest u ≤ need0 u) → M need0 m v → link.core ≡ e.core → Rest (suc n) rest
+      → G (suc n) m.state.work pc v (P n (binary_op op ty mode t a aty b bty) rest m)
+  index_follows known op ty mode t a aty b bty rest n pc need0 m v = by_types aty bty
+    where
+      Shown : (aty bty : PlainType) → Type 0
+      Shown aty bty =
+          IsPointerBinary p slots op t a b ty aty bty → moves_pointer op aty bty ≡ true → nat_le b.bytes 2 ≡ true
+          → HasAt e (told_code known (binary_op op ty mode t a aty b bty) rest ++ items rest) pc end → HoldsIndex b m v
+          → pointer_wanted (wanted (needs at rest) t) ≤ need0 a.at
+          → ((u : ℕ) → u ≢ t.at → needs at rest u ≤ need0 u) → M need0 m v → link.core ≡ e.core → Rest (suc n) rest
+          → G (suc n) m.state.work pc v (P n (binary_op op ty mode t a aty b bty) rest m)
+
+      first : (space : SpaceId) (const : Bool) (to z : PlainType) → Shown (pointer space const to) z
+      first space const to (integer signed bytes) k moves few stands held there more h one_core f =
+          let i = binary_op op ty mode t a (pointer space const to) b (integer signed bytes) in
+          let moved = offset_code link.core (is_difference op) signed (home a) z_pair (home t) (max 2 (wanted (needs at rest) t)) b.bytes
+          (size_of_type p.structs to) (wanted (needs at rest) t) in
+          index_first (told_code known i rest) op ty mode t a space const to b signed bytes rest n pc need0 m v k (leb-true b.bytes 2 few)
+          (kind_is (nat_le b.bytes 2 && moves_pointer op (pointer space const to) (integer signed bytes)) moved _
+          (ap (λ x. x && moves_pointer op (pointer space const to) (integer signed bytes)) few ∙ moves)) stands held there more h one_core f
+      first space const to (pointer space2 const2 to2) k moves few stands held there more h one_core f = absurd cc
+      first space const to (fixed kind saturates) k moves few stands held there more h one_core f = absurd cc
+      first space const to void k moves few stands held there more h one_core f = absurd (no_count op void (λ i. i) k.types.0)
+      first space const to (array of len) k moves few stands held there more h one_core f =
+          absurd (no_count op (array of len) (λ i. i) k.types.0)
+      first space const to (struct index) k moves few stands held there more h one_core f =
+          absurd (no_count op (struct index) (λ i. i) k.types.0)
+
+      by_types : (x z : PlainType) → Shown x z
+      by_types (pointer space const to) z k moves few stands held there more h one_core f =
+          first space const to z k moves few stands held there more h one_core f
+      by_types x z k moves few stands held there more h one_core f = absurd cc
 
   -- ---- conversions
 

@@ -25,6 +25,7 @@ use Rattle.ec_select_operations.specs.Code.{Linkage}
 use Rattle.ec_select_operations.specs.Homes.{HasHome}
 use Rattle.ec_select_operations.specs.Needs.{Need, Facts, facts_of, needs, wanted, at_least, without, index_needed}
 use Rattle.ec_select_operations.specs.Ports.{read_byte, write_code, point_code, pointed, cell_place, cell_point_code}
+use Rattle.ec_select_operations.specs.Pointers.{has_tables}
 use Rattle.ec_select_functions.specs.Covered.{IsPort}
 use Rattle.ec_select_functions.specs.Kept.{are_on_ports}
 use Rattle.ec_select_functions.specs.Relation.{Matches}
@@ -54,7 +55,7 @@ module _ (p : PlainProgram) (functions : List PlainIrFunction) (e : Env) (slots 
     (end : ℕ) (results : ℕ → ℕ) (me : ℕ) (link : Linkage) (stack : List Call) where
   -- what the code of the function is made by
   abbrev at : Facts
-  at = facts_of labels all
+  at = facts_of (has_tables p.objects) labels all
 
   abbrev M : Need → Mach → View → Type 0
   M need m v = Matches p e y.inputs slots base place y.aside y.stands y.active y.called need m v

@@ -45,6 +45,7 @@ use Rattle.ec_select_functions.specs.Laws.{HoldsUnlessFailed, ShowsOperations, C
 use Rattle.ec_select_functions.specs.Kept.{are_on_ports, on_ports, meaning_on}
 use Rattle.ec_select_operations.specs.Needs.{facts_of, needs}
 use Rattle.ec_select_operations.specs.Places.{ObjectLeaf}
+use Rattle.ec_select_operations.specs.Pointers.{has_tables}
 use Rattle.ec_select_functions.specs.Relation.{accesses, HoldsContent, Matches}
 use Rattle.ec_select_functions.proofs.Setting.{FixedLaws, RoutineLaws, PointerLaws, NumberLaws}
 use Rattle.ec_select_functions.proofs.Active.{World, Active, homes_of, scratch_of, stack_work, stack_cell, scratch_cell}
@@ -333,7 +334,8 @@ module _ (laws : CodeLaws) (cells : ℕ) (p : PlainIrProgram) (place entry_of : 
   returns g is j result st u spent credit hands left = bottom g is j st u spent credit left result hands
 
   begun : (g : PlainIrFunction) → Matches program_data e inputs g.slots (base_of p e place entry_of w p.main) place set_aside
-      (standing_by p e place entry_of w v.at) (p.main ∷ []) (called_in g.code) (needs (facts_of (selected.made p.main).labels g.code) g.code) (start program_data) v
+      (standing_by p e place entry_of w v.at) (p.main ∷ []) (called_in g.code)
+      (needs (facts_of (has_tables program_data.objects) (selected.made p.main).labels g.code) g.code) (start program_data) v
   begun g = record {
     temps_hold = λ t h it q z. absurd cc;
     leaves_hold = λ l x u q z. let r = had l.object l.number x u q z in begin.leaves l r.state u r.is_state r.leaf;
@@ -391,7 +393,8 @@ module _ (laws : CodeLaws) (cells : ℕ) (p : PlainIrProgram) (place entry_of : 
             inside = λ b q. q;
             here = record { active = a.runs; stacked = refl; core = refl };
             stands = subst
-                (λ i. HasAt e (ops_code program_data hs link (facts_of labels g.code) None g.code) i x.end) mid stands.2;
+                (λ i. HasAt e (ops_code program_data hs link (facts_of (has_tables program_data.objects) labels g.code) None g.code) i
+                x.end) mid stands.2;
           } in
           all_functions p e place entry_of w n p.main g (sp v) set_aside v.at a [] refl (λ j l. returns g is j) s.pc g.code
           (start program_data) v ready (begun g)

@@ -18,7 +18,7 @@ use Rattle.ec_asm.specs.declared.pieces.Location.{Location}
 use Rattle.ec_asm.specs.View.{View}
 use Rattle.ec_asm.specs.Change.{Env, Own, Object}
 use Rattle.ec_asm.specs.Items.{HasAt, block, code_steps}
-use Rattle.ec_asm.specs.Pieces.{value}
+use Rattle.ec_asm.specs.Pieces.{StandsFrom, value}
 use Rattle.ec_asm.specs.PieceLaws.{IsReadFirst}
 use Rattle.ec_asm.proofs.Hoare.{block_goes}
 use Rattle.ec_core.specs.declared.values.ObjectPointer.{ObjectPointer}
@@ -44,6 +44,7 @@ use Rattle.ec_select_pointers.specs.FarLaws.{HasPage, AreFarFlash}
 use Rattle.ec_select_operations.specs.Code.{load_either_code, load_code, banked_code}
 use Rattle.ec_select_functions.specs.Covered.{IsInto}
 use Rattle.ec_select_operations.specs.Homes.{HasHome}
+use Rattle.ec_select_operations.specs.Needs.{loaded_bytes}
 use Rattle.ec_select_operations.specs.Places.{ObjectLeaf, IsClear}
 use Rattle.ec_select_operations.specs.Pointers.{is_table, has_tables, IsPointed}
 use Rattle.ec_select_functions.specs.Standing.{address_end}
@@ -131,7 +132,7 @@ module _ (p : PlainProgram) (e : Env) (slots : ℕ) (home : Temp → Location) (
       }
 
   -- which two bytes tell, or three
-  near_flash : (kept : Home) (from n : ℕ) → address_end e.core kept ≡ 65536 → AreInFlash kept from n → AreFlash e from n
+  pub near_flash : (kept : Home) (from n : ℕ) → address_end e.core kept ≡ 65536 → AreInFlash kept from n → AreFlash e from n
   near_flash kept from n low there =
       let end = there.end in
       record { room = omega (arith, low, end); kind = there.kind }
@@ -362,15 +363,15 @@ module _ (p : PlainProgram) (e : Env) (slots : ℕ) (home : Temp → Location) (
 
   -- from the data bank by the low two bytes
   loads_by_low : (ptr to : Temp) (from pc mid : ℕ) (v : View) → HasHome slots ptr → HasHome slots to → 2 ≤ ptr.bytes
-      → IsAddressedBy v.at (base ptr) ptr.bytes from DataBank → AreData e from to.bytes → IsReadFirst from (base to) to.bytes
+      → value v.at (base ptr) 2 ≡ from % 65536 → AreData e from to.bytes → IsReadFirst from (base to) to.bytes
       → HasAt e (load_data_code (home ptr) (home to) to.bytes) pc mid → Loads DataBank from pc mid v to
-  loads_by_low ptr to from pc mid v ip it two a there far stands =
-      loads_data ptr to from pc mid v ip it two (low_is (value v.at (base ptr) 2) from to.bytes a.low there.room it.some) there far stands
+  loads_by_low ptr to from pc mid v ip it two low there far stands =
+      loads_data ptr to from pc mid v ip it two (low_is (value v.at (base ptr) 2) from to.bytes low there.room it.some) there far stands
 
   -- from the bank that a pointer of three bytes tells, where some object stands in flash; else it is the data bank
   loads_either : (core : Core) (tables : Bool) (bank : Bank) (kept : Home) (ptr to : Temp) (from pc mid : ℕ) (v : View)
       → e.core ≡ core → (bank ≡ FlashBank → tables ≡ true) → HasHome slots ptr → HasHome slots to → ptr.bytes ≡ 3
-      → IsAddressedBy v.at (base ptr) ptr.bytes from bank → IsThere bank kept from (base to) to.bytes
+      → IsAddressedBy v.at (base ptr) (loaded_bytes Generic tables ptr.bytes) from bank → IsThere bank kept from (base to) to.bytes
       → HasAt e (load_either_code core tables (home ptr) (home to) to.bytes) pc mid → Loads bank from pc mid v to
   loads_either Small true bank kept ptr to from pc mid v same t ip it three a there stands =
       loads_by_tag bank kept ptr to from pc mid v same ip it three a there stands
@@ -379,12 +380,12 @@ module _ (p : PlainProgram) (e : Env) (slots : ℕ) (home : Temp → Location) (
   loads_either core false FlashBank kept ptr to from pc mid v same t ip it three a there stands =
       let no : false ≡ true = t refl in absurd (cc)
   loads_either core false DataBank kept ptr to from pc mid v same t ip it three a there stands =
-      loads_by_low ptr to from pc mid v ip it (omega (arith, three)) a there.0 there.1 stands
+      loads_by_low ptr to from pc mid v ip it (omega (arith, three)) a.low there.0 there.1 stands
 
   -- through a pointer into a space, which holds the home. One into flash is there only with a table
   pub loads : (core : Core) (tables : Bool) (space : SpaceId) (bank : Bank) (kept : Home) (ptr to : Temp) (from pc mid : ℕ) (v : View)
       → e.core ≡ core → (bank ≡ FlashBank → tables ≡ true) → reaches space bank ≡ true → holds space kept ≡ true
-      → IsInto slots space ptr → HasHome slots to → IsAddressedBy v.at (base ptr) ptr.bytes from bank
+      → IsInto slots space ptr → HasHome slots to → IsAddressedBy v.at (base ptr) (loaded_bytes space tables ptr.bytes) from bank
       → IsThere bank kept from (base to) to.bytes → HasAt e (load_code core tables space (home ptr) (home to) to.bytes) pc mid
       → Loads bank from pc mid v to
   loads core tables Flash FlashBank kept ptr to from pc mid v same t h held into it a there stands =
@@ -402,41 +403,41 @@ module _ (p : PlainProgram) (e : Env) (slots : ℕ) (home : Temp → Location) (
   loads core tables Data FlashBank kept ptr to from pc mid v same t h held into it a there stands = absurd (cc)
   loads core tables Data DataBank kept ptr to from pc mid v same t h held into it a there stands =
       let q = into.1 in
-      loads_by_low ptr to from pc mid v into.0 it (omega (arith, q)) a there.0 there.1 stands
+      loads_by_low ptr to from pc mid v into.0 it (omega (arith, q)) a.low there.0 there.1 stands
   loads core tables Generic bank kept ptr to from pc mid v same t h held into it a there stands =
       loads_either core tables bank kept ptr to from pc mid v same t into.0 it into.1 a there stands
 
-  -- what a load from an object of the flash bank brings
-  abbrev pub BringsTable : (l : ObjectLeaf p FlashBank) (to : Temp) (v : View) → List AsmItem → Type 0
-  BringsTable l to v code =
+  -- what a load from an object of the flash bank brings to n bytes from an address on
+  abbrev pub BringsTableTo : (l : ObjectLeaf p FlashBank) (b n : ℕ) (v : View) → List AsmItem → Type 0
+  BringsTableTo l b n v code =
       let from = place l.object + l.at in
-      Brings v (base to) to.bytes (λ i. bytes_of p e slots home base place y FlashBank v (from + i))
-      (each (ByteRead FlashBank) from (λ i. bytes_of p e slots home base place y FlashBank v (from + i)) to.bytes) (block e code v)
+      Brings v b n (λ i. bytes_of p e slots home base place y FlashBank v (from + i))
+      (each (ByteRead FlashBank) from (λ i. bytes_of p e slots home base place y FlashBank v (from + i)) n) (block e code v)
 
-  loads_near_table : (l : ObjectLeaf p FlashBank) (to : Temp) (v : View) → address_end e.core l.declared.home ≡ 65536
-      → IsAddressable l.declared.storage → HasHome slots to → l.bytes ≡ to.bytes
-      → BringsTable l to v (load_table_code l.object l.at (home to) to.bytes)
-  loads_near_table l to v end k it size =
-      let n = to.bytes in
+  -- and to a temporary
+  abbrev pub BringsTable : (l : ObjectLeaf p FlashBank) (to : Temp) (v : View) → List AsmItem → Type 0
+  BringsTable l to v code = BringsTableTo l (base to) to.bytes v code
+
+  loads_near_table : (l : ObjectLeaf p FlashBank) (q : Location) (b n : ℕ) (v : View) → address_end e.core l.declared.home ≡ 65536
+      → IsAddressable l.declared.storage → StandsFrom e q n b Own → LeavesZ b n → 1 ≤ n → l.bytes ≡ n
+      → BringsTableTo l b n v (load_table_code l.object l.at q n)
+  loads_near_table l q b n v end k sq zq some size =
       let from = place l.object + l.at in
       let inside = leaf_inside p e slots home base place y FlashBank l in
       let near = near_flash l.declared.home from n end (subst (λ (i : ℕ). AreInFlash l.declared.home from i) size (table_there l)) in
       let low : e.address_of l.object l.at ≡ from =
       low_is (e.address_of l.object l.at) from n
-      ((room_of p e slots home base place y l.object l.declared l.is_object k).at l.at (omega (arith, inside))) near.room it.some in
+      ((room_of p e slots home base place y l.object l.declared l.is_object k).at l.at (omega (arith, inside))) near.room some in
       let byte = λ (z i : ℕ). bytes_of p e slots home base place y FlashBank v (z + i) in
       let done =
       λ (z : ℕ). AreFlash e z n
-      → Brings v (base to) n (byte z) (each (ByteRead FlashBank) z (byte z) n)
-      (block e (load_table_code l.object l.at (home to) n) v) in
-      subst done low
-      (y.pointers.from_tables e (home to) l.object l.at n (base to) v (y.layout.temps_at to it)
-      (leaves_z (base to) n n (omega arith) (y.layout.temps_work to it))) near
+      → Brings v b n (byte z) (each (ByteRead FlashBank) z (byte z) n)
+      (block e (load_table_code l.object l.at q n) v) in
+      subst done low (y.pointers.from_tables e q l.object l.at n b v sq zq) near
 
-  loads_far_table : (l : ObjectLeaf p FlashBank) (to : Temp) (v : View) → e.core ≡ Large → IsAddressable l.declared.storage
-      → HasHome slots to → l.bytes ≡ to.bytes → BringsTable l to v (load_far_table_code l.object l.at (home to) to.bytes)
-  loads_far_table l to v large k it size =
-      let n = to.bytes in
+  loads_far_table : (l : ObjectLeaf p FlashBank) (q : Location) (b n : ℕ) (v : View) → e.core ≡ Large → IsAddressable l.declared.storage
+      → StandsFrom e q n b Own → LeavesZ b n → l.bytes ≡ n → BringsTableTo l b n v (load_far_table_code l.object l.at q n)
+  loads_far_table l q b n v large k sq zq size =
       let from = place l.object + l.at in
       let inside = leaf_inside p e slots home base place y FlashBank l in
       let far = far_flash l.declared.home from n (subst (λ (i : ℕ). AreInFlash l.declared.home from i) size (table_there l)) in
@@ -447,24 +448,30 @@ module _ (p : PlainProgram) (e : Env) (slots : ℕ) (home : Temp → Location) (
       let byte = λ (z i : ℕ). bytes_of p e slots home base place y FlashBank v (z + i) in
       let done =
       λ (z : ℕ). AreFarFlash e z n
-      → Brings v (base to) n (byte z) (each (ByteRead FlashBank) z (byte z) n)
-      (block e (load_far_table_code l.object l.at (home to) n) v) in
-      subst done whole
-      (y.pointers.far.from_tables e (home to) l.object l.at n (base to) v (has_page large) (y.layout.temps_at to it)
-      (leaves_z (base to) n n (omega arith) (y.layout.temps_work to it)) low) far
+      → Brings v b n (byte z) (each (ByteRead FlashBank) z (byte z) n)
+      (block e (load_far_table_code l.object l.at q n) v) in
+      subst done whole (y.pointers.far.from_tables e q l.object l.at n b v (has_page large) sq zq low) far
 
   -- from an object of the flash bank, by its home
+  pub loads_table_to : (core : Core) (kept : Home) (l : ObjectLeaf p FlashBank) (q : Location) (b n : ℕ) (v : View) → e.core ≡ core
+      → l.declared.home ≡ kept → IsAddressable l.declared.storage → StandsFrom e q n b Own → LeavesZ b n → 1 ≤ n → l.bytes ≡ n
+      → BringsTableTo l b n v (banked_code core kept p.objects l.object l.at q n)
+  loads_table_to core FlashHome l q b n v same is k sq zq some size =
+      loads_near_table l q b n v (near_end e.core Flash l.declared.home refl (ap (holds Flash) is)) k sq zq some size
+  loads_table_to Small FarHome l q b n v same is k sq zq some size =
+      loads_near_table l q b n v (small_end e.core l.declared.home same) k sq zq some size
+  loads_table_to Large FarHome l q b n v same is k sq zq some size = loads_far_table l q b n v same k sq zq size
+  loads_table_to core DataHome l q b n v same is k sq zq some size =
+      let no : DataBank ≡ FlashBank = ap bank_of (sym is) ∙ l.home in
+      absurd (cc)
+
   pub loads_table : (core : Core) (kept : Home) (l : ObjectLeaf p FlashBank) (to : Temp) (v : View) → e.core ≡ core
       → l.declared.home ≡ kept
       → IsAddressable l.declared.storage → HasHome slots to → l.bytes ≡ to.bytes
       → BringsTable l to v (banked_code core kept p.objects l.object l.at (home to) to.bytes)
-  loads_table core FlashHome l to v same is k it size =
-      loads_near_table l to v (near_end e.core Flash l.declared.home refl (ap (holds Flash) is)) k it size
-  loads_table Small FarHome l to v same is k it size = loads_near_table l to v (small_end e.core l.declared.home same) k it size
-  loads_table Large FarHome l to v same is k it size = loads_far_table l to v same k it size
-  loads_table core DataHome l to v same is k it size =
-      let no : DataBank ≡ FlashBank = ap bank_of (sym is) ∙ l.home in
-      absurd (cc)
+  loads_table core kept l to v same is k it size =
+      loads_table_to core kept l (home to) (base to) to.bytes v same is k (y.layout.temps_at to it)
+      (leaves_z (base to) to.bytes to.bytes (omega arith) (y.layout.temps_work to it)) it.some size
 
   -- ---- stores through a pointer
 

@@ -36,6 +36,7 @@ use Rattle.ec_select_operations.specs.Homes.{home, HasHome, result_register, res
 use Rattle.ec_select_functions.specs.Laws.{IsSelected, linkage_of}
 use Rattle.ec_select_operations.specs.Needs.{Need, Facts, facts_of, nothing, returned_need}
 use Rattle.ec_select_operations.specs.Places.{ObjectLeaf}
+use Rattle.ec_select_operations.specs.Pointers.{has_tables}
 use Rattle.ec_select_functions.specs.Relation.{accesses, HoldsContent, FramesStand, Matches}
 use Rattle.ec_select_functions.proofs.Active.{World, Active, homes_of, scratch_of, base_of, leaf_at, leaf_is}
 use Rattle.ec_select_functions.proofs.Active.{layout_of, setting_of, selected_of, standing_by, low_stands}
@@ -100,7 +101,7 @@ module _ (p : PlainIrProgram) (e : Env) (place entry_of : ℕ → ℕ) (w : Worl
     labels = (w.selected.made f).labels
 
     abbrev at : Facts
-    at = facts_of labels g.code
+    at = facts_of (has_tables D.objects) labels g.code
 
     -- the result registers have changed alone
     left_by : (need : Need) (m : Mach) (st : State) (v v1 : View) (r n : ℕ) → 18 ≤ r → r + n ≤ 26

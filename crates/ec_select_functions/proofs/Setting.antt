@@ -19,16 +19,19 @@ use Rattle.ec_ir.specs.declared.operations.Temp.{Temp}
 use Rattle.ec_ir.specs.Meaning.{is_among, is_kept}
 use Rattle.ec_ir.specs.Operations.{PlainIrProgram}
 use Rattle.ec_select_numbers.specs.Laws.{NumbersAreSubtracted, NumbersAreAdded, NumbersChangeBits, NumbersAreCompared}
-use Rattle.ec_select_numbers.specs.Laws.{NumbersAreStraight}
+use Rattle.ec_select_numbers.specs.Laws.{NumbersAreStraight, NumbersArePut, PutsAreStraight}
 use Rattle.ec_select_operations.specs.Homes.{HasHome}
 use Rattle.ec_select_fixed.specs.FixedLaws.{FixedBinariesAreRight, FixedUnariesAreRight, FixedConversionsAreRight}
 use Rattle.ec_select_places.specs.ConversionLaws.{PointersAreEmbedded}
 use Rattle.ec_select_places.specs.DistanceLaws.{ElementsAreRight}
 use Rattle.ec_select_places.specs.IndexLaws.{IndexesAreAdded, IndexesAreShort}
 use Rattle.ec_select_places.specs.StepLaws.{IndexesAreScaled, PointersAreAdvanced, PointersAreCompared}
+use Rattle.ec_select_places.specs.Numbers.{PlacesAreNumbers, OffsetsAreLow}
 use Rattle.ec_select_places.specs.Form.{StepsAreShort, ConversionsAreShort, ElementsAreShort}
 use Rattle.ec_select_places.specs.FarLaws.{FarPointersAreAdvanced, FarElementsAreRight, FarPointersAreCompared}
+use Rattle.ec_select_places.specs.FarLaws.{FarPlacesAreNumbers, FarPlacesAreInOrder}
 use Rattle.ec_select_places.specs.FarForm.{FarStepsAreShort}
+use Rattle.ec_select_pointers.specs.FetchedLaws.{DataIsLoadedFromZ, FlashIsLoadedFromZ}
 use Rattle.ec_select_pointers.specs.AccessLaws.{DataIsLoaded, FlashIsLoaded, DataIsLoadedByTag, FlashIsLoadedByTag}
 use Rattle.ec_select_pointers.specs.AccessLaws.{TableIsLoaded, DataIsStored}
 use Rattle.ec_select_pointers.specs.AddressLaws.{AddressesAreRight, FieldsAreRight}
@@ -69,6 +72,8 @@ pub record FarLaws : Type 0 where
   pub steps_short : FarStepsAreShort
   pub elements : FarElementsAreRight
   pub compared : FarPointersAreCompared
+  pub same : FarPlacesAreNumbers
+  pub ordered : FarPlacesAreInOrder
 
 -- what the code of operations with pointers does
 pub record PointerLaws : Type 0 where
@@ -78,6 +83,8 @@ pub record PointerLaws : Type 0 where
   pub from_flash : FlashIsLoaded
   pub from_data_by_tag : DataIsLoadedByTag
   pub from_flash_by_tag : FlashIsLoadedByTag
+  pub data_from_z : DataIsLoadedFromZ
+  pub flash_from_z : FlashIsLoadedFromZ
   pub from_tables : TableIsLoaded
   pub stored : DataIsStored
   pub straight : PointersAreStraight
@@ -91,6 +98,8 @@ pub record PointerLaws : Type 0 where
   pub elements : ElementsAreRight
   pub elements_short : ElementsAreShort
   pub compared : PointersAreCompared
+  pub same : PlacesAreNumbers
+  pub low : OffsetsAreLow
   pub embedded : PointersAreEmbedded
   pub embeddings_short : ConversionsAreShort
   pub far : FarLaws
@@ -102,6 +111,8 @@ pub record NumberLaws : Type 0 where
   pub bits : NumbersChangeBits
   pub compared : NumbersAreCompared
   pub straight : NumbersAreStraight
+  pub put : NumbersArePut
+  pub put_straight : PutsAreStraight
 
 -- the bytes that are set aside are no registers, and none of a temporary's or a leaf's, and neither are those of the stack
 pub record Setting (p : PlainProgram) (e : Env) (slots : ℕ) (home : Temp → Location) (base : Temp → ℕ) (place : ℕ → ℕ) : Type 0 where

@@ -1,13 +1,15 @@
 -- One operation after another: what the code of each operation does for it.
 use Rattle.std.proofs.Common.{◌≡◌, ◌≢◌, ℕ, zero, suc, ◌+◌, ◌-◌, ◌*◌, ◌%◌, ◌^◌, ◌<◌, ◌≤◌, min, Bool, true, false, not, ℤ}
 use Rattle.std.proofs.Common.{pos, ◌*ℤ◌, unsigned_abs, Ok, Err, List, [], ◌∷◌, ◌++◌, ◌&&◌, ◌||◌, ⊎_elim, refl, sym}
-use Rattle.std.proofs.Common.{ap, ◌∙◌, subst, arith, ◌/◌, Some, None, Option, append_assoc, append-nil}
-use Rattle.std.specs.Prelude.{max, bit_and, Result, ◌==◌, nat_le, if◌then◌else◌, slice_get, slice_index, Contains, IsSomeAnd, ◌⊎◌}
+use Rattle.std.proofs.Common.{ap, ◌∙◌, subst, arith, ◌/◌, Some, None, Option, append-nil}
+use Rattle.std.specs.Prelude.{max, bit_and, Result, ◌==◌, nat_le, if◌then◌else◌, slice_get, slice_index, Contains}
+use Rattle.std.specs.Prelude.{IsSomeAnd, ◌⊎◌, get_or, nat_lt}
 use Rattle.std.proofs.lemmas.List.Elements.{Contains-append_right}
 use Rattle.ec_ir.specs.Valid.{called_in}
 use Rattle.std.specs.Int.{from_bool}
 use Rattle.std.specs.Ordering.{int_eq}
-use Rattle.std.proofs.lemmas.Bool.{cases_Bool, cases_lt, eqb-true, eq-eqb, leb-true, le-leb, ne_eqb, and_parts, or_cases, or_right}
+use Rattle.std.proofs.lemmas.Bool.{cases_Bool, cases_lt, eqb-true, eq-eqb, leb-true, le-leb, ne_eqb, and_parts}
+use Rattle.std.proofs.lemmas.Bool.{or_cases, or_right, cases_eq, false≢true, lt-ltb}
 use Rattle.std.proofs.lemmas.Nat.{mod_below, mul-le, and_le_r}
 use Rattle.ec_fx.specs.declared.formats.FxKind.{FxKind}
 use Rattle.ec_fx.specs.declared.numbers.Mode.{Mode}
@@ -22,10 +24,12 @@ use Rattle.ec_asm.specs.View.{View}
 use Rattle.ec_asm.specs.Change.{Env, Own, flag_at}
 use Rattle.ec_asm.specs.Items.{HasAt, BranchesAt, block, code_steps, all_straight}
 use Rattle.ec_asm.specs.Pieces.{StandsFrom, KindIs, Outside, KeepsAll, value, copy_code, operate_code, compare_code}
+use Rattle.ec_asm.specs.Pieces.{address as address_at}
 use Rattle.ec_asm.specs.PieceLaws.{HoldsNumbers}
 use Rattle.ec_asm.specs.Takes.{Goes, if_bit}
-use Rattle.ec_asm.proofs.Hoare.{has_parts, block_goes, goes_on_to, steps-append, straight-append}
-use Rattle.ec_asm.proofs.Numbers.{pow_pos, value_mod}
+use Rattle.ec_asm.proofs.Hoare.{has_parts, block_goes, goes_on_to, steps-append, straight-append, block-append}
+use Rattle.ec_asm.proofs.Numbers.{value_mod}
+use Rattle.ec_asm.proofs.Numbers.{value_digit}
 use Rattle.ec_asm.proofs.Results.{pieces_are_straight, pieces_take, comparisons_keep}
 use Rattle.ec_asm.proofs.Sum.{value-same}
 use Rattle.ec_asm.proofs.Takes.{jump_goes, branch_taken, branch_passed, jump_has_word, branch_has_word}
@@ -59,20 +63,17 @@ use Rattle.ec_ir.specs.Temporaries.{Content, bits, points, number_of_bytes, low_
 use Rattle.ec_ir.specs.Temporaries.{Held, with_content, with_temp, is_zero}
 use Rattle.ec_select_operations.specs.Homes.{HasHome}
 use Rattle.ec_ir_known.specs.declared.known.RightNumber.{RightNumber}
-use Rattle.ec_ir_known.specs.Known.{known_at, is_byte}
-use Rattle.ec_select_numbers.specs.declared.operators.ByNumber.TheVariants.{Subtract}
-use Rattle.ec_select_numbers.specs.ByNumber.{compared_code as compared_with_code}
-use Rattle.ec_select_bytes.specs.Values.{test_code, extend_code, widen_code, constant_code}
+use Rattle.ec_ir_known.specs.Known.{known_at, is_byte, changes_byte, takes_alone}
+use Rattle.ec_select_bytes.specs.Values.{test_code, extend_code, widen_code}
 use Rattle.ec_select_bytes.proofs.Tests.{tests_keep, tests_tell_zero}
 use Rattle.ec_select_bytes.specs.Complements.{negation_code}
 use Rattle.ec_select_bytes.proofs.Straight.{values_are_straight, values_take, complements_are_straight}
 use Rattle.ec_select_bytes.proofs.Straight.{complements_take}
 use Rattle.ec_select_order.specs.declared.relations.Relation.{Relation}
-use Rattle.ec_select_order.specs.declared.relations.Relation.TheVariants.{Equal, NotEqual}
-use Rattle.ec_select_order.specs.Relations.{stand_so, relation_code, truth_code, flag_of, is_set}
-use Rattle.ec_select_order.specs.Laws.{Tells}
-use Rattle.ec_select_order.proofs.Truths.{relations_are_told, flag_is, fails_in_flag, holds_in_flag}
-use Rattle.ec_select_places.specs.Numbers.{number_of}
+use Rattle.ec_select_order.specs.declared.relations.Relation.TheVariants.{Less, NotLess, Equal, NotEqual}
+use Rattle.ec_select_order.specs.Relations.{stand_so, flag_of, is_set, relation_in_code}
+use Rattle.ec_select_order.proofs.Truths.{flag_is, fails_in_flag, holds_in_flag, relations_are_told_in}
+use Rattle.ec_select_places.specs.Numbers.{Place, number_of, places_stand}
 use Rattle.ec_select_products.specs.Products.{product_of, product_code}
 use Rattle.ec_select_products.specs.Laws.{Leads}
 use Rattle.ec_select_products.proofs.Multiplied.{products_are_right}
@@ -84,16 +85,20 @@ use Rattle.ec_select_operations.specs.declared.families.Family.{Family}
 use Rattle.ec_select_operations.specs.declared.families.Family.TheVariants.{Combined, Compared, Multiplied, Shifted}
 use Rattle.ec_select_operations.specs.declared.families.Family.TheVariants.{Divided}
 use Rattle.ec_select_operations.specs.declared.families.Told.{Told}
-use Rattle.ec_select_operations.specs.declared.families.Told.TheVariants.{Operands, InZ}
+use Rattle.ec_select_operations.specs.declared.families.Told.TheVariants.{Operands, InZ, Index}
 use Rattle.ec_select_operations.specs.Code.{Linkage, told_of, is_only_tested, tells, tells_next, flag_code, is_signed, compared_signed}
-use Rattle.ec_select_operations.specs.Code.{is_over_jump, turned as turned_round, tested_code}
-use Rattle.ec_select_operations.specs.Code.{is_mask, is_masked, told_taking, masked_code, told_number_code}
-use Rattle.ec_select_operations.specs.Code.{op_code, own_code, called_code, linked_code, result_wanted, ops_code}
-use Rattle.ec_select_operations.specs.Code.{family_of, same_location, reversed_code}
+use Rattle.ec_select_operations.specs.Code.{is_over_jump, turned as turned_round, tested_code, is_mask, is_masked}
+use Rattle.ec_select_operations.specs.Code.{is_untold, related_bytes, pointers_code}
+use Rattle.ec_select_operations.specs.Code.{told_taking, masked_code, told_number_code, op_code, own_code, called_code}
+use Rattle.ec_select_operations.specs.Code.{linked_code, result_wanted, ops_code, family_of, same_location}
+use Rattle.ec_select_operations.specs.Code.{reversed_code, is_index_alone, index_behind}
 use Rattle.ec_select_operations.specs.Code.{combined_code, binary_code, turn_code, unary_code, move_code, transfer_code}
-use Rattle.ec_select_operations.specs.Code.{branch_code, counted_by_code, bytes_code}
-use Rattle.ec_select_operations.specs.Code.{compared_code, counted_code, taking_code, changed_by_code, integer_binary as integer_code}
-use Rattle.ec_select_operations.specs.Code.{conversion_code, turned_code, shift_of, shifted_bytes, long_code}
+use Rattle.ec_select_operations.specs.Code.{counted_by_code, bytes_code, counted_code, taking_code, changed_by_code}
+use Rattle.ec_select_operations.specs.Code.{integer_binary as integer_code, family_taking, signed_taking, masks_low, low_mask_code}
+use Rattle.ec_select_operations.specs.Code.{joined_code, leaves_bit, top_bit_code}
+use Rattle.ec_select_operations.specs.declared.bounds.Bound.{Bound}
+use Rattle.ec_select_operations.specs.Bounds.{bound_of, bounded_code, truth_by_code}
+use Rattle.ec_select_operations.specs.Code.{conversion_code, truth_register, truth_at_code, turned_code, shift_of, shifted_bytes, long_code}
 use Rattle.ec_select_functions.specs.Covered.{IsCovered, IsBinary, IsUnary, AreConverted}
 use Rattle.ec_select_functions.specs.Covered.{AreIntegers, AreCompared}
 use Rattle.ec_select_functions.specs.Covered.{IsFixedBinary, IsFixedUnary, IsFixedConversion}
@@ -116,10 +121,11 @@ use Rattle.ec_select_fixed.proofs.Formats.{fixed_number_type}
 use Rattle.ec_select_fixed.proofs.Operators.{IsNumber, as_told, binary_told}
 use Rattle.ec_select_fixed.specs.FixedLaws.{AreOperandSlots, HasOperandBytes}
 use Rattle.ec_select_operations.specs.Needs.{is_fixed, is_whole, first_wanted, second_wanted, only_wanted, right_needed}
-use Rattle.ec_select_operations.specs.Needs.{takes_number, takes_known, number_known, number_taken, numbered, moves_pointer}
-use Rattle.ec_select_operations.specs.Needs.{compared_bytes}
-use Rattle.ec_select_operations.specs.Needs.{is_counted, count_taken, takes_count, takes_whole, right_taken}
-use Rattle.ec_select_operations.specs.Pointers.{is_pointer, address_number, IsPointerIn}
+use Rattle.ec_select_operations.specs.Needs.{takes_number, takes_known, number_known, number_taken, numbered}
+use Rattle.ec_select_operations.specs.Needs.{moves_pointer, compared_bytes, is_counted, count_taken, takes_count}
+use Rattle.ec_select_operations.specs.Needs.{takes_whole, right_taken, is_low_mask, masked_bytes}
+use Rattle.ec_select_operations.specs.Needs.{joined_bytes}
+use Rattle.ec_select_operations.specs.Pointers.{is_pointer, address_number, IsPointerIn, has_tables}
 use Rattle.ec_select_operations.specs.Code.{pointer_binary, pointer_conversion}
 use Rattle.ec_select_operations.specs.Places.{IsNumeric}
 use Rattle.ec_select_operations.specs.Needs.{Need, Facts, facts_of, before, needs}
@@ -138,25 +144,33 @@ use Rattle.ec_select_functions.proofs.Going.{Ready as IsReady, IsRunning, passes
 use Rattle.ec_select_functions.proofs.Going.{IsLinked, AreReady, at_use as used, at_use_behind as used_behind}
 use Rattle.ec_select_functions.proofs.Behind.{GoesBehind}
 use Rattle.ec_select_functions.proofs.MemorySteps.{address_follows, field_follows, load_at_follows, store_at_follows}
-use Rattle.ec_select_functions.proofs.MemorySteps.{load_follows, store_follows}
-use Rattle.ec_select_functions.proofs.InZ.{object_goes, field_goes}
+use Rattle.ec_select_functions.proofs.MemorySteps.{load_follows, store_follows, load_index_follows}
+use Rattle.ec_select_functions.proofs.InZ.{object_goes, field_goes, index_items}
 use Rattle.ec_select_functions.proofs.PointerNumbers.{place_of, objects_have_places, address_is, address_low}
 use Rattle.ec_select_functions.proofs.PointerNumbers.{number_below}
 use Rattle.ec_select_functions.proofs.PointerSteps.{pointer_binary_follows, pointer_conversion_follows, no_fixed_operand}
+use Rattle.ec_select_functions.proofs.PointerSteps.{index_follows, comparison_decided, pointer_size}
 use Rattle.ec_select_functions.proofs.Computed.{stand, constant_matches, copy_matches, binary_matches, moved_numbers}
 use Rattle.ec_select_functions.proofs.Computed.{result_of, location_same}
 use Rattle.ec_select_functions.proofs.Taken.{is_changed, TakesSum, TakesOrder, TakesShift, takes, taken_is, compared_some}
+use Rattle.ec_select_functions.proofs.Taken.{is_joined, joins}
 use Rattle.ec_select_functions.proofs.Taken.{whole_unmoved, fixed_unmoved, TakenNumber, as_known, no_number, HasNumber}
-use Rattle.ec_select_functions.proofs.Taken.{number_or_none, ComparesSo, compares}
-use Rattle.ec_select_functions.proofs.ByNumber.{changed_form, right_held, on_no_bytes, ByteNumber, byte_value, byte_bytes}
-use Rattle.ec_select_functions.proofs.ByNumber.{number_low, number_matches, fails_by_number, holds_by_number, AreTested}
-use Rattle.ec_select_functions.proofs.ByNumber.{tested_held, number_there, bytes_held}
+use Rattle.ec_select_functions.proofs.Taken.{number_or_none, compares, is_order, turned_unmoved, or_turned}
+use Rattle.ec_select_functions.proofs.ByNumber.{changed_form, right_held, on_no_bytes, ByteNumber, byte_value}
+use Rattle.ec_select_functions.proofs.ByNumber.{byte_bytes, number_low, number_matches, AreTested, tested_held}
+use Rattle.ec_select_functions.proofs.ByNumber.{number_there, bytes_held, IsAlone, alone_held}
+use Rattle.ec_select_functions.proofs.Joined.{joined_matches}
+use Rattle.ec_select_functions.proofs.TopBits.{leaves_top_bit, byte_leaves_none, top_bit, bit_of, bit_below}
+use Rattle.ec_select_functions.proofs.Bounds.{flag_bit, flag_tells, bounded_form, temp_relates, temp_tells}
+use Rattle.ec_select_functions.proofs.Next.{stands_to, bound_stands}
+use Rattle.ec_select_functions.proofs.LowMasks.{IsLowMasked, IsUnmasked, mask_or_not, low_mask_matches}
+use Rattle.ec_select_operations.specs.Needs.{moved_wanted, pointer_wanted}
 use Rattle.ec_select_functions.proofs.Extended.{Converted, converted, conversion_matches}
 use Rattle.ec_select_functions.proofs.FixedRuns.{answer_passes, by_itself, slots_of, operand_slots_of}
 use Rattle.ec_select_functions.proofs.Carried.{brought_passes}
 use Rattle.ec_select_functions.proofs.Checked.{is_known, checked_on, performed, checked}
 use Rattle.ec_select_functions.proofs.Counts.{IsCounted, counted_is, never_on_integers, not_counted, right_none, right_same}
-use Rattle.ec_select_functions.proofs.Counts.{none_on_integers, on_uncounted}
+use Rattle.ec_select_functions.proofs.Counts.{none_on_integers, on_uncounted, none_counted}
 use Rattle.ec_select_functions.proofs.Counts.{unmoved_takes, uncounted_takes}
 use Rattle.ec_select_functions.proofs.Counts.{TakesCount, count_is_taken}
 use Rattle.ec_select_functions.proofs.Negated.{negated_passes}
@@ -165,6 +179,7 @@ use Rattle.ec_select_functions.proofs.Follow.{Follows, after, stay, from_held, f
 use Rattle.ec_select_functions.proofs.Match.{kept_left, wanted_most, read_first, whole, at_width, weaker, written}
 use Rattle.ec_select_functions.proofs.Match.{written_wide}
 use Rattle.ec_select_functions.proofs.Match.{same_content, same_leaf, least_here, least_other, without_other}
+use Rattle.ec_select_functions.proofs.Match.{held_row}
 use Rattle.ec_select_functions.proofs.PortSteps.{in_follows, out_follows, load_cell_follows, store_cell_follows}
 use Rattle.ec_select_functions.proofs.PortSteps.{cell_in_follows, cell_out_follows}
 use Rattle.ec_select_functions.proofs.Moves.{Frame, Wide, widened, wider_frame, work_outside, row_kept, narrower}
@@ -175,11 +190,20 @@ use Rattle.ec_select_functions.proofs.Numeric.{sign_in, number_in, value_is, fro
 use Rattle.ec_select_functions.proofs.OnIntegers.{whole_of, whole_type, negation_as, number_kept}
 use Rattle.ec_select_functions.proofs.OnWholes.{IsOnWholes, on_wholes, more_needed, at_most_all}
 use Rattle.ec_select_functions.proofs.Orders.{first_of_two, decided, byte_order}
-use Rattle.ec_select_functions.proofs.Related.{told_matches}
+use Rattle.ec_select_functions.proofs.Related.{TellsTo, tells_to, told_matches}
 use Rattle.ec_select_functions.proofs.Truth.{bit_is, not_not, not_zero_bit, truth_low, held_at, content_of_held, same_temp}
-use Rattle.ec_select_functions.proofs.Told.{numbers_are_told}
-use Rattle.ec_select_functions.proofs.Tested.{TellsTruth, zero_told, turned_told, test_some, comparison_some}
-use Rattle.ec_select_functions.proofs.Masked.{mask_byte, masked_is, order_unmasked, shift_unmasked, mask_low, masks, masked_form}
+use Rattle.ec_select_functions.proofs.Ordered.{ArePlaces, bytes_stand, related_within, IsPointerType, pointer_type, told_pointers}
+use Rattle.ec_select_functions.proofs.Ordered.{no_two_pointers, first_of, both_unmoved}
+use Rattle.ec_select_functions.proofs.PointerNumbers.{places_compare, MayCompare}
+use Rattle.ec_select_places.specs.FarLaws.{MayRelate}
+use Rattle.ec_core.specs.Accesses.{element_size}
+use Rattle.ec_core.specs.ArithmeticValues.{is_comparison}
+use Rattle.ec_space.specs.Spaces.{width}
+use Rattle.ec_space.specs.declared.space.SpaceId.{SpaceId}
+use Rattle.ec_select_operations.specs.Pointers.{IsPointerSize}
+use Rattle.ec_select_functions.proofs.Tested.{TellsTruth, zero_told, turned_told, test_some}
+use Rattle.ec_select_functions.proofs.Masked.{mask_byte, order_unmasked, shift_unmasked, mask_low, masks}
+use Rattle.ec_select_functions.proofs.Masked.{masked_form}
 use Rattle.ec_select_functions.proofs.Multiplied.{product_low}
 use Rattle.ec_select_functions.proofs.Shifted.{count_is, shift_number, shift_low, shift_part, shifted_below}
 use Rattle.ec_select_shifts.specs.declared.shifts.Direction.{Direction}
@@ -194,7 +218,7 @@ module _ (p : PlainProgram) (functions : List PlainIrFunction) (e : Env) (slots 
     (end : ℕ) (results : ℕ → ℕ) (me : ℕ) (link : Linkage) (stack : List Call) where
   -- what the code of the function is made by
   abbrev at : Facts
-  at = facts_of labels all
+  at = facts_of (has_tables p.objects) labels all
 
   abbrev pub M : Need → Mach → View → Type 0
   M need m v = Matches p e y.inputs slots base place y.aside y.stands y.active y.called need m v
@@ -216,8 +240,8 @@ module _ (p : PlainProgram) (functions : List PlainIrFunction) (e : Env) (slots 
   -- an operation whose code stands at its use and which has been told so much, and those behind it
   abbrev own_told : Option Told → PlainIr → List PlainIr → List AsmItem
   own_told told i rest =
-      own_code p home link told (tells_next p at told i rest) (at.known (i ∷ rest)) (needs at rest) i
-      ++ items_told (tells_next p at told i rest) rest
+      own_code p home link told (tells_next link.core p home at told i rest) (at.known (i ∷ rest)) (needs at rest) i
+      ++ items_told (tells_next link.core p home at told i rest) rest
 
   abbrev own_items : PlainIr → List PlainIr → List AsmItem
   own_items i rest = own_told None i rest
@@ -226,12 +250,13 @@ module _ (p : PlainProgram) (functions : List PlainIrFunction) (e : Env) (slots 
   abbrev linked_items : Option ℕ → PlainIr → List PlainIr → List AsmItem
   linked_items routine i rest =
       linked_code routine (λ l. called_code home l (result_wanted (needs at rest) i) i)
-      (own_code p home link None (tells_next p at None i rest) (at.known (i ∷ rest)) (needs at rest) i)
-      ++ items_told (tells_next p at None i rest) rest
+      (own_code p home link None (tells_next link.core p home at None i rest) (at.known (i ∷ rest)) (needs at rest) i)
+      ++ items_told (tells_next link.core p home at None i rest) rest
 
   -- an operation that takes no number, and those behind it
   abbrev plain_told : PlainIr → List PlainIr → Option Told
-  plain_told i rest = tells None None i (slice_get rest 0) (slice_get rest 1) (slice_index (wanted_bytes at rest) 0)
+  plain_told i rest =
+      tells None None i (slice_get rest 0) (slice_get rest 1) (slice_index (wanted_bytes at rest) 0) (index_behind at rest)
 
   abbrev plain_items : PlainIr → List PlainIr → List AsmItem
   plain_items i rest =
@@ -242,8 +267,12 @@ module _ (p : PlainProgram) (functions : List PlainIrFunction) (e : Env) (slots 
   known_items known i rest =
       own_code p home link None (plain_told i rest) known (needs at rest) i ++ items_told (plain_told i rest) rest
 
-  -- what is needed before it
+  -- what is needed before it, if it moves no pointer
   abbrev plain_needs : PlainIr → List PlainIr → Need
+  plain_needs (binary_op op ty mode t a aty b bty) rest =
+      at_least a.at (first_wanted (is_apart (family_of op) mode ty aty bty) op a.bytes (wanted (needs at rest) t))
+      (at_least b.at (second_wanted (is_apart (family_of op) mode ty aty bty) op b.bytes (wanted (needs at rest) t))
+      (without t.at (needs at rest)))
   plain_needs i rest = before labels None i (needs at rest)
 
   abbrev pub Ready : (pc : ℕ) (rest : List PlainIr) → Type 0
@@ -287,11 +316,11 @@ module _ (p : PlainProgram) (functions : List PlainIrFunction) (e : Env) (slots 
       let c = op_steps (constant t k) in
       let low = low_bytes t.bytes k in
       let m1 = machine (with_content t (bits low) m.temps) (worked c m.state) in
-      let take = (values_take (home t) (low_bytes 16 k) 0 (wanted need t)).0 in
+      let take = (y.numbers.put_straight (home t) (low_bytes 16 k) (wanted need t)).few_steps in
       let most = wanted_most need t in
       let small : code_steps (code_of (constant t k) rest) ≤ 64 * (5 * t.bytes) = omega (arith, take, most) in
       passes (constant t k) rest (suc n) (suc n) m.state.work m1.state.work pc v (R (suc n) rest m1) stands
-      (values_are_straight (home t) (low_bytes 16 k) 0 (wanted need t)).0 (omega arith) (omega (arith, small))
+      (y.numbers.put_straight (home t) (low_bytes 16 k) (wanted need t)).is_straight (omega arith) (omega (arith, small))
       (λ mid s. f mid m1 _ s (constant_matches p e slots home base place y t need m v k c it h))
 
   pub copy_follows : (t u : Temp) (rest : List PlainIr) (n pc : ℕ) (m : Mach) (v : View) → HasHome slots t → HasHome slots u
@@ -386,16 +415,16 @@ module _ (p : PlainProgram) (functions : List PlainIrFunction) (e : Env) (slots 
   abbrev IsKnown : Temp → ℤ → Mach → Type 0
   IsKnown b k m = (low : ℕ) → m.temps b.at ≡ Some (record { bytes = b.bytes; content = bits low }) → low ≡ low_bytes b.bytes k
 
-  -- two operands, of which the second one is a known number, are compared by so many bytes
-  record AreComparedBy (a b : Temp) (k : ℤ) (s : Bool) (size : ℕ) (sign : Bool) (m : Mach) : Type 0 where
+  -- two operands, of which the second one is known to hold a number, stand as so many bytes of the first one stand to a number
+  record AreComparedBy (a b : Temp) (r : Relation) (exchanged s : Bool) (own : Bound) (size : ℕ) (m : Mach) : Type 0 where
     some : 1 ≤ size
     within : size ≤ a.bytes
-    left : (low1 low2 : ℕ) → m.temps a.at ≡ Some (record { bytes = a.bytes; content = bits low1 }) → low1 < 256 ^ a.bytes
+    left : (low1 : ℕ) → m.temps a.at ≡ Some (record { bytes = a.bytes; content = bits low1 }) → low1 < 256 ^ a.bytes
         → low1 < 256 ^ size
-    right : (low2 : ℕ) → m.temps b.at ≡ Some (record { bytes = b.bytes; content = bits low2 }) → low_bytes 16 k % 256 ^ size ≡ low2
-    same : (r : Relation) (low1 low2 : ℕ) → m.temps a.at ≡ Some (record { bytes = a.bytes; content = bits low1 })
-        → m.temps b.at ≡ Some (record { bytes = b.bytes; content = bits low2 })
-        → stand_so r s a.bytes low1 low2 ≡ stand_so r sign size low1 low2
+    same : (low1 low2 : ℕ) → m.temps a.at ≡ Some (record { bytes = a.bytes; content = bits low1 })
+        → m.temps b.at ≡ Some (record { bytes = b.bytes; content = bits low2 }) → low1 < 256 ^ a.bytes
+        → stand_so r s a.bytes (first_of_two exchanged low1 low2) (first_of_two exchanged low2 low1)
+        ≡ stand_so own.relation own.signed size low1 (own.number % 256 ^ size)
 
   -- what is needed before an operator
   abbrev operands_needed : BinOp → (t a b : Temp) → (ka kb : ℕ) → Need → Need
@@ -531,6 +560,16 @@ module _ (p : PlainProgram) (functions : List PlainIrFunction) (e : Env) (slots 
   first_shifted op up h bytes k q = absurd cc
 
   -- the words of an operator of temporaries
+  relation_wide : (op : BinOp) (ty aty bty : PlainType) → 640 ≤ 64 * binary_words op ty aty bty
+  relation_wide op ty aty bty = by_kind (is_bitwise op && is_integer ty)
+    where
+      wide : 1 ≤ widest (ty ∷ aty ∷ bty ∷ [])
+      wide = omega arith
+
+      by_kind : (x : Bool) → 640 ≤ 64 * (if x then 10 * widest (ty ∷ aty ∷ bty ∷ []) else operation_words (widest (ty ∷ aty ∷ bty ∷ [])))
+      by_kind true = omega (arith, wide)
+      by_kind false = omega (arith, wide)
+
   relation_big : (op : BinOp) (ty aty bty : PlainType) → 102 ≤ 64 * binary_words op ty aty bty
   relation_big op ty aty bty = by_kind (is_bitwise op && is_integer ty)
     where
@@ -597,26 +636,32 @@ module _ (p : PlainProgram) (functions : List PlainIrFunction) (e : Env) (slots 
   abbrev told_machine : Temp → Bool → ℕ → Mach → Mach
   told_machine t truth c m = after_operator t (low_bytes t.bytes (pos (from_bool truth))) c m
 
-  -- a truth value in R30 is put to its temporary, and what comes after it
-  truth_passes : (truth : Bool) (t : Temp) (most c : ℕ) (rest : List PlainIr) (n pc mid to w : ℕ) (need0 : Need) (m : Mach) (v : View)
-      → HasHome slots t → most ≤ 51 → Tells e most pc v mid truth → w + 102 ≤ m.state.work + c
-      → HasAt e (conversion_code false (InRegisters 30) (home t) 1 (wanted (needs at rest) t)) mid to → HasAt e (items rest) to end
+  -- code that tells a truth value, and what comes after it
+  truth_passes : (code : List AsmItem) (truth : Bool) (t : Temp) (size c : ℕ) (rest : List PlainIr) (n pc w : ℕ) (need0 : Need)
+      (m : Mach) (v : View) → HasHome slots t → size ≤ 16 → w + 102 ≤ m.state.work + c
+      → ((mid : ℕ) → HasAt e code pc mid → TellsTo (truth_register (home t)) e (3 + 3 * size) pc v mid truth)
+      → HasAt e ((code ++ truth_at_code (home t) (wanted (needs at rest) t)) ++ items rest) pc end
       → ((k : ℕ) → k ≢ t.at → needs at rest k ≤ need0 k) → M need0 m v → Rest (suc n) rest
       → G (suc n) w pc v (R (suc n) rest (told_machine t truth c m))
-  truth_passes truth t most c rest n pc mid to w need0 m v it few told big put behind more h f =
+  truth_passes code truth t size c rest n pc w need0 m v it most big tells stands more h f =
       let k = wanted (needs at rest) t in
-      let conversion = conversion_code false (InRegisters 30) (home t) 1 k in
+      let conversion = truth_at_code (home t) k in
+      let s1 = has_parts e (code ++ conversion) (items rest) pc end stands in
+      let s2 = has_parts e code conversion pc s1.0 s1.1 in
+      let told = tells s2.0 s2.1 in
       let m1 = told_machine t truth c m in
-      let second = block_goes e conversion mid to told.last (conversion_straight false (InRegisters 30) (home t) 1 k) put in
+      let second = block_goes e conversion s2.0 s1.0 told.last
+      (conversion_straight false (InRegisters (truth_register (home t))) (home t) 1 k) s2.2 in
       let steps = told.steps + code_steps conversion in
-      let take = conversion_steps false (InRegisters 30) (home t) 1 k in
+      let take = conversion_steps false (InRegisters (truth_register (home t))) (home t) 1 k in
       let take1 = told.at_most in
       let kmost = wanted_most (needs at rest) t in
       let room = it.most in
-      let goes = goes_on_to e told.steps (code_steps conversion) pc mid to v told.last (block e conversion told.last) told.goes second in
-      let matches = told_matches p e slots home base place y truth most pc mid t (needs at rest) need0 m v c it told more h in
-      after p place e steps (suc n) (suc n) w m1.state.work pc to v (block e conversion told.last) (R (suc n) rest m1) goes
-      (omega arith) (omega (arith, take, take1, kmost, room, few, big)) (f to m1 (block e conversion told.last) behind matches)
+      let goes = goes_on_to e told.steps (code_steps conversion) pc s2.0 s1.0 v told.last (block e conversion told.last) told.goes second in
+      let matches =
+      told_matches p e slots home base place y truth (3 + 3 * size) pc s2.0 t (needs at rest) need0 m v c it told more h in
+      after p place e steps (suc n) (suc n) w m1.state.work pc s1.0 v (block e conversion told.last) (R (suc n) rest m1) goes
+      (omega arith) (omega (arith, take, take1, kmost, room, most, big)) (f s1.0 m1 (block e conversion told.last) s1.2 matches)
 
   -- the code of a relation of two temporaries, and what comes after it
   related_passes : (r : Relation) (s : Bool) (t l u : Temp) (bytes x z c : ℕ) (rest : List PlainIr) (n pc w : ℕ) (need0 : Need)
@@ -624,27 +669,24 @@ module _ (p : PlainProgram) (functions : List PlainIrFunction) (e : Env) (slots 
       → HasHome slots t → HasHome slots l → HasHome slots u → suc bytes ≤ l.bytes → suc bytes ≤ u.bytes → suc bytes ≤ 16
       → value v.at (base l) (suc bytes) ≡ x → value v.at (base u) (suc bytes) ≡ z → w + 102 ≤ m.state.work + c
       → HasAt e
-      ((relation_code r s (home l) (home u) (suc bytes) ++ conversion_code false (InRegisters 30) (home t) 1
+      ((relation_in_code (truth_register (home t)) r s (home l) (home u) (suc bytes) ++ truth_at_code (home t)
       (wanted (needs at rest) t)) ++ items rest) pc end
       → ((k : ℕ) → k ≢ t.at → needs at rest k ≤ need0 k) → M need0 m v → Rest (suc n) rest
       → G (suc n) w pc v (R (suc n) rest (told_machine t (stand_so r s (suc bytes) x z) c m))
   related_passes r s t l u bytes x z c rest n pc w need0 m v it il iu ql qu most xl zu big stands more h f =
-      let k = wanted (needs at rest) t in
-      let relation = relation_code r s (home l) (home u) (suc bytes) in
-      let conversion = conversion_code false (InRegisters 30) (home t) 1 k in
-      let s1 = has_parts e (relation ++ conversion) (items rest) pc end stands in
-      let s2 = has_parts e relation conversion pc s1.0 s1.1 in
       let left : StandsFrom e (home l) (suc bytes) (base l) Own =
       stand p e slots home base place y l (suc bytes) il ql in
       let right : StandsFrom e (home u) (suc bytes) (base u) Own =
       stand p e slots home base place y u (suc bytes) iu qu in
-      let told0 = relations_are_told r s e (home l) (home u) bytes (base l) (base u) pc s2.0 v left right h.bytes s2.1 in
       let truth : stand_so r s (suc bytes) (value v.at (base l) (suc bytes)) (value v.at (base u) (suc bytes))
       ≡ stand_so r s (suc bytes) x z = rw (xl, zu) refl in
-      let told : Tells e (3 + 3 * suc bytes) pc v s2.0 (stand_so r s (suc bytes) x z) =
-      subst (λ w. Tells e (3 + 3 * suc bytes) pc v s2.0 w) truth told0 in
-      truth_passes (stand_so r s (suc bytes) x z) t (3 + 3 * suc bytes) c rest n pc s2.0 s1.0 w need0 m v it (omega (arith, most)) told big
-      s2.2 s1.2 more h f
+      truth_passes (relation_in_code (truth_register (home t)) r s (home l) (home u) (suc bytes)) (stand_so r s (suc bytes) x z) t
+      (suc bytes) c rest n pc w need0 m v it
+      most big
+      (λ mid code. subst (λ b. TellsTo (truth_register (home t)) e (3 + 3 * suc bytes) pc v mid b) truth
+      (tells_to (truth_register (home t)) e (3 + 3 * suc bytes) pc v mid _ h.bytes
+      (relations_are_told_in (truth_register (home t)) r s e (home l) (home u) bytes (base l) (base u) pc mid v left right h.bytes code)))
+      stands more h f
 
   -- what a comparison of two numbers gives
   compared_numbers : (op : BinOp) (r : Relation) (exchanged : Bool) → family_of op ≡ Compared r exchanged
@@ -768,11 +810,11 @@ module _ (p : PlainProgram) (functions : List PlainIrFunction) (e : Env) (slots 
               (op_steps (binary_op op ty mode t a (integer s a.bytes) b (integer s b.bytes))) m))
           by_side all_needed left_is right_is false bytes size w =
               let code : code_of (binary_op op ty mode t a (integer s a.bytes) b (integer s b.bytes)) rest
-              ≡ relation_code r s (home a) (home b) (suc bytes) ++ conversion_code false (InRegisters 30) (home t) 1
+              ≡ relation_in_code (truth_register (home t)) r s (home a) (home b) (suc bytes) ++ truth_at_code (home t)
               (wanted (needs at rest) t) = ap (λ x. binary_code x s s (home a) (home b) (home t) a.bytes (wanted (needs at rest) t)) w
               ∙ rw q refl
               ∙ ap
-              (λ j. relation_code r s (home a) (home b) j ++ conversion_code false (InRegisters 30) (home t) 1
+              (λ j. relation_in_code (truth_register (home t)) r s (home a) (home b) j ++ truth_at_code (home t)
               (wanted (needs at rest) t)) size in
               let stand = subst (λ x. HasAt e (x ++ items rest) pc end) code stands in
               let la = subst (λ j. value v.at (base a) j ≡ low1) size left_is in
@@ -791,11 +833,11 @@ module _ (p : PlainProgram) (functions : List PlainIrFunction) (e : Env) (slots 
               (other_needed op t a b a.bytes b.bytes (needs at rest)) all_needed f)
           by_side all_needed left_is right_is true bytes size w =
               let code : code_of (binary_op op ty mode t a (integer s a.bytes) b (integer s b.bytes)) rest
-              ≡ relation_code r s (home b) (home a) (suc bytes) ++ conversion_code false (InRegisters 30) (home t) 1
+              ≡ relation_in_code (truth_register (home t)) r s (home b) (home a) (suc bytes) ++ truth_at_code (home t)
               (wanted (needs at rest) t) = ap (λ x. binary_code x s s (home a) (home b) (home t) a.bytes (wanted (needs at rest) t)) w
               ∙ rw q refl
               ∙ ap
-              (λ j. relation_code r s (home b) (home a) j ++ conversion_code false (InRegisters 30) (home t) 1
+              (λ j. relation_in_code (truth_register (home t)) r s (home b) (home a) j ++ truth_at_code (home t)
               (wanted (needs at rest) t)) size in
               let stand = subst (λ x. HasAt e (x ++ items rest) pc end) code stands in
               let la = subst (λ j. value v.at (base a) j ≡ low1) size left_is in
@@ -814,18 +856,18 @@ module _ (p : PlainProgram) (functions : List PlainIrFunction) (e : Env) (slots 
               (other_needed op t a b a.bytes b.bytes (needs at rest)) all_needed f)
 
   -- a comparison with a known number, whose truth value is needed
-  related_number_follows : (op : BinOp) (r : Relation) → family_of op ≡ Compared r false
-      → (s sign : Bool) (size : ℕ) (ty : PlainType) (mode : Mode) (t a b : Temp) (k : ℤ) (rest : List PlainIr) (n pc : ℕ) (m : Mach)
-      (v : View) → HasHome slots t → HasHome slots a → HasHome slots b → b.bytes ≡ a.bytes
-      → AreComparedBy a b k s size sign m
+  related_number_follows : (op : BinOp) (r : Relation) (exchanged : Bool) → family_of op ≡ Compared r exchanged
+      → (s : Bool) (own : Bound) (size : ℕ) (ty : PlainType) (mode : Mode) (t a b : Temp) (rest : List PlainIr)
+      (n pc : ℕ) (m : Mach) (v : View) → HasHome slots t → HasHome slots a → HasHome slots b → b.bytes ≡ a.bytes
+      → AreComparedBy a b r exchanged s own size m
       → HasAt e ((if wanted (needs at rest) t == 0 then []
-      else compared_with_code (home a) (low_bytes 16 k) size
-      ++ compared_code r sign (home a) (home b) (home t) 0 (wanted (needs at rest) t)) ++ items rest) pc end
+      else truth_by_code (truth_register (home t)) own (home a) size
+      ++ truth_at_code (home t) (wanted (needs at rest) t)) ++ items rest) pc end
       → M (at_least a.at (operand_wanted op size (wanted (needs at rest) t)) (without t.at (needs at rest))) m v
       → Rest (suc n) rest
       → G (suc n) m.state.work pc v (P n (binary_op op ty mode t a (integer s a.bytes) b (integer s b.bytes)) rest m)
-  related_number_follows op r is s sign size ty mode t a b k rest n pc m v it ia ib same by stands h f =
-      compared_numbers op r false is s ty mode t a b rest n pc need0 m v ia ib same h
+  related_number_follows op r exchanged is s own size ty mode t a b rest n pc m v it ia ib same by stands h f =
+      compared_numbers op r exchanged is s ty mode t a b rest n pc need0 m v ia ib same h
       (λ low1 low2 qa qb below1 below2. ⊎_elim (λ q. dead q low1 low2) (λ q. alive q low1 low2 qa qb below1)
       (cases_Bool (w == 0)))
     where
@@ -838,15 +880,11 @@ module _ (p : PlainProgram) (functions : List PlainIrFunction) (e : Env) (slots 
       c : ℕ
       c = op_steps (binary_op op ty mode t a (integer s a.bytes) b (integer s b.bytes))
 
-      number : ℕ
-      number = low_bytes 16 k
+      code : List AsmItem
+      code = truth_by_code (truth_register (home t)) own (home a) size ++ truth_at_code (home t) w
 
-      -- the comparison, and the truth value that is told of it
-      compared : List AsmItem
-      compared = compared_with_code (home a) number size
-
-      own : List AsmItem
-      own = compared_code r sign (home a) (home b) (home t) 0 w
+      truth_of : (low1 low2 : ℕ) → Bool
+      truth_of low1 low2 = stand_so r s a.bytes (first_of_two exchanged low1 low2) (first_of_two exchanged low2 low1)
 
       still : (u : ℕ) → u ≢ t.at → needs at rest u ≤ need0 u
       still u d =
@@ -854,13 +892,12 @@ module _ (p : PlainProgram) (functions : List PlainIrFunction) (e : Env) (slots 
           let z = least_other a.at (operand_wanted op size w) u (without t.at (needs at rest)) in
           omega (arith, x, z)
 
-      dead : (w == 0) ≡ true → (low1 low2 : ℕ)
-          → G (suc n) m.state.work pc v (R (suc n) rest (told_machine t (stand_so r s a.bytes low1 low2) c m))
+      dead : (w == 0) ≡ true → (low1 low2 : ℕ) → G (suc n) m.state.work pc v (R (suc n) rest (told_machine t (truth_of low1 low2) c m))
       dead q low1 low2 =
-          let truth = stand_so r s a.bytes low1 low2 in
+          let truth = truth_of low1 low2 in
           let low = low_bytes t.bytes (pos (from_bool truth)) in
           let m1 = told_machine t truth c m in
-          let stand = subst (λ (x : Bool). HasAt e ((if x then [] else compared ++ own) ++ items rest) pc end) q stands in
+          let stand = subst (λ (x : Bool). HasAt e ((if x then [] else code) ++ items rest) pc end) q stands in
           let matches = not_needed t low c (needs at rest) need0 m v it (eqb-true w 0 q)
           (low_below t.bytes (pos (from_bool truth))) still h in
           goes_past [] (items rest) (suc n) (suc n) m.state.work m1.state.work pc v (R (suc n) rest m1) stand refl (omega arith)
@@ -869,53 +906,36 @@ module _ (p : PlainProgram) (functions : List PlainIrFunction) (e : Env) (slots 
 
       alive : (w == 0) ≡ false → (low1 low2 : ℕ) → m.temps a.at ≡ Some (record { bytes = a.bytes; content = bits low1 })
           → m.temps b.at ≡ Some (record { bytes = b.bytes; content = bits low2 }) → low1 < 256 ^ a.bytes
-          → G (suc n) m.state.work pc v (R (suc n) rest (told_machine t (stand_so r s a.bytes low1 low2) c m))
-      alive q low1 low2 qa qb below1 =
-          subst (λ (x : Bool). G (suc n) m.state.work pc v (R (suc n) rest (told_machine t x c m)))
-          (sym (by.same r low1 low2 qa qb)) (by_size (size - 1) (let some = by.some in omega arith))
+          → G (suc n) m.state.work pc v (R (suc n) rest (told_machine t (truth_of low1 low2) c m))
+      alive q low1 low2 qa qb below1 = by_size (size - 1) (let some = by.some in omega arith)
         where
-          all_needed : M (at_least a.at size (without t.at (needs at rest))) m v
-          all_needed =
-              subst (λ x. M (at_least a.at x (without t.at (needs at rest))) m v) (all_wanted op r false is size w q) h
-
-          more : (u : ℕ) → u ≢ t.at → needs at rest u ≤ at_least a.at size (without t.at (needs at rest)) u
-          more u d =
-              let x = without_other t.at u (needs at rest) d in
-              let z = least_other a.at size u (without t.at (needs at rest)) in
-              omega (arith, x, z)
-
           by_size : (bytes : ℕ) → size ≡ suc bytes
-              → G (suc n) m.state.work pc v (R (suc n) rest (told_machine t (stand_so r sign size low1 low2) c m))
+              → G (suc n) m.state.work pc v (R (suc n) rest (told_machine t (truth_of low1 low2) c m))
           by_size bytes is_size =
               let eight = ia.most in
               let within = by.within in
-              let some = by.some in
-              let conversion = conversion_code false (InRegisters 30) (home t) 1 w in
-              let code : (if w == 0 then [] else compared ++ own) ≡ (compared ++ truth_code r sign) ++ conversion =
-              ap (λ (x : Bool). if x then [] else compared ++ (if x then [] else truth_code r sign ++ conversion)) q
-              ∙ sym (append_assoc compared (truth_code r sign) conversion) in
-              let s1 = has_parts e ((compared ++ truth_code r sign) ++ conversion) (items rest) pc end
-              (subst (λ (x : List AsmItem). HasAt e (x ++ items rest) pc end) code stands) in
-              let s2 = has_parts e (compared ++ truth_code r sign) conversion pc s1.0 s1.1 in
               let here = least_here a.at size (without t.at (needs at rest)) in
+              let few : suc bytes ≤ a.bytes = omega (arith, is_size, within) in
+              let all_needed : M (at_least a.at size (without t.at (needs at rest))) m v =
+              subst (λ x. M (at_least a.at x (without t.at (needs at rest))) m v) (all_wanted op r exchanged is size w q) h in
               let left : value v.at (base a) size ≡ low1 =
               (at_width p e slots home base place y (at_least a.at size (without t.at (needs at rest))) m v a _ size all_needed ia qa refl
               (omega (arith, here, within))).0
-              ∙ kept_below low1 (256 ^ size) (by.left low1 low2 qa below1) in
-              let stood = stand p e slots home base place y a size ia within in
-              let outside : Outside (base a) size 30 =
-              narrower (base a) a.bytes size 30 within (work_outside (base a) a.bytes (y.layout.temps_work a ia)) in
-              let told0 = numbers_are_told y.numbers r sign e (home a) number bytes (base a) pc s2.0 v
-              (subst (λ j. StandsFrom e (home a) j (base a) Own) is_size stood) (subst (λ j. Outside (base a) j 30) is_size outside) h.bytes
-              (subst (λ j. HasAt e (compared_with_code (home a) number j ++ truth_code r sign) pc s2.0) is_size s2.1) in
-              let truth : stand_so r sign (suc bytes) (value v.at (base a) (suc bytes)) (number % 256 ^ suc bytes)
-              ≡ stand_so r sign size low1 low2 =
-              ap (λ j. stand_so r sign j (value v.at (base a) j) (number % 256 ^ j)) (sym is_size)
-              ∙ ap (λ x. stand_so r sign size x (number % 256 ^ size)) left ∙ ap (stand_so r sign size low1) (by.right low2 qb) in
-              truth_passes (stand_so r sign size low1 low2) t (3 + 3 * suc bytes) c rest n pc s2.0 s1.0 m.state.work
-              (at_least a.at size (without t.at (needs at rest))) m v it (omega (arith, is_size, within, eight))
-              (subst (λ x. Tells e (3 + 3 * suc bytes) pc v s2.0 x) truth told0)
-              (let big = relation_big op ty (integer s a.bytes) (integer s b.bytes) in omega (arith, big)) s2.2 s1.2 more all_needed f
+              ∙ kept_below low1 (256 ^ size) (by.left low1 qa below1) in
+              let truth : stands_to own (suc bytes) (value v.at (base a) (suc bytes)) ≡ truth_of low1 low2 =
+              subst (λ j. stands_to own j (value v.at (base a) j) ≡ truth_of low1 low2) is_size
+              (ap (stands_to own size) left ∙ sym (by.same low1 low2 qa qb below1)) in
+              let stand : HasAt e ((truth_by_code (truth_register (home t)) own (home a) (suc bytes)
+              ++ truth_at_code (home t) w) ++ items rest) pc end =
+              subst (λ j. HasAt e ((truth_by_code (truth_register (home t)) own (home a) j
+              ++ truth_at_code (home t) w) ++ items rest) pc end) is_size
+              (subst (λ (x : Bool). HasAt e ((if x then [] else code) ++ items rest) pc end) q stands) in
+              truth_passes (truth_by_code (truth_register (home t)) own (home a) (suc bytes)) (truth_of low1 low2) t (suc bytes) c rest n pc
+              m.state.work need0 m v it (omega (arith, few, eight))
+              (omega (arith, relation_big op ty (integer s a.bytes) (integer s b.bytes)))
+              (λ mid own_code. subst (λ x. TellsTo (truth_register (home t)) e (3 + 3 * suc bytes) pc v mid x) truth
+              (temp_tells p e slots home base place y (truth_register (home t)) own a bytes pc mid v ia few h.bytes own_code))
+              stand still h f
 
   -- ---- products
 
@@ -1525,6 +1545,8 @@ module _ (p : PlainProgram) (functions : List PlainIrFunction) (e : Env) (slots 
           let second = extend_code false (home t) 1 w in
           let is_code : code ≡ first ++ second =
           ap (λ (x : Bool). if x then [] else counted_by_code false false (home a) (home t) 1 w count) q
+          ∙ ap (λ (x : Bool). if x then move_code (home a) (home t) 1 ++ top_bit_code (home t) 1
+          else counted_code (Right false) (home a) (home t) 1 count ++ second) (byte_leaves_none false (home t) w count)
           ∙ ap (λ x. counted_code (Right false) (home a) (home t) 1 x ++ second) (count_at low2 qb small) in
           let stand1 : HasAt e ((first ++ second) ++ items rest) pc end = subst (λ x. HasAt e (x ++ items rest) pc end) is_code stands in
           let parts = has_parts e (first ++ second) (items rest) pc end stand1 in
@@ -1567,6 +1589,103 @@ module _ (p : PlainProgram) (functions : List PlainIrFunction) (e : Env) (slots 
               let eight = ib.most in
               number_low k 1 b.bytes some (omega (arith, eight)) ∙ ap (λ x. x % 256 ^ 1) (sym (known low2 qb))
               ∙ kept_below low2 (256 ^ 1) (omega (arith, small))
+
+  -- only the highest bit of a number is left, and one byte is needed
+  top_bit_follows : (op : BinOp) → family_of op ≡ Shifted false → (s2 : Bool) (mode : Mode) (t a b : Temp) (k : ℤ) (r : ℕ)
+      (rest : List PlainIr) (n pc : ℕ) (m : Mach) (v : View) → HasHome slots t → HasHome slots a → HasHome slots b
+      → a.bytes ≡ t.bytes → IsKnown b k m → home t ≡ InRegisters r → wanted (needs at rest) t ≡ 1
+      → low_bytes 16 k % 256 + 1 ≡ 8 * a.bytes
+      → HasAt e ((move_code (home a) (home t) a.bytes ++ top_bit_code (InRegisters r) a.bytes) ++ items rest) pc end
+      → M (at_least a.at a.bytes (without t.at (needs at rest))) m v → Rest (suc n) rest
+      → G (suc n) m.state.work pc v
+      (P n (binary_op op (integer false a.bytes) mode t a (integer false a.bytes) b (integer s2 b.bytes)) rest m)
+  top_bit_follows op is s2 mode t a b k r rest n pc m v it ia ib same known home_is one_wanted count_is stands h f =
+      counted_follows op false is false s2 mode t a b need0 rest n pc m v ia ib same h
+      (λ low1 low2 qa qb below small.
+      let some = ia.some in
+      let some_b = ib.some in
+      let eight = ib.most in
+      let bytes = a.bytes in
+      let count_at : low_bytes 16 k % 256 ≡ low2 =
+      number_low k 1 b.bytes some_b (omega (arith, eight)) ∙ ap (λ x. x % 256 ^ 1) (sym (known low2 qb))
+      ∙ kept_below low2 (256 ^ 1) (omega (arith, small)) in
+      let below1 : low1 < 256 ^ bytes = subst (λ i. low1 < 256 ^ i) (sym same) below in
+      let first = move_code (home a) (home t) bytes in
+      let second = top_bit_code (InRegisters r) bytes in
+      let straight : all_straight (first ++ second) ≡ true = straight-append first second (move_straight (home a) (home t) bytes) refl in
+      let take = move_steps (home a) (home t) bytes in
+      let steps = steps-append first second in
+      let less : bytes ≤ t.bytes = omega (arith, same) in
+      let some_a = (y.layout.temps_at a ia).clear in
+      let clear = (y.layout.temps_at t it).clear in
+      let here = least_here a.at bytes (without t.at (needs at rest)) in
+      let xa = at_width p e slots home base place y need0 m v a _ bytes h ia qa refl (omega (arith, here)) in
+      let v1 = block e first v in
+      let moved =
+      move_holds e (home a) (home t) bytes (base a) (base t) v (stand p e slots home base place y a bytes ia (omega arith))
+      (stand p e slots home base place y t bytes it less) (read_first p e slots home base place y t a bytes it ia (omega arith))
+      h.bytes in
+      let numbers1 = moved_numbers p e slots home base place y v v1 (base a) (base t) bytes some_a h.bytes moved in
+      let begins : r ≡ base t =
+      let first_at = (y.layout.temps_at t it).at 0 (omega (arith, some, same)) in
+      let at_r = ap (λ (l : Location). address_at e l 0) home_is in
+      omega (arith, first_at, at_r) in
+      let low : 2 ≤ r = omega (arith, begins, clear) in
+      let o = top_bit e r bytes v1 low numbers1 in
+      let last = block e second v1 in
+      let left : value v1.at (base t) bytes ≡ low1 =
+      row_value v1.at v.at (base a) (base t) bytes moved.there ∙ xa.0 ∙ kept_below low1 (256 ^ bytes) below1 in
+      let digit : v1.at (base t + (bytes - 1)) ≡ low1 / 256 ^ (bytes - 1) % 256 =
+      sym (value_digit v1.at (base t) bytes (bytes - 1) (held_row v1 (base t) bytes clear numbers1) (omega (arith, some)))
+      ∙ ap (λ i. i / 256 ^ (bytes - 1) % 256) left in
+      let bit : last.at (base t) ≡ low1 / 2 ^ low2 =
+      subst (λ i. last.at i ≡ v1.at (i + (bytes - 1)) / 128) begins o.number ∙ ap (λ i. i / 128) digit
+      ∙ bit_of low1 bytes low2 some below1 (ap (λ i. i + 1) (sym count_at) ∙ count_is) in
+      let short : low1 / 2 ^ low2 < 256 =
+      subst (λ i. i < 256) (bit_of low1 bytes low2 some below1 (ap (λ i. i + 1) (sym count_at) ∙ count_is))
+      (bit_below low1 (bytes - 1)) in
+      let lowest : base t + 0 ≡ base t = omega arith in
+      let alone : value last.at (base t) 1 ≡ last.at (base t + 0) = omega arith in
+      let number : value last.at (base t) 1 ≡ low1 / 2 ^ low2 % 256 ^ 1 =
+      alone ∙ ap last.at lowest ∙ bit ∙ sym (kept_below (low1 / 2 ^ low2) (256 ^ 1) short) in
+      let here_at : value last.at (base t) w ≡ shifted_by (Right false) t.bytes low1 low2 % 256 ^ w =
+      subst (λ i. value last.at (base t) i ≡ low1 / 2 ^ low2 % 256 ^ i) (sym one_wanted) number in
+      let frame : Frame v last (base t) t.bytes =
+      λ i d g u z.
+      o.same i (λ q. apart i z 0 (omega (arith, some, same)) (omega (arith, q, begins)))
+      (λ q. apart i z (bytes - 1) (omega (arith, some, same)) (omega (arith, q, begins)))
+      ∙ wider_frame v v1 (base t) t.bytes bytes less moved.frame i d g u z in
+      let matches =
+      written p e slots home base place y t (bits (shifted_by (Right false) t.bytes low1 low2)) (needs at rest) need0 m
+      (worked c m.state) v last it h still frame (here_at, shifted_below (Right false) t.bytes low1 low2 below) o.numbers refl
+      (o.seen ∙ moved.quiet.seen ∙ h.seen) (kept_left y.inputs m.state v last (o.inputs ∙ moved.quiet.inputs) h.left)
+      (o.safe ∙ moved.quiet.safe ∙ h.safe) in
+      let m1 = after_operator t (shifted_by (Right false) t.bytes low1 low2) c m in
+      let room = it.most in
+      let big = shift_big op false is (integer false a.bytes) (integer false a.bytes) (integer s2 b.bytes) in
+      let last_is : block e (first ++ second) v ≡ last = block-append e first second v in
+      goes_past (first ++ second) (items rest) (suc n) (suc n) m.state.work m1.state.work pc v (R (suc n) rest m1) stands straight
+      (omega arith) (omega (arith, take, steps, room, same, big))
+      (λ mid u. f mid m1 _ u (subst (λ x. M (needs at rest) m1 x) (sym last_is) matches)))
+    where
+      c : ℕ
+      c = op_steps (binary_op op (integer false a.bytes) mode t a (integer false a.bytes) b (integer s2 b.bytes))
+
+      w : ℕ
+      w = wanted (needs at rest) t
+
+      need0 : Need
+      need0 = at_least a.at a.bytes (without t.at (needs at rest))
+
+      still : (u : ℕ) → u ≢ t.at → needs at rest u ≤ need0 u
+      still u d =
+          let x = without_other t.at u (needs at rest) d in
+          let z = least_other a.at a.bytes u (without t.at (needs at rest)) in
+          omega (arith, x, z)
+
+      -- what stands outside is none of its bytes
+      apart : (i : ℕ) → Outside (base t) t.bytes i → (j : ℕ) → j < t.bytes → i ≡ base t + j → ⊥
+      apart i z j l q = let u = z (omega (arith, q)) in absurd (omega (arith, u, q, l))
 
   -- ---- quotients and remainders
 
@@ -2098,6 +2217,12 @@ module _ (p : PlainProgram) (functions : List PlainIrFunction) (e : Env) (slots 
   fixed_apart op ty mode aty bty k apart =
       ap (λ z. z && not (is_on_integers (family_of op) mode ty aty bty)) (either_fixed is_whole type_whole aty bty k) ∙ ap not apart
 
+  -- and tells nothing
+  fixed_untold : (op : BinOp) (ty : PlainType) (mode : Mode) (aty bty : PlainType) → IsFixedType aty ⊎ IsFixedType bty
+      → is_on_integers (family_of op) mode ty aty bty ≡ false → is_untold (family_of op) mode ty aty bty ≡ true
+  fixed_untold op ty mode aty bty k apart =
+      ap (λ z. not z && is_apart (family_of op) mode ty aty bty) (no_two_pointers aty bty k) ∙ fixed_apart op ty mode aty bty k apart
+
   -- the same where all bytes of the second operand are needed too
   fixed_binary_passes : (op : BinOp) (ty : PlainType) (mode : Mode) (t a : Temp) (aty : PlainType) (b : Temp) (bty : PlainType)
       (rest : List PlainIr) (n pc : ℕ) (m : Mach) (v : View) (code : List AsmItem) → IsFixedBinary slots op t a b ty aty bty
@@ -2161,8 +2286,8 @@ module _ (p : PlainProgram) (functions : List PlainIrFunction) (e : Env) (slots 
       is_apart_so = fixed_apart op ty mode aty bty k.types.fixed apart
 
       none_told : (x : Bool)
-          → (if x then told_by (is_apart (family_of op) mode ty aty bty) (family_of op) (is_signed aty) else None) ≡ None
-      none_told true = ap (λ z. told_by z (family_of op) (is_signed aty)) is_apart_so
+          → (if x then told_by (is_untold (family_of op) mode ty aty bty) (family_of op) (is_signed aty) else None) ≡ None
+      none_told true = ap (λ z. told_by z (family_of op) (is_signed aty)) (fixed_untold op ty mode aty bty k.types.fixed apart)
       none_told false = refl
 
       code : List AsmItem
@@ -2184,7 +2309,7 @@ module _ (p : PlainProgram) (functions : List PlainIrFunction) (e : Env) (slots 
       code_is =
           ap (λ z. code_by_kind z (fixed_binary known None op ty aty bty mode (home a) (home b) (home t) a.bytes w)
           (code_by_kind (is_pointer aty || is_pointer bty)
-          (pointer_binary known link.core (is_pointer aty) (is_pointer bty) p op aty bty (home a) (home b) (home t) a.bytes b.bytes w)
+          (pointer_binary known None link.core (is_pointer aty) (is_pointer bty) p op aty bty (home a) (home b) (home t) a.bytes b.bytes w)
           (integer_code known None op (is_signed aty) (is_signed bty) (home a) (home b) (home t) a.bytes w))) fx
           ∙ ap
           (λ z. if z then integer_code known None op (is_signed aty) (is_signed bty) (home a) (home b) (home t) a.bytes w
@@ -2318,7 +2443,7 @@ module _ (p : PlainProgram) (functions : List PlainIrFunction) (e : Env) (slots 
       code_is =
           ap (λ z. code_by_kind z (fixed_binary (Some (as_known number)) None op ty aty bty mode (home a) (home b) (home t) a.bytes w)
           (code_by_kind (is_pointer aty || is_pointer bty)
-          (pointer_binary (Some (as_known number)) link.core (is_pointer aty) (is_pointer bty) p op aty bty (home a) (home b) (home t)
+          (pointer_binary (Some (as_known number)) None link.core (is_pointer aty) (is_pointer bty) p op aty bty (home a) (home b) (home t)
           a.bytes b.bytes w)
           (integer_code (Some (as_known number)) None op (is_signed aty) (is_signed bty) (home a) (home b) (home t) a.bytes w))) fx
           ∙ ap
@@ -2331,7 +2456,8 @@ module _ (p : PlainProgram) (functions : List PlainIrFunction) (e : Env) (slots 
       stand : HasAt e (own ++ items rest) pc end
       stand = subst (λ x. HasAt e (own_code p home link None x (Some (as_known number)) need i ++ items_told x rest) pc end)
           (untold_by (is_only_tested t (slice_get rest 0) (slice_index (wanted_bytes at rest) 0))
-          (is_apart (family_of op) mode ty aty bty) (family_of op) (is_signed aty) is_apart_so) stands
+          (is_untold (family_of op) mode ty aty bty) (family_of op) (is_signed aty) (fixed_untold op ty mode aty bty k.types.fixed apart))
+          stands
 
       more : (u : ℕ) → u ≢ t.at → need u ≤ need0 u
       more u d = let x = without_other t.at u need d in let z = least_other a.at ka u (without t.at need) in omega (arith, x, z)
@@ -3243,10 +3369,10 @@ module _ (p : PlainProgram) (functions : List PlainIrFunction) (e : Env) (slots 
 
   -- behind an operation that is no label
   onward : (told : Option Told) (i : PlainIr) (ops : List PlainIr) (pc : ℕ) → HasAt e (items_told told (i ∷ ops)) pc end
-      → (mid : ℕ) × HasAt e (items_told (tells_next p at told i ops) ops) mid end
+      → (mid : ℕ) × HasAt e (items_told (tells_next link.core p home at told i ops) ops) mid end
   onward told i ops pc stands =
-      let s = has_parts e (op_code p home link told (tells_next p at told i ops) (at.known (i ∷ ops)) (needs at ops) i)
-      (items_told (tells_next p at told i ops) ops) pc
+      let s = has_parts e (op_code p home link told (tells_next link.core p home at told i ops) (at.known (i ∷ ops)) (needs at ops) i)
+      (items_told (tells_next link.core p home at told i ops) ops) pc
       end stands in
       (s.0, s.2)
 
@@ -3286,7 +3412,7 @@ module _ (p : PlainProgram) (functions : List PlainIrFunction) (e : Env) (slots 
       (cases_Bool (k == l))
   found told (constant t k ∷ ops) pc l rest r f =
       let s =
-      onward told (constant t k) ops pc r.stands in found None ops s.0 l rest
+      onward told (constant t k) ops pc r.stands in found (tells_next link.core p home at told (constant t k) ops) ops s.0 l rest
       (record { covered = r.covered.1; live = r.live; inside = r.inside; here = r.here; stands = s.1 }) f
   found told (copy t u ∷ ops) pc l rest r f =
       let s =
@@ -3294,7 +3420,8 @@ module _ (p : PlainProgram) (functions : List PlainIrFunction) (e : Env) (slots 
       (record { covered = r.covered.1; live = r.live; inside = r.inside; here = r.here; stands = s.1 }) f
   found told (load_object t o offset ∷ ops) pc l rest r f =
       let s =
-      onward told (load_object t o offset) ops pc r.stands in found (tells_next p at told (load_object t o offset) ops) ops s.0 l rest
+      onward told (load_object t o offset) ops pc r.stands in
+      found (tells_next link.core p home at told (load_object t o offset) ops) ops s.0 l rest
       (record { covered = r.covered.1; live = r.live; inside = r.inside; here = r.here; stands = s.1 }) f
   found told (store_object o offset t ∷ ops) pc l rest r f =
       let s =
@@ -3303,11 +3430,12 @@ module _ (p : PlainProgram) (functions : List PlainIrFunction) (e : Env) (slots 
   found told (binary_op op ty mode t a aty b bty ∷ ops) pc l rest r f =
       let s =
       onward told (binary_op op ty mode t a aty b bty) ops pc r.stands in found
-      (tells_next p at told (binary_op op ty mode t a aty b bty) ops) ops s.0 l rest
+      (tells_next link.core p home at told (binary_op op ty mode t a aty b bty) ops) ops s.0 l rest
       (record { covered = r.covered.1; live = r.live; inside = r.inside; here = r.here; stands = s.1 }) f
   found told (conversion t ty mode a aty ∷ ops) pc l rest r f =
       let s =
-      onward told (conversion t ty mode a aty) ops pc r.stands in found None ops s.0 l rest
+      onward told (conversion t ty mode a aty) ops pc r.stands in found
+      (tells_next link.core p home at told (conversion t ty mode a aty) ops) ops s.0 l rest
       (record { covered = r.covered.1; live = r.live; inside = r.inside; here = r.here; stands = s.1 }) f
   found told (jump k ∷ ops) pc l rest r f =
       let s =
@@ -3315,7 +3443,7 @@ module _ (p : PlainProgram) (functions : List PlainIrFunction) (e : Env) (slots 
       (record { covered = r.covered.1; live = r.live; inside = r.inside; here = r.here; stands = s.1 }) f
   found told (branch_zero t k ∷ ops) pc l rest r f =
       let s =
-      onward told (branch_zero t k) ops pc r.stands in found (tells_next p at told (branch_zero t k) ops) ops s.0 l rest
+      onward told (branch_zero t k) ops pc r.stands in found (tells_next link.core p home at told (branch_zero t k) ops) ops s.0 l rest
       (record { covered = r.covered.1; live = r.live; inside = r.inside; here = r.here; stands = s.1 }) f
   found told (return_from t ∷ ops) pc l rest r f =
       let s =
@@ -3326,11 +3454,12 @@ module _ (p : PlainProgram) (functions : List PlainIrFunction) (e : Env) (slots 
       found None ops s.0 l rest (record { covered = r.covered.1; live = r.live; inside = r.inside; here = r.here; stands = s.1 }) f
   found told (field t space offset ∷ ops) pc l rest r f =
       let s = onward told (field t space offset) ops pc r.stands in
-      found (tells_next p at told (field t space offset) ops) ops s.0 l rest
+      found (tells_next link.core p home at told (field t space offset) ops) ops s.0 l rest
       (record { covered = r.covered.1; live = r.live; inside = r.inside; here = r.here; stands = s.1 }) f
   found told (load_at t u space ∷ ops) pc l rest r f =
       let s = onward told (load_at t u space) ops pc r.stands in
-      found None ops s.0 l rest (record { covered = r.covered.1; live = r.live; inside = r.inside; here = r.here; stands = s.1 }) f
+      found (tells_next link.core p home at told (load_at t u space) ops) ops s.0 l rest
+      (record { covered = r.covered.1; live = r.live; inside = r.inside; here = r.here; stands = s.1 }) f
   found told (store_at t space u ∷ ops) pc l rest r f =
       let s = onward told (store_at t space u) ops pc r.stands in
       found None ops s.0 l rest (record { covered = r.covered.1; live = r.live; inside = r.inside; here = r.here; stands = s.1 }) f
@@ -3544,6 +3673,7 @@ module _ (p : PlainProgram) (functions : List PlainIrFunction) (e : Env) (slots 
       → HasAt e (items_told (Some told) rest) pc end → w + 2 ≤ m.state.work + op_steps (branch_zero t l)
       → M (needs at rest) m v → M (labels l) m v → Onwards n → G n w pc v (branched n l t rest m none)
   turned_follows start l t rest (InZ offset) n w pc m v none ready r go over tells stands most here there f = absurd tells
+  turned_follows start l t rest Index n w pc m v none ready r go over tells stands most here there f = absurd tells
   turned_follows start l t rest (Operands relation signed) n w pc m v none ready r go over tells stands most here there f =
       subst
       (λ x. Behind x → GoesBehind all (branch_zero t l) x → HasAt e (items_told (Some (Operands relation signed)) x) pc end
@@ -3727,6 +3857,7 @@ module _ (p : PlainProgram) (functions : List PlainIrFunction) (e : Env) (slots 
       → M (needs at rest) m v → M (labels l) m v → Onwards n
       → G n m.state.work pc v (P n (branch_zero t l) rest m)
   told_branch_follows start l t truth low (InZ offset) rest n pc m v ready r it holds is_none tells stands here there f = absurd tells
+  told_branch_follows start l t truth low Index rest n pc m v ready r it holds is_none tells stands here there f = absurd tells
   told_branch_follows start l t truth low (Operands relation signed) rest n pc m v ready r it holds is_none tells stands here there f =
       from_held p place e t m.temps (worked (op_steps (branch_zero t l)) m.state) _ n m.state.work pc v
       (λ x q w.
@@ -3827,26 +3958,22 @@ module _ (p : PlainProgram) (functions : List PlainIrFunction) (e : Env) (slots 
       }) s1.2 here there f))
 
   -- the same with a number
-  told_number_passes : (start l : ℕ) (r : Relation) (s : Bool) (t x1 : Temp) (bytes x z number c : ℕ) (rest : List PlainIr)
+  told_number_passes : (start l : ℕ) (own : Bound) (truth : Bool) (t x1 : Temp) (bytes c : ℕ) (rest : List PlainIr)
       (n pc : ℕ) (need0 : Need) (m : Mach) (v : View) → Ready start all → Behind (branch_zero t l ∷ rest) → HasHome slots t
-      → HasHome slots x1 → suc bytes ≤ x1.bytes → value v.at (base x1) (suc bytes) ≡ x → number % 256 ^ suc bytes ≡ z → 102 ≤ c
+      → HasHome slots x1 → suc bytes ≤ x1.bytes → 102 ≤ c
+      → stands_to own (suc bytes) (value v.at (base x1) (suc bytes)) ≡ truth
       → wanted (either (needs at rest) (labels l)) t ≡ 0
-      → HasAt e (compared_with_code (home x1) number (suc bytes) ++ own_told (Some (so_told r s)) (branch_zero t l) rest) pc end
+      → HasAt e (bounded_code own (home x1) (suc bytes) ++ own_told (Some (so_told own.relation own.signed)) (branch_zero t l) rest) pc end
       → ((k : ℕ) → k ≢ t.at → either (needs at rest) (labels l) k ≤ need0 k) → M need0 m v → Onwards n
-      → G (suc n) m.state.work pc v (R (suc n) (branch_zero t l ∷ rest) (told_machine t (stand_so r s (suc bytes) x z) c m))
-  told_number_passes start l r s t x1 bytes x z number c rest n pc need0 m v ready behind it i1 q1 xl zu big none
-      stands more h f =
+      → G (suc n) m.state.work pc v (R (suc n) (branch_zero t l ∷ rest) (told_machine t truth c m))
+  told_number_passes start l own truth t x1 bytes c rest n pc need0 m v ready behind it i1 q1 big is none stands more h f =
       let both = either (needs at rest) (labels l) in
-      let truth = stand_so r s (suc bytes) x z in
       let low = low_bytes t.bytes (pos (from_bool truth)) in
-      let code = compared_with_code (home x1) number (suc bytes) in
+      let code = bounded_code own (home x1) (suc bytes) in
       let v1 = block e code v in
       let m1 = told_machine t truth c m in
-      let s1 = has_parts e code (own_told (Some (so_told r s)) (branch_zero t l) rest) pc end stands in
-      let sa : StandsFrom e (home x1) (suc bytes) (base x1) Own = stand p e slots home base place y x1 (suc bytes) i1 q1 in
-      let outside : Outside (base x1) (suc bytes) 30 =
-      narrower (base x1) x1.bytes (suc bytes) 30 q1 (work_outside (base x1) x1.bytes (y.layout.temps_work x1 i1)) in
-      let k = y.numbers.compared e (home x1) number bytes (base x1) v sa outside h.bytes in
+      let s1 = has_parts e code (own_told (Some (so_told own.relation own.signed)) (branch_zero t l) rest) pc end stands in
+      let k = temp_relates p e slots home base place y own x1 bytes v i1 q1 h.bytes in
       let empty : value v1.at (base t) 0 ≡ low % 256 ^ 0 = omega arith in
       let matches : M both m1 v1 =
       written p e slots home base place y t (bits low) both need0 m (worked c m.state) v v1 it h more
@@ -3857,21 +3984,17 @@ module _ (p : PlainProgram) (functions : List PlainIrFunction) (e : Env) (slots 
       weaker p e slots home base place y both (needs at rest) m1 v1 matches (either_left (needs at rest) (labels l)) in
       let there : M (labels l) m1 v1 =
       weaker p e slots home base place y both (labels l) m1 v1 matches (either_right (needs at rest) (labels l)) in
-      let form = (y.numbers.straight Subtract (home x1) number (suc bytes)).1 in
-      let few = form.few_steps in
-      let some = comparison_some (home x1) number bytes in
+      let form = bounded_form p e slots home base place y own (home x1) bytes in
+      let few = form.few in
+      let some = form.some in
       let eight = i1.most in
-      let told : stand_so r s (suc bytes) (value v.at (base x1) (suc bytes)) (number % 256 ^ suc bytes) ≡ truth = rw (xl, zu) refl in
-      let goes = block_goes e code pc s1.0 v form.is_straight s1.1 in
+      let goes = block_goes e code pc s1.0 v form.straight s1.1 in
       after p place e (code_steps code) n (suc n) m.state.work m1.state.work pc s1.0 v v1
       (R (suc n) (branch_zero t l ∷ rest) m1) goes (omega (arith, some)) (omega (arith, few, eight, q1, big))
       (checked functions p y.inputs place e n n m1.state.work s1.0 v1 all stack (branch_zero t l) rest m1
-      (λ held. told_branch_follows start l t truth _ (so_told r s) rest n s1.0 m1 v1 ready behind it (held_at t _ m.temps)
-      (truth_zero t truth it.some)
-      (record {
-        holds = λ q. holds_by_number e (home x1) number bytes (base x1) v v1 k r s (told ∙ q) ∙ bit_is (is_set r);
-        fails = λ q. fails_by_number e (home x1) number bytes (base x1) v v1 k r s (told ∙ q) ∙ bit_is (not (is_set r));
-      }) s1.2 here there f))
+      (λ held. told_branch_follows start l t truth _ (so_told own.relation own.signed) rest n s1.0 m1 v1 ready behind it
+      (held_at t _ m.temps) (truth_zero t truth it.some)
+      (flag_tells own.relation own.signed truth v1 (k.flag ∙ ap (λ (x : Bool). from_bool (flag_bit own.relation x)) is)) s1.2 here there f))
 
   pub told_follows : (start l : ℕ) (op : BinOp) (r : Relation) (exchanged : Bool) → family_of op ≡ Compared r exchanged
       → (s : Bool) (ty : PlainType) (mode : Mode) (t a b : Temp) (rest : List PlainIr) (n pc : ℕ) (m : Mach) (v : View)
@@ -3954,33 +4077,223 @@ module _ (p : PlainProgram) (functions : List PlainIrFunction) (e : Env) (slots 
           (λ j. HasAt e
           (compare_code (home a) (home b) j ++ own_told (Some (so_told r s)) (branch_zero t l) rest) pc end) size stand) more needed f)
 
+  -- the comparison of two pointers, of which the bytes are compared that the relation asks for
+  pointers_pass : (start l : ℕ) (r : Relation) (t x1 x2 : Temp) (bytes c : ℕ) (X Z : Place) (rest : List PlainIr) (n pc : ℕ)
+      (need0 : Need) (m : Mach) (v : View) → Ready start all → Behind (branch_zero t l ∷ rest) → HasHome slots t → HasHome slots x1
+      → HasHome slots x2 → x1.bytes ≡ bytes → x2.bytes ≡ bytes → IsPointerSize bytes → ArePlaces link.core r X Z
+      → value v.at (base x1) bytes ≡ number_of X → value v.at (base x2) bytes ≡ number_of Z → 102 ≤ c
+      → wanted (either (needs at rest) (labels l)) t ≡ 0
+      → HasAt e (compare_code (home x2) (home x1) (related_bytes link.core r bytes)
+      ++ own_told (Some (so_told r false)) (branch_zero t l) rest) pc end
+      → ((k : ℕ) → k ≢ t.at → either (needs at rest) (labels l) k ≤ need0 k) → M need0 m v → Onwards n
+      → G (suc n) m.state.work pc v (R (suc n) (branch_zero t l ∷ rest) (told_machine t (places_stand r X Z) c m))
+  pointers_pass start l r t x1 x2 bytes c X Z rest n pc need0 m v ready behind it i1 i2 q1 q2 size places xl zu big none stands more h f =
+      by_size (related_bytes link.core r bytes - 1) (let some = within.0 in omega (arith, some))
+    where
+      two : 2 ≤ bytes
+      two = ⊎_elim (λ (q : bytes ≡ 2). omega arith) (λ (q : bytes ≡ 3). omega arith) size
+
+      within : (1 ≤ related_bytes link.core r bytes) × (related_bytes link.core r bytes ≤ bytes)
+      within = related_within link.core r bytes two
+
+      held : (x : Temp) → HasHome slots x → (j : ℕ) → j < bytes → v.at (base x + j) < 256
+      held x ix j l = let clear = (y.layout.temps_at x ix).clear in h.bytes (base x + j) (omega (arith, clear))
+
+      stand_as : stand_so r false (related_bytes link.core r bytes) (value v.at (base x1) (related_bytes link.core r bytes))
+          (value v.at (base x2) (related_bytes link.core r bytes)) ≡ places_stand r X Z
+      stand_as =
+          bytes_stand y.pointers bytes (base x1) (base x2) v.at X Z two (held x1 i1) (held x2 i2) xl zu link.core r places
+
+      by_size : (j : ℕ) → related_bytes link.core r bytes ≡ suc j
+          → G (suc n) m.state.work pc v (R (suc n) (branch_zero t l ∷ rest) (told_machine t (places_stand r X Z) c m))
+      by_size j is =
+          let most = within.1 in
+          let eight = i1.most in
+          subst (λ (x : Bool). G (suc n) m.state.work pc v (R (suc n) (branch_zero t l ∷ rest) (told_machine t x c m)))
+          (subst (λ i. stand_so r false i (value v.at (base x1) i) (value v.at (base x2) i) ≡ places_stand r X Z) is stand_as)
+          (told_passes start l r false t x1 x2 j (value v.at (base x1) (suc j)) (value v.at (base x2) (suc j)) c rest n pc need0 m v
+          ready behind it i1 i2 (omega (arith, most, is, q1)) (omega (arith, most, is, q2)) (omega (arith, most, is, q1, eight))
+          refl refl big none
+          (subst (λ i. HasAt e (compare_code (home x2) (home x1) i ++ own_told (Some (so_told r false)) (branch_zero t l) rest) pc end)
+          is stands) more h f)
+
+  -- what is shown of two pointers whose comparison is told so
+  abbrev TellsPointers : (start l : ℕ) → BinOp → PlainType → Mode → (t a : Temp) → SpaceId → Bool → PlainType → Temp → SpaceId → Bool
+      → PlainType → List PlainIr → (n pc : ℕ) → Mach → View → Relation → (exchanged : Bool) → Type 0
+  TellsPointers start l op ty mode t a space const to b space2 const2 to2 rest n pc m v r exchanged =
+      Ready start all → Behind (branch_zero t l ∷ rest) → HasHome slots t → space ≡ space2
+      → IsPointerBinary p slots op t a b ty (pointer space const to) (pointer space2 const2 to2)
+      → wanted (either (needs at rest) (labels l)) t ≡ 0
+      → HasAt e (pointers_code (Some (so_told r false)) link.core (Compared r exchanged) (home a) (home b) (home t) a.bytes
+      (element_size p (pointer space const to)) (wanted (needs at (branch_zero t l ∷ rest)) t)
+      ++ own_told (Some (so_told r false)) (branch_zero t l) rest) pc end
+      → M (plain_needs (binary_op op ty mode t a (pointer space const to) b (pointer space2 const2 to2)) (branch_zero t l ∷ rest)) m v
+      → link.core ≡ e.core → Onwards n
+      → G (suc n) m.state.work pc v
+      (P n (binary_op op ty mode t a (pointer space const to) b (pointer space2 const2 to2)) (branch_zero t l ∷ rest) m)
+
+  pointers_told : (start l : ℕ) (op : BinOp) (r : Relation) (exchanged : Bool) → family_of op ≡ Compared r exchanged
+      → is_comparison op ≡ true
+      → ((X Z : Place) → places_compare op X Z ≡ places_stand r (first_of exchanged X Z) (first_of exchanged Z X))
+      → ((X Z : Place) → MayCompare op X Z → MayRelate r (first_of exchanged X Z) (first_of exchanged Z X))
+      → (ty : PlainType) (mode : Mode) (t a : Temp) (space : SpaceId) (const : Bool) (to : PlainType) (b : Temp)
+      (space2 : SpaceId) (const2 : Bool) (to2 : PlainType) (rest : List PlainIr) (n pc : ℕ) (m : Mach) (v : View)
+      → TellsPointers start l op ty mode t a space const to b space2 const2 to2 rest n pc m v r exchanged
+  pointers_told start l op r exchanged is compares relates banks ty mode t a space const to b space2 const2 to2 rest n pc m v
+      ready behind it one_space k none stands h one_core f =
+      comparison_decided p functions e slots home base place y labels all end results me link stack op r exchanged is compares relates
+      banks ty mode t a space const to b space2 const2 to2 (branch_zero t l ∷ rest) n pc need0 m v one_space k h one_core
+      (λ X Z places left right. by_side X Z exchanged places (left first_there) (right second_there) stands)
+    where
+      i : PlainIr
+      i = binary_op op ty mode t a (pointer space const to) b (pointer space2 const2 to2)
+
+      need : Need
+      need = needs at (branch_zero t l ∷ rest)
+
+      w : ℕ
+      w = wanted need t
+
+      need0 : Need
+      need0 = plain_needs i (branch_zero t l ∷ rest)
+
+      same : b.bytes ≡ a.bytes
+      same = k.right_bytes ∙ ap width (sym one_space) ∙ sym k.left_bytes
+
+      size_a : IsPointerSize a.bytes
+      size_a = pointer_size a.bytes space k.left_bytes
+
+      tested_bytes : ℕ
+      tested_bytes = compared_bytes (at.known (branch_zero t l ∷ rest)) t.bytes
+
+      tested_needed : (w == 0) ≡ false
+      tested_needed =
+          let here = least_here t.at tested_bytes (either (needs at rest) (labels l)) in
+          let some = it.some in
+          let tests = compared_some (at.known (branch_zero t l ∷ rest)) t.bytes it.some in
+          ne_eqb w 0 (λ q. absurd (omega (arith, here, some, tests, q)))
+
+      inner : Need
+      inner = at_least b.at (all_or_none b.bytes w) (without t.at need)
+
+      first_there : a.bytes ≤ wanted need0 a
+      first_there =
+          let whole = all_when a.bytes w tested_needed in
+          let here = least_here a.at (all_or_none a.bytes w) inner in
+          omega (arith, whole, here)
+
+      second_there : b.bytes ≤ wanted need0 b
+      second_there =
+          let whole = all_when b.bytes w tested_needed in
+          let here = least_here b.at (all_or_none b.bytes w) (without t.at need) in
+          let also = least_other a.at (all_or_none a.bytes w) b.at inner in
+          omega (arith, whole, here, also)
+
+      more : (u : ℕ) → u ≢ t.at → either (needs at rest) (labels l) u ≤ need0 u
+      more u d =
+          let x = other_needed op t a b (all_or_none a.bytes w) (all_or_none b.bytes w) need u d in
+          let z = least_other t.at tested_bytes u (either (needs at rest) (labels l)) in
+          omega (arith, x, z)
+
+      by_side : (X Z : Place) (d : Bool) → ArePlaces link.core r (first_of d X Z) (first_of d Z X)
+          → value v.at (base a) a.bytes ≡ number_of X → value v.at (base b) a.bytes ≡ number_of Z
+          → HasAt e (pointers_code (Some (so_told r false)) link.core (Compared r d) (home a) (home b) (home t) a.bytes
+          (element_size p (pointer space const to)) w ++ own_told (Some (so_told r false)) (branch_zero t l) rest) pc end
+          → G (suc n) m.state.work pc v (R (suc n) (branch_zero t l ∷ rest)
+          (told_machine t (places_stand r (first_of d X Z) (first_of d Z X)) (op_steps i) m))
+      by_side X Z false places left right there =
+          pointers_pass start l r t a b a.bytes (op_steps i) X Z rest n pc need0 m v ready behind it k.left k.right refl same size_a
+          places left right (relation_big op ty (pointer space const to) (pointer space2 const2 to2)) none
+          (subst (λ (x : Bool). HasAt e ((if x then [] else compare_code (home b) (home a) (related_bytes link.core r a.bytes))
+          ++ own_told (Some (so_told r false)) (branch_zero t l) rest) pc end) tested_needed there) more h f
+      by_side X Z true places left right there =
+          pointers_pass start l r t b a a.bytes (op_steps i) Z X rest n pc need0 m v ready behind it k.right k.left same refl size_a
+          places right left (relation_big op ty (pointer space const to) (pointer space2 const2 to2)) none
+          (subst (λ (x : Bool). HasAt e ((if x then [] else compare_code (home a) (home b) (related_bytes link.core r a.bytes))
+          ++ own_told (Some (so_told r false)) (branch_zero t l) rest) pc end) tested_needed there) more h f
+
+  -- by the operator
+  two_told : (start l : ℕ) (op : BinOp) (ty : PlainType) (mode : Mode) (t a : Temp) (space : SpaceId) (const : Bool) (to : PlainType)
+      (b : Temp) (space2 : SpaceId) (const2 : Bool) (to2 : PlainType) (rest : List PlainIr) (n pc : ℕ) (m : Mach) (v : View) (told : Told)
+      → told_of (family_of op) false ≡ Some told → Ready start all → Behind (branch_zero t l ∷ rest) → HasHome slots t
+      → IsPointerBinary p slots op t a b ty (pointer space const to) (pointer space2 const2 to2)
+      → wanted (either (needs at rest) (labels l)) t ≡ 0
+      → HasAt e (pointers_code (Some told) link.core (family_of op) (home a) (home b) (home t) a.bytes
+      (element_size p (pointer space const to)) (wanted (needs at (branch_zero t l ∷ rest)) t)
+      ++ own_told (Some told) (branch_zero t l) rest) pc end
+      → M (plain_needs (binary_op op ty mode t a (pointer space const to) b (pointer space2 const2 to2)) (branch_zero t l ∷ rest)) m v
+      → link.core ≡ e.core → Onwards n
+      → G (suc n) m.state.work pc v
+      (P n (binary_op op ty mode t a (pointer space const to) b (pointer space2 const2 to2)) (branch_zero t l ∷ rest) m)
+  two_told start l op ty mode t a space const to b space2 const2 to2 rest n pc m v told q ready behind it k none stands h one_core f =
+      by_op op q k stands h
+    where
+      w : ℕ
+      w = wanted (needs at (branch_zero t l ∷ rest)) t
+
+      shown : (o : BinOp) (r : Relation) (exchanged : Bool) → told_of (Compared r exchanged) false ≡ Some told
+          → IsPointerBinary p slots o t a b ty (pointer space const to) (pointer space2 const2 to2) → space ≡ space2
+          → HasAt e (pointers_code (Some told) link.core (Compared r exchanged) (home a) (home b) (home t) a.bytes
+          (element_size p (pointer space const to)) w ++ own_told (Some told) (branch_zero t l) rest) pc end
+          → M (plain_needs (binary_op o ty mode t a (pointer space const to) b (pointer space2 const2 to2)) (branch_zero t l ∷ rest)) m v
+          → TellsPointers start l o ty mode t a space const to b space2 const2 to2 rest n pc m v r exchanged
+          → G (suc n) m.state.work pc v
+          (P n (binary_op o ty mode t a (pointer space const to) b (pointer space2 const2 to2)) (branch_zero t l ∷ rest) m)
+      shown o r exchanged q k one stands h tells =
+          let same : told ≡ so_told r false = cc in
+          tells ready behind it one k none
+          (subst (λ (x : Told). HasAt e (pointers_code (Some x) link.core (Compared r exchanged) (home a) (home b) (home t) a.bytes
+          (element_size p (pointer space const to)) w ++ own_told (Some x) (branch_zero t l) rest) pc end) same stands) h one_core f
+
+      by_op : (o : BinOp) → told_of (family_of o) false ≡ Some told
+          → IsPointerBinary p slots o t a b ty (pointer space const to) (pointer space2 const2 to2)
+          → HasAt e (pointers_code (Some told) link.core (family_of o) (home a) (home b) (home t) a.bytes
+          (element_size p (pointer space const to)) w ++ own_told (Some told) (branch_zero t l) rest) pc end
+          → M (plain_needs (binary_op o ty mode t a (pointer space const to) b (pointer space2 const2 to2)) (branch_zero t l ∷ rest)) m v
+          → G (suc n) m.state.work pc v
+          (P n (binary_op o ty mode t a (pointer space const to) b (pointer space2 const2 to2)) (branch_zero t l ∷ rest) m)
+      by_op Lt q k stands h =
+          shown Lt Less false q k k.types.0 stands h (pointers_told start l Lt Less false refl refl (λ X Z. refl) (λ X Z c. c) ty mode t a
+          space const to b space2 const2 to2 rest n pc m v)
+      by_op Gt q k stands h =
+          shown Gt Less true q k k.types.0 stands h (pointers_told start l Gt Less true refl refl (λ X Z. refl) (λ X Z c. c) ty mode t a
+          space const to b space2 const2 to2 rest n pc m v)
+      by_op Le q k stands h =
+          shown Le NotLess true q k k.types.0 stands h (pointers_told start l Le NotLess true refl refl (λ X Z. refl) (λ X Z c. c) ty mode
+          t a space const to b space2 const2 to2 rest n pc m v)
+      by_op Ge q k stands h =
+          shown Ge NotLess false q k k.types.0 stands h (pointers_told start l Ge NotLess false refl refl (λ X Z. refl) (λ X Z c. c) ty mode
+          t a space const to b space2 const2 to2 rest n pc m v)
+      by_op Eq q k stands h =
+          shown Eq Equal false q k k.types.0 stands h (pointers_told start l Eq Equal false refl refl (λ X Z. refl) (λ X Z c. c) ty mode t a
+          space const to b space2 const2 to2 rest n pc m v)
+      by_op Ne q k stands h =
+          shown Ne NotEqual false q k k.types.0 stands h (pointers_told start l Ne NotEqual false refl refl (λ X Z. refl) (λ X Z c. c) ty
+          mode t a space const to b space2 const2 to2 rest n pc m v)
+      by_op o q k stands h = absurd cc
+
   -- the same with a known number
-  told_number_follows : (start l : ℕ) (op : BinOp) (r : Relation) → family_of op ≡ Compared r false
-      → (s sign : Bool) (size : ℕ) (ty : PlainType) (mode : Mode) (t a b : Temp) (k : ℤ) (rest : List PlainIr) (n pc : ℕ) (m : Mach)
-      (v : View) → Ready start all → Behind (branch_zero t l ∷ rest) → HasHome slots t → HasHome slots a
-      → HasHome slots b → b.bytes ≡ a.bytes → AreComparedBy a b k s size sign m → wanted (either (needs at rest) (labels l)) t ≡ 0
-      → HasAt e (compared_with_code (home a) (low_bytes 16 k) size ++ own_told (Some (so_told r sign)) (branch_zero t l) rest) pc end
+  told_number_follows : (start l : ℕ) (op : BinOp) (r : Relation) (exchanged : Bool) → family_of op ≡ Compared r exchanged
+      → (s : Bool) (own : Bound) (size : ℕ) (ty : PlainType) (mode : Mode) (t a b : Temp) (rest : List PlainIr)
+      (n pc : ℕ) (m : Mach) (v : View) → Ready start all → Behind (branch_zero t l ∷ rest) → HasHome slots t → HasHome slots a
+      → HasHome slots b → b.bytes ≡ a.bytes → AreComparedBy a b r exchanged s own size m
+      → wanted (either (needs at rest) (labels l)) t ≡ 0
+      → HasAt e (bounded_code own (home a) size ++ own_told (Some (so_told own.relation own.signed)) (branch_zero t l) rest) pc end
       → M (at_least a.at (operand_wanted op size (wanted (needs at (branch_zero t l ∷ rest)) t))
       (without t.at (needs at (branch_zero t l ∷ rest)))) m v
       → Onwards n
       → G (suc n) m.state.work pc v
       (P n (binary_op op ty mode t a (integer s a.bytes) b (integer s b.bytes)) (branch_zero t l ∷ rest) m)
-  told_number_follows start l op r is s sign size ty mode t a b k rest n pc m v ready behind it ia ib same by none stands h f =
-      compared_numbers op r false is s ty mode t a b (branch_zero t l ∷ rest) n pc
+  told_number_follows start l op r exchanged is s own size ty mode t a b rest n pc m v ready behind it ia ib same by none stands h f =
+      compared_numbers op r exchanged is s ty mode t a b (branch_zero t l ∷ rest) n pc
       (at_least a.at (operand_wanted op size (wanted need t)) (without t.at need)) m v ia ib same h
-      (λ low1 low2 qa qb below1 below2.
-      subst (λ (x : Bool). G (suc n) m.state.work pc v (R (suc n) (branch_zero t l ∷ rest) (told_machine t x c m)))
-      (sym (by.same r low1 low2 qa qb))
-      (let some = by.some in by_size low1 low2 qa qb below1 (size - 1) (omega arith)))
+      (λ low1 low2 qa qb below1 below2. let some = by.some in by_size low1 low2 qa qb below1 (size - 1) (omega arith))
     where
       need : Need
       need = needs at (branch_zero t l ∷ rest)
 
       c : ℕ
       c = op_steps (binary_op op ty mode t a (integer s a.bytes) b (integer s b.bytes))
-
-      number : ℕ
-      number = low_bytes 16 k
 
       need0 : Need
       need0 = at_least a.at size (without t.at need)
@@ -3996,7 +4309,7 @@ module _ (p : PlainProgram) (functions : List PlainIrFunction) (e : Env) (slots 
           ne_eqb (wanted need t) 0 (λ q. absurd (omega (arith, here, some, tests, q)))
 
       all_needed : M need0 m v
-      all_needed = subst (λ x. M (at_least a.at x (without t.at need)) m v) (all_wanted op r false is size
+      all_needed = subst (λ x. M (at_least a.at x (without t.at need)) m v) (all_wanted op r exchanged is size
           (wanted need t) tested_needed) h
 
       more : (u : ℕ) → u ≢ t.at → either (needs at rest) (labels l) u ≤ need0 u
@@ -4006,26 +4319,26 @@ module _ (p : PlainProgram) (functions : List PlainIrFunction) (e : Env) (slots 
           let z = least_other t.at tested_bytes u (either (needs at rest) (labels l)) in
           omega (arith, x, w, z)
 
+      truth_of : (low1 low2 : ℕ) → Bool
+      truth_of low1 low2 = stand_so r s a.bytes (first_of_two exchanged low1 low2) (first_of_two exchanged low2 low1)
+
       by_size : (low1 low2 : ℕ) → m.temps a.at ≡ Some (record { bytes = a.bytes; content = bits low1 })
           → m.temps b.at ≡ Some (record { bytes = b.bytes; content = bits low2 }) → low1 < 256 ^ a.bytes → (bytes : ℕ)
           → size ≡ suc bytes
-          → G (suc n) m.state.work pc v (R (suc n) (branch_zero t l ∷ rest) (told_machine t (stand_so r sign size low1 low2) c m))
+          → G (suc n) m.state.work pc v (R (suc n) (branch_zero t l ∷ rest) (told_machine t (truth_of low1 low2) c m))
       by_size low1 low2 qa qb below1 bytes is_size =
           let here = least_here a.at size (without t.at need) in
           let within = by.within in
           let left : value v.at (base a) size ≡ low1 =
           (at_width p e slots home base place y need0 m v a _ size all_needed ia qa refl (omega (arith, here, within))).0
-          ∙ kept_below low1 (256 ^ size) (by.left low1 low2 qa below1) in
-          subst
-          (λ j. G (suc n) m.state.work pc v (R (suc n) (branch_zero t l ∷ rest) (told_machine t (stand_so r sign j low1 low2) c m)))
-          (sym is_size)
-          (told_number_passes start l r sign t a bytes low1 low2 number c rest n pc need0 m v ready behind it ia
-          (omega (arith, is_size, within))
-          (subst (λ j. value v.at (base a) j ≡ low1) is_size left)
-          (subst (λ j. number % 256 ^ j ≡ low2) is_size (by.right low2 qb))
-          (relation_big op ty (integer s a.bytes) (integer s b.bytes)) none
-          (subst (λ j. HasAt e (compared_with_code (home a) number j ++ own_told (Some (so_told r sign)) (branch_zero t l) rest) pc end)
-          is_size stands) more all_needed f)
+          ∙ kept_below low1 (256 ^ size) (by.left low1 qa below1) in
+          let truth : stands_to own (suc bytes) (value v.at (base a) (suc bytes)) ≡ truth_of low1 low2 =
+          subst (λ j. stands_to own j (value v.at (base a) j) ≡ truth_of low1 low2) is_size
+          (ap (stands_to own size) left ∙ sym (by.same low1 low2 qa qb below1)) in
+          told_number_passes start l own (truth_of low1 low2) t a bytes c rest n pc need0 m v ready behind it ia
+          (omega (arith, is_size, within)) (relation_big op ty (integer s a.bytes) (integer s b.bytes)) truth none
+          (subst (λ j. HasAt e (bounded_code own (home a) j
+          ++ own_told (Some (so_told own.relation own.signed)) (branch_zero t l) rest) pc end) is_size stands) more all_needed f
 
   -- AND of a byte and a number, and the branch behind it
   masked_passes : (start l : ℕ) (t x1 : Temp) (number low c : ℕ) (rest : List PlainIr) (n pc : ℕ) (need0 : Need) (m : Mach) (v : View)
@@ -4074,7 +4387,7 @@ module _ (p : PlainProgram) (functions : List PlainIrFunction) (e : Env) (slots 
       → a.bytes ≡ t.bytes → b.bytes ≡ t.bytes → IsKnown b k m → is_mask (Some k) ≡ true → wanted (either (needs at rest) (labels l)) t ≡ 0
       → HasAt e (masked_code (home a) (home t) (low_bytes 16 k % 256)
       ++ own_told (Some (so_told NotEqual false)) (branch_zero t l) rest) pc end
-      → M (at_least a.at (wanted (needs at (branch_zero t l ∷ rest)) t) (without t.at (needs at (branch_zero t l ∷ rest)))) m v
+      → M (at_least a.at (min (wanted (needs at (branch_zero t l ∷ rest)) t) 1) (without t.at (needs at (branch_zero t l ∷ rest)))) m v
       → Onwards n
       → G (suc n) m.state.work pc v
       (P n (binary_op And (integer s t.bytes) mode t a (integer s1 a.bytes) b (integer s2 b.bytes)) (branch_zero t l ∷ rest) m)
@@ -4112,7 +4425,7 @@ module _ (p : PlainProgram) (functions : List PlainIrFunction) (e : Env) (slots 
       need = needs at (branch_zero t l ∷ rest)
 
       need0 : Need
-      need0 = at_least a.at (wanted need t) (without t.at need)
+      need0 = at_least a.at (min (wanted need t) 1) (without t.at need)
 
       byte : is_byte k ≡ true
       byte = mask_byte k mask
@@ -4132,7 +4445,7 @@ module _ (p : PlainProgram) (functions : List PlainIrFunction) (e : Env) (slots 
       tested_needed : 1 ≤ wanted need0 a
       tested_needed =
           let here = least_here t.at tested_bytes (either (needs at rest) (labels l)) in
-          let also = least_here a.at (wanted need t) (without t.at need) in
+          let also = least_here a.at (min (wanted need t) 1) (without t.at need) in
           let some = it.some in
           let one = ia.some in
           let tests = compared_some (at.known (branch_zero t l ∷ rest)) t.bytes it.some in
@@ -4141,7 +4454,7 @@ module _ (p : PlainProgram) (functions : List PlainIrFunction) (e : Env) (slots 
       more : (u : ℕ) → u ≢ t.at → either (needs at rest) (labels l) u ≤ need0 u
       more u d =
           let x = without_other t.at u need d in
-          let w = least_other a.at (wanted need t) u (without t.at need) in
+          let w = least_other a.at (min (wanted need t) 1) u (without t.at need) in
           let z = least_other t.at tested_bytes u (either (needs at rest) (labels l)) in
           omega (arith, x, w, z)
 
@@ -4216,6 +4529,13 @@ module _ (p : PlainProgram) (functions : List PlainIrFunction) (e : Env) (slots 
       ax : is_apart (family_of op) mode ty aty bty ≡ false
       ax = ap (λ z. z && not (is_on_integers (family_of op) mode ty aty bty)) wx
 
+      ux : is_untold (family_of op) mode ty aty bty ≡ false
+      ux = ap (λ z. not (is_pointer aty && is_pointer bty) && z) ax ∙ none (not (is_pointer aty && is_pointer bty))
+        where
+          none : (x : Bool) → (x && false) ≡ false
+          none true = refl
+          none false = refl
+
       needed : (ops : List PlainIr) → M (plain_needs (binary_op op ty mode t a aty b bty) ops) m v
           → M
           (operands_needed op t a b (operand_wanted op a.bytes (wanted (needs at ops) t))
@@ -4247,7 +4567,7 @@ module _ (p : PlainProgram) (functions : List PlainIrFunction) (e : Env) (slots 
 
       at_branch : (u : Temp) (l : ℕ) (ops : List PlainIr) (told : Told) → (only : Bool)
           → is_only_tested t (Some (branch_zero u l)) (wanted (either (needs at ops) (labels l)) u) ≡ only
-          → (if only then told_by (is_apart (family_of op) mode ty aty bty) (family_of op) (is_signed aty) else None) ≡ Some told
+          → (if only then told_by (is_untold (family_of op) mode ty aty bty) (family_of op) (is_signed aty) else None) ≡ Some told
           → Behind (branch_zero u l ∷ ops)
           → M (plain_needs (binary_op op ty mode t a aty b bty) (branch_zero u l ∷ ops)) m v
           → StandsTelling op ty mode t a aty b bty pc (Some told) (branch_zero u l ∷ ops)
@@ -4267,17 +4587,19 @@ module _ (p : PlainProgram) (functions : List PlainIrFunction) (e : Env) (slots 
           let stand = subst (λ x. StandsTelling op ty mode t a aty b bty pc (Some told) (branch_zero x l ∷ ops)) same stands in
           let flags : HasAt e (own ++ after) pc end =
           subst (λ x. HasAt e (code_by_kind x
-          (pointer_binary None link.core (is_pointer aty) (is_pointer bty) p op aty bty (home a) (home b) (home t) a.bytes b.bytes w) own
+          (pointer_binary None (Some told) link.core (is_pointer aty) (is_pointer bty) p op aty bty (home a) (home b) (home t) a.bytes
+          b.bytes w) own
           ++ after) pc end) px
           (subst (λ x. HasAt e (code_by_kind x (fixed_binary None (Some told) op ty aty bty mode (home a) (home b) (home t) a.bytes w)
           (code_by_kind (is_pointer aty || is_pointer bty)
-          (pointer_binary None link.core (is_pointer aty) (is_pointer bty) p op aty bty (home a) (home b) (home t) a.bytes b.bytes w) own)
+          (pointer_binary None (Some told) link.core (is_pointer aty) (is_pointer bty) p op aty bty (home a) (home b) (home t) a.bytes
+          b.bytes w) own)
           ++ after) pc end) fx stand) in
           let branch : HasAt e (own ++ own_told (Some told) (branch_zero t l) ops) pc end =
           at_use_behind own (Some told) (branch_zero t l) ops pc (subst (λ x. Behind (branch_zero x l ∷ ops)) same r).covered.0.1
           (λ l none. none) flags in
           subst (λ x. G (suc n) m.state.work pc v (P n (binary_op op ty mode t a aty b bty) (branch_zero x l ∷ ops) m)) (sym same)
-          (by_family (family_of op) refl told (subst (λ x. told_by x (family_of op) (is_signed aty) ≡ Some told) ax q) l ops integers
+          (by_family (family_of op) refl told (subst (λ x. told_by x (family_of op) (is_signed aty) ≡ Some told) ux q) l ops integers
           (subst (λ x. Behind (branch_zero x l ∷ ops)) same r) none branch h1)
 
       at_next : (ops : List PlainIr) (told : Told) → plain_told (binary_op op ty mode t a aty b bty) ops ≡ Some told
@@ -4332,17 +4654,17 @@ module _ (p : PlainProgram) (functions : List PlainIrFunction) (e : Env) (slots 
   are_testing t (i ∷ ops) x told q = absurd cc
 
   -- its code, and what comes after it
-  abbrev number_told : BinOp → PlainType → Mode → Temp → (aty bty : PlainType) → TakenNumber → List PlainIr → Option Told
-  number_told op ty mode t aty bty k rest =
+  abbrev number_told : BinOp → PlainType → Mode → (t a : Temp) → (aty bty : PlainType) → TakenNumber → List PlainIr → Option Told
+  number_told op ty mode t a aty bty k rest =
       if is_only_tested t (slice_get rest 0) (slice_index (wanted_bytes at rest) 0)
-      then told_taking (Some (as_known k)) (is_apart (family_of op) mode ty aty bty) op (is_signed aty) else None
+      then told_taking (Some (as_known k)) (is_untold (family_of op) mode ty aty bty) op (is_signed aty) a.bytes else None
 
   abbrev number_items : BinOp → PlainType → Mode → (t a : Temp) → PlainType → Temp → PlainType → TakenNumber → List PlainIr
       → List AsmItem
   number_items op ty mode t a aty b bty k rest =
-      taking_code (Some (as_known k)) (number_told op ty mode t aty bty k rest) (family_of op) (is_signed aty) (is_signed bty)
+      taking_code (Some (as_known k)) (number_told op ty mode t a aty bty k rest) (family_of op) (is_signed aty) (is_signed bty)
       (home a) (home b) (home t) a.bytes (wanted (needs at rest) t)
-      ++ items_told (number_told op ty mode t aty bty k rest) rest
+      ++ items_told (number_told op ty mode t a aty bty k rest) rest
 
   -- what is needed before it
   abbrev number_needs : BinOp → (t a : Temp) → TakenNumber → List PlainIr → Need
@@ -4357,15 +4679,128 @@ module _ (p : PlainProgram) (functions : List PlainIrFunction) (e : Env) (slots 
       Behind rest → HasAt e (number_items op ty mode t a aty b bty k rest) pc end → M (number_needs op t a k rest) m v
       → Rest (suc n) rest → G (suc n) m.state.work pc v (P n (binary_op op ty mode t a aty b bty) rest m)
 
-  -- AND with a number below 255
-  masked_number : (start : ℕ) → Ready start all → (n : ℕ) → Onwards n → (ty : PlainType) (mode : Mode)
+  -- a sum, a difference, OR, or any other AND tells nothing
+  combined_number : (op : BinOp) (o : Operator) → family_of op ≡ Combined o → is_changed o ≡ true → (ty : PlainType) (mode : Mode)
+      (t a : Temp) (aty : PlainType) (b : Temp) (bty : PlainType) (k : TakenNumber) (pc : ℕ) (rest : List PlainIr) (n : ℕ) (m : Mach)
+      (v : View)
+      → AreIntegers slots t a b ty aty bty → IsKnown b k.number m → is_masked (Some (as_known k)) op ≡ false
+      → masks_low o (low_bytes 16 k.number) ≡ false → NumberCase op ty mode t a aty b bty k pc rest n m v
+  combined_number op o is changed ty mode t a aty b bty k pc rest n m v i known unmasked no_mask =
+      (subst (λ x. NumberCase op x mode t a aty b bty k pc rest n m v) (sym i.result_type)
+      (subst (λ x. NumberCase op (integer i.signed t.bytes) mode t a x b bty k pc rest n m v) (sym i.left_type)
+      (subst (λ x. NumberCase op (integer i.signed t.bytes) mode t a (integer i.left_signed a.bytes) b x k pc rest n m v)
+      (sym i.right_type)
+      (λ behind stands h f. combined_number_follows op o is changed i.signed i.left_signed i.right_signed mode t a b k.number rest n pc m v
+      i.result i.left i.right i.left_bytes i.right_bytes known
+      (subst (λ (x : Bool). HasAt e ((if x then low_mask_code (home a) (home t) (low_bytes 16 k.number) (wanted (needs at rest) t)
+      else move_code (home a) (home t) (wanted (needs at rest) t)
+      ++ changed_by_code o (home t) (low_bytes 16 k.number) (wanted (needs at rest) t)) ++ items rest) pc end) no_mask
+      (subst (λ x. HasAt e (taking_code (Some (as_known k)) None x i.left_signed i.right_signed (home a) (home b) (home t) a.bytes
+      (wanted (needs at rest) t) ++ items rest) pc end) is
+      (subst (λ x. HasAt e (taking_code (Some (as_known k)) x (family_of op) i.left_signed i.right_signed (home a) (home b) (home t) a.bytes
+      (wanted (needs at rest) t) ++ items_told x rest) pc end)
+      (untold (is_only_tested t (slice_get rest 0) (slice_index (wanted_bytes at rest) 0))
+      (is_untold (family_of op) mode (integer i.signed t.bytes) (integer i.left_signed a.bytes)
+      (integer i.right_signed b.bytes)) i.left_signed)
+      stands)))
+      (subst (λ x. M (at_least a.at x (without t.at (needs at rest))) m v)
+      (low_bytes_wanted op o is (compared_bytes (Some (as_known k)) a.bytes) (wanted (needs at rest) t)) h)
+      f))))
+    where
+      none : (apart s : Bool) → told_by apart (family_taking (Some (as_known k)) (family_of op) s a.bytes)
+          (signed_taking (Some (as_known k)) (family_of op) s a.bytes) ≡ None
+      none true s = refl
+      none false s =
+          ap (λ x. told_of (family_taking (Some (as_known k)) x s a.bytes) (signed_taking (Some (as_known k)) x s a.bytes)) is
+
+      untold : (only apart s : Bool) → (if only then told_taking (Some (as_known k)) apart op s a.bytes else None) ≡ None
+      untold false apart s = refl
+      untold true apart s =
+          ap (λ (x : Bool). if x then Some (so_told NotEqual false) else told_by apart
+          (family_taking (Some (as_known k)) (family_of op) s a.bytes)
+          (signed_taking (Some (as_known k)) (family_of op) s a.bytes)) unmasked
+          ∙ none apart s
+
+  -- AND with a number below 256
+  masked_number_follows : (s s1 s2 : Bool) (mode : Mode) (t a b : Temp) (k : ℤ) (rest : List PlainIr) (n pc : ℕ) (m : Mach) (v : View)
+      → HasHome slots t → HasHome slots a → HasHome slots b → a.bytes ≡ t.bytes → b.bytes ≡ t.bytes → IsKnown b k m
+      → low_bytes 16 k < 256
+      → HasAt e (low_mask_code (home a) (home t) (low_bytes 16 k) (wanted (needs at rest) t) ++ items rest) pc end
+      → M (at_least a.at (min (wanted (needs at rest) t) 1) (without t.at (needs at rest))) m v → Rest (suc n) rest
+      → G (suc n) m.state.work pc v
+      (P n (binary_op And (integer s t.bytes) mode t a (integer s1 a.bytes) b (integer s2 b.bytes)) rest m)
+  masked_number_follows s s1 s2 mode t a b k rest n pc m v it ia ib sa sb known small stands h f =
+      let need = needs at rest in
+      let i = binary_op And (integer s t.bytes) mode t a (integer s1 a.bytes) b (integer s2 b.bytes) in
+      let c = op_steps i in
+      let st = worked c m.state in
+      let w = wanted need t in
+      let one = min w 1 in
+      let most = wanted_most need t in
+      let eight = it.most in
+      let first = move_code (home a) (home t) one in
+      let second = changed_by_code BitAnd (home t) (low_bytes 16 k) one in
+      let third = extend_code false (home t) 1 w in
+      let code = first ++ (second ++ third) in
+      let big : 640 ≤ c = relation_wide And (integer s t.bytes) (integer s1 a.bytes) (integer s2 b.bytes) in
+      let form = changed_form y.numbers BitAnd (home t) (low_bytes 16 k) one in
+      let steps1 = steps-append first (second ++ third) in
+      let steps2 = steps-append second third in
+      let take = move_steps (home a) (home t) one in
+      let wide = (values_take (home t) 0 1 w).2 false in
+      let straight : all_straight code ≡ true =
+      straight-append first (second ++ third) (move_straight (home a) (home t) one)
+      (straight-append second third form.0 ((values_are_straight (home t) 0 1 w).2 false)) in
+      let few = form.1 in
+      from_number p place e s1 a m.temps st _ (suc n) m.state.work pc v
+      (λ low1 qa. from_number p place e s2 b m.temps st _ (suc n) m.state.work pc v
+      (λ low2 qb.
+      let below1 : low1 < 256 ^ t.bytes = subst (λ x. low1 < 256 ^ x) sa (h.temps_hold a _ ia qa refl).1 in
+      let below2 : low2 < 256 ^ t.bytes = subst (λ x. low2 < 256 ^ x) sb (h.temps_hold b _ ib qb refl).1 in
+      let g = gives_of And BitAnd refl p mode s s1 s2 t.bytes a.bytes b.bytes low1 low2 st st sa sb below1 below2 in
+      let number : low_bytes t.bytes k ≡ low2 = ap (λ j. low_bytes j k) (sym sb) ∙ sym (known low2 qb) in
+      let m1 = after_operator t (low_bytes t.bytes g.number) c m in
+      let matches : M need (after_operator t (result_of BitAnd t.bytes low1 (low_bytes t.bytes k)) c m) (block e code v) =
+      low_mask_matches p e slots home base place y t a k need m v c low1 it ia sa qa small h in
+      let matches1 : M need m1 (block e code v) =
+      subst (λ r. M need (after_operator t r c m) (block e code v)) (ap (result_of BitAnd t.bytes low1) number ∙ sym g.low) matches in
+      subst (λ r. G (suc n) m.state.work pc v (next (given r st) (λ u s3. R (suc n) rest (machine (with_temp t u m.temps) s3)))) (sym g.is)
+      (goes_past code (items rest) (suc n) (suc n) m.state.work m1.state.work pc v (R (suc n) rest m1) stands straight (omega arith)
+      (omega (arith, take, few, wide, steps1, steps2, big, most, eight))
+      (λ mid u. f mid m1 _ u matches1))))
+
+  -- what is needed before an operator with a number, which may be masked
+  abbrev masked_needs : BinOp → (t a : Temp) → TakenNumber → List PlainIr → Need
+  masked_needs op t a k rest =
+      at_least a.at
+      (operand_wanted op (compared_bytes (Some (as_known k)) a.bytes) (masked_bytes (Some (as_known k)) op (wanted (needs at rest) t)))
+      (without t.at (needs at rest))
+
+  abbrev MaskedCase : BinOp → PlainType → Mode → (t a : Temp) → PlainType → Temp → PlainType → TakenNumber → ℕ → List PlainIr
+      → (n : ℕ) → Mach → View → Type 0
+  MaskedCase op ty mode t a aty b bty k pc rest n m v =
+      Behind rest → HasAt e (number_items op ty mode t a aty b bty k rest) pc end → M (masked_needs op t a k rest) m v
+      → Rest (suc n) rest → G (suc n) m.state.work pc v (P n (binary_op op ty mode t a aty b bty) rest m)
+
+  -- where it is not
+  without_mask : (op : BinOp) (ty : PlainType) (mode : Mode) (t a : Temp) (aty : PlainType) (b : Temp) (bty : PlainType) (k : TakenNumber)
+      (pc : ℕ) (rest : List PlainIr) (n : ℕ) (m : Mach) (v : View) → is_low_mask (Some k.number) op ≡ false
+      → NumberCase op ty mode t a aty b bty k pc rest n m v → MaskedCase op ty mode t a aty b bty k pc rest n m v
+  without_mask op ty mode t a aty b bty k pc rest n m v none shown behind stands h f =
+      let w = wanted (needs at rest) t in
+      let bytes = compared_bytes (Some (as_known k)) a.bytes in
+      let needs_of = λ (n : ℕ). at_least a.at (operand_wanted op bytes n) (without t.at (needs at rest)) in
+      shown behind stands (subst (λ (x : Bool). M (needs_of (if x then min w 1 else w)) m v) none h) f
+
+  -- what tells by a flag is masked by a number below 255
+  low_mask_number : (start : ℕ) → Ready start all → (n : ℕ) → Onwards n → (ty : PlainType) (mode : Mode)
       (t a : Temp) (aty : PlainType) (b : Temp) (bty : PlainType) (k : TakenNumber) (pc : ℕ) (rest : List PlainIr) (m : Mach)
-      (v : View) → AreIntegers slots t a b ty aty bty → IsKnown b k.number m → is_mask (Some k.number) ≡ true
-      → NumberCase And ty mode t a aty b bty k pc rest n m v
-  masked_number start ready n go ty mode t a aty b bty k pc rest m v i known mask =
-      (subst (λ x. NumberCase And x mode t a aty b bty k pc rest n m v) (sym i.result_type)
-      (subst (λ x. NumberCase And (integer i.signed t.bytes) mode t a x b bty k pc rest n m v) (sym i.left_type)
-      (subst (λ x. NumberCase And (integer i.signed t.bytes) mode t a (integer i.left_signed a.bytes) b x k pc rest n m v)
+      (v : View) → AreIntegers slots t a b ty aty bty → IsKnown b k.number m → nat_lt (low_bytes 16 k.number) 256 ≡ true
+      → low_bytes 16 k.number < 256 → MaskedCase And ty mode t a aty b bty k pc rest n m v
+  low_mask_number start ready n go ty mode t a aty b bty k pc rest m v i known test small =
+      (subst (λ x. MaskedCase And x mode t a aty b bty k pc rest n m v) (sym i.result_type)
+      (subst (λ x. MaskedCase And (integer i.signed t.bytes) mode t a x b bty k pc rest n m v) (sym i.left_type)
+      (subst (λ x. MaskedCase And (integer i.signed t.bytes) mode t a (integer i.left_signed a.bytes) b x k pc rest n m v)
       (sym i.right_type)
       (λ behind stands h f. by_told (telling rest) refl behind stands h f))))
     where
@@ -4374,7 +4809,7 @@ module _ (p : PlainProgram) (functions : List PlainIrFunction) (e : Env) (slots 
 
       telling : List PlainIr → Option Told
       telling ops =
-          number_told And (integer i.signed t.bytes) mode t (integer i.left_signed a.bytes) (integer i.right_signed b.bytes) k ops
+          number_told And (integer i.signed t.bytes) mode t a (integer i.left_signed a.bytes) (integer i.right_signed b.bytes) k ops
 
       taken_by : Option Told → List PlainIr → List AsmItem
       taken_by told ops =
@@ -4384,15 +4819,39 @@ module _ (p : PlainProgram) (functions : List PlainIrFunction) (e : Env) (slots 
       code : Option Told → List PlainIr → List AsmItem
       code told ops = taken_by told ops ++ items_told told ops
 
-      by_told : (told : Option Told) → telling rest ≡ told → Behind rest → HasAt e (code (telling rest) rest) pc end
-          → M (number_needs And t a k rest) m v → Rest (suc n) rest → G (suc n) m.state.work pc v (P n own rest m)
-      by_told None q behind stands h f =
-          combined_number_follows And BitAnd refl refl i.signed i.left_signed i.right_signed mode t a b k.number rest n pc m v
-          i.result i.left i.right i.left_bytes i.right_bytes known (subst (λ x. HasAt e (code x rest) pc end) q stands) h f
-      by_told (Some told) q behind stands h f =
-          let z = are_testing t rest (told_taking (Some (as_known k)) false And i.left_signed) told q in
+      -- one byte of the first operand is needed
+      needed : (ops : List PlainIr) → M (masked_needs And t a k ops) m v
+          → M (at_least a.at (min (wanted (needs at ops) t) 1) (without t.at (needs at ops))) m v
+      needed ops h =
           subst
-          (λ ops. Behind ops → HasAt e (code (Some told) ops) pc end → M (number_needs And t a k ops) m v
+          (λ (x : Bool). M (at_least a.at (if x then min (wanted (needs at ops) t) 1 else wanted (needs at ops) t)
+          (without t.at (needs at ops))) m v) test h
+
+      mask_told : (told : Told) → told_taking (Some (as_known k)) false And i.left_signed a.bytes ≡ Some told
+          → is_mask (Some k.number) ≡ true
+      mask_told told q = by_mask (is_mask (Some k.number)) refl
+        where
+          by_mask : (x : Bool) → is_mask (Some k.number) ≡ x → is_mask (Some k.number) ≡ true
+          by_mask true r = r
+          by_mask false r =
+              let no : None ≡ Some told = ap (λ (x : Bool). if x then Some (so_told NotEqual false) else None) (sym r) ∙ q in
+              absurd cc
+
+      by_told : (told : Option Told) → telling rest ≡ told → Behind rest → HasAt e (code (telling rest) rest) pc end
+          → M (masked_needs And t a k rest) m v → Rest (suc n) rest → G (suc n) m.state.work pc v (P n own rest m)
+      by_told None q behind stands h f =
+          masked_number_follows i.signed i.left_signed i.right_signed mode t a b k.number rest n pc m v
+          i.result i.left i.right i.left_bytes i.right_bytes known small
+          (subst (λ (x : Bool). HasAt e ((if x then low_mask_code (home a) (home t) (low_bytes 16 k.number) (wanted (needs at rest) t)
+          else move_code (home a) (home t) (wanted (needs at rest) t)
+          ++ changed_by_code BitAnd (home t) (low_bytes 16 k.number) (wanted (needs at rest) t)) ++ items rest) pc end) test
+          (subst (λ x. HasAt e (code x rest) pc end) q stands))
+          (needed rest h) f
+      by_told (Some told) q behind stands h f =
+          let z = are_testing t rest (told_taking (Some (as_known k)) false And i.left_signed a.bytes) told q in
+          let mask = mask_told told z.by in
+          subst
+          (λ ops. Behind ops → HasAt e (code (Some told) ops) pc end → M (masked_needs And t a k ops) m v
           → G (suc n) m.state.work pc v (P n own ops m)) (sym z.is)
           (λ behind1 stands1 h1.
           let by_flag : Some (so_told NotEqual false) ≡ Some told =
@@ -4403,44 +4862,46 @@ module _ (p : PlainProgram) (functions : List PlainIrFunction) (e : Env) (slots 
           (subst (λ (x : Told). HasAt e (masked_code (home a) (home t) (low_bytes 16 k.number % 256)
           ++ own_told (Some x) (branch_zero t z.l) z.rest) pc end) (sym same)
           (at_use_behind (taken_by (Some told) (branch_zero t z.l ∷ z.rest)) (Some told) (branch_zero t z.l) z.rest pc
-          behind1.covered.0.1 (λ l none. none) stands1)) h1 go)
+          behind1.covered.0.1 (λ l none. none) stands1)) (needed (branch_zero t z.l ∷ z.rest) h1) go)
           behind (subst (λ x. HasAt e (code x rest) pc end) q stands) h
 
-  -- a sum, a difference, OR, or any other AND tells nothing
-  combined_number : (op : BinOp) (o : Operator) → family_of op ≡ Combined o → is_changed o ≡ true → (ty : PlainType) (mode : Mode)
-      (t a : Temp) (aty : PlainType) (b : Temp) (bty : PlainType) (k : TakenNumber) (pc : ℕ) (rest : List PlainIr) (n : ℕ) (m : Mach)
-      (v : View)
-      → AreIntegers slots t a b ty aty bty → IsKnown b k.number m → is_masked (Some (as_known k)) op ≡ false
-      → NumberCase op ty mode t a aty b bty k pc rest n m v
-  combined_number op o is changed ty mode t a aty b bty k pc rest n m v i known unmasked =
-      (subst (λ x. NumberCase op x mode t a aty b bty k pc rest n m v) (sym i.result_type)
-      (subst (λ x. NumberCase op (integer i.signed t.bytes) mode t a x b bty k pc rest n m v) (sym i.left_type)
-      (subst (λ x. NumberCase op (integer i.signed t.bytes) mode t a (integer i.left_signed a.bytes) b x k pc rest n m v)
-      (sym i.right_type)
-      (λ behind stands h f. combined_number_follows op o is changed i.signed i.left_signed i.right_signed mode t a b k.number rest n pc m v
-      i.result i.left i.right i.left_bytes i.right_bytes known
-      (subst (λ x. HasAt e (taking_code (Some (as_known k)) None x i.left_signed i.right_signed (home a) (home b) (home t) a.bytes
-      (wanted (needs at rest) t) ++ items rest) pc end) is
-      (subst (λ x. HasAt e (taking_code (Some (as_known k)) x (family_of op) i.left_signed i.right_signed (home a) (home b) (home t) a.bytes
-      (wanted (needs at rest) t) ++ items_told x rest) pc end)
-      (untold (is_only_tested t (slice_get rest 0) (slice_index (wanted_bytes at rest) 0))
-      (is_apart (family_of op) mode (integer i.signed t.bytes) (integer i.left_signed a.bytes)
-      (integer i.right_signed b.bytes)) i.left_signed)
-      stands))
-      (subst (λ x. M (at_least a.at x (without t.at (needs at rest))) m v)
-      (low_bytes_wanted op o is (compared_bytes (Some (as_known k)) a.bytes) (wanted (needs at rest) t)) h)
-      f))))
-    where
-      none : (apart s : Bool) → told_by apart (family_of op) s ≡ None
-      none true s = refl
-      none false s = ap (λ x. told_of x s) is
+  -- a mask below 255 is one below 256
+  masked_low : (k : ℤ) → is_mask (Some k) ≡ true → nat_lt (low_bytes 16 k) 256 ≡ true
+  masked_low k q =
+      let byte = mask_byte k q in
+      let number = byte_value k byte in
+      lt-ltb (low_bytes 16 k) 256 (subst (λ x. x < 256) (sym (byte_bytes k 16 byte (omega arith))) number.below)
 
-      untold : (only apart s : Bool) → (if only then told_taking (Some (as_known k)) apart op s else None) ≡ None
-      untold false apart s = refl
-      untold true apart s =
-          ap (λ (x : Bool). if x then Some (so_told NotEqual false) else told_by apart (family_of op)
-          (compared_signed (Some (as_known k)) s)) unmasked
-          ∙ none apart (compared_signed (Some (as_known k)) s)
+  not_masked : (op : BinOp) (k : TakenNumber) → is_low_mask (Some k.number) op ≡ false → is_masked (Some (as_known k)) op ≡ false
+  not_masked And k q = by_mask (is_mask (Some k.number)) refl
+    where
+      by_mask : (x : Bool) → is_mask (Some k.number) ≡ x → is_mask (Some k.number) ≡ false
+      by_mask false r = r
+      by_mask true r = absurd (false≢true (sym q ∙ masked_low k.number r))
+  not_masked op k q = refl
+
+  -- a sum, a difference, AND or OR
+  bitwise_number : (start : ℕ) → Ready start all → (n : ℕ) → Onwards n → (op : BinOp) (o : Operator) → family_of op ≡ Combined o
+      → is_changed o ≡ true → (ty : PlainType) (mode : Mode) (t a : Temp) (aty : PlainType) (b : Temp) (bty : PlainType)
+      (k : TakenNumber) (pc : ℕ) (rest : List PlainIr) (m : Mach) (v : View)
+      → AreIntegers slots t a b ty aty bty → IsKnown b k.number m → MaskedCase op ty mode t a aty b bty k pc rest n m v
+  bitwise_number start ready n go op o is changed ty mode t a aty b bty k pc rest m v i known =
+      ⊎_elim
+      (λ (x : IsLowMasked op o k.number). subst (λ u. MaskedCase u ty mode t a aty b bty k pc rest n m v) (sym x.op_is)
+      (low_mask_number start ready n go ty mode t a aty b bty k pc rest m v i known x.test x.small))
+      (λ (x : IsUnmasked op o k.number). without_mask op ty mode t a aty b bty k pc rest n m v x.needs
+      (combined_number op o is changed ty mode t a aty b bty k pc rest n m v i known (not_masked op k x.needs) x.code))
+      (mask_or_not op o k.number is)
+
+  -- comparisons and shifts mask nothing
+  orders_mask_none : (op : BinOp) (r : Relation) (exchanged : Bool) (k : ℤ) → family_of op ≡ Compared r exchanged
+      → is_low_mask (Some k) op ≡ false
+  orders_mask_none And r exchanged k q = absurd cc
+  orders_mask_none op r exchanged k q = refl
+
+  shifts_mask_none : (op : BinOp) (up : Bool) (k : ℤ) → family_of op ≡ Shifted up → is_low_mask (Some k) op ≡ false
+  shifts_mask_none And up k q = absurd cc
+  shifts_mask_none op up k q = refl
 
   -- where both operands are below 256, what is known of the first one
   abbrev IsByte : Temp → TakenNumber → Mach → Type 0
@@ -4448,35 +4909,47 @@ module _ (p : PlainProgram) (functions : List PlainIrFunction) (e : Env) (slots 
       k.in_byte ≡ true → (1 < a.bytes) × (is_byte k.number ≡ true)
       × ((low : ℕ) → m.temps a.at ≡ Some (record { bytes = a.bytes; content = bits low }) → low < 256)
 
+  -- so many bytes of two operands, of which the second one is known to hold a number, stand as the operands do
+  record AreTakenBy (a b : Temp) (k : ℤ) (s : Bool) (size : ℕ) (sign : Bool) (m : Mach) : Type 0 where
+    some : 1 ≤ size
+    within : size ≤ a.bytes
+    left : (low1 : ℕ) → m.temps a.at ≡ Some (record { bytes = a.bytes; content = bits low1 }) → low1 < 256 ^ a.bytes
+        → low1 < 256 ^ size
+    right : (low2 : ℕ) → m.temps b.at ≡ Some (record { bytes = b.bytes; content = bits low2 }) → low_bytes 16 k % 256 ^ size ≡ low2
+    same : (r : Relation) (exchanged : Bool) (low1 low2 : ℕ) → m.temps a.at ≡ Some (record { bytes = a.bytes; content = bits low1 })
+        → m.temps b.at ≡ Some (record { bytes = b.bytes; content = bits low2 })
+        → stand_so r s a.bytes (first_of_two exchanged low1 low2) (first_of_two exchanged low2 low1)
+        ≡ stand_so r sign size (first_of_two exchanged low1 low2) (first_of_two exchanged low2 low1)
+
   -- all bytes are compared
   by_all : (a b : Temp) (k : ℤ) (s : Bool) (m : Mach) → HasHome slots a → b.bytes ≡ a.bytes → IsKnown b k m
-      → AreComparedBy a b k s a.bytes s m
+      → AreTakenBy a b k s a.bytes s m
   by_all a b k s m ia same known =
       record {
         some = ia.some;
         within = omega arith;
-        left = λ low1 low2 qa below. below;
+        left = λ low1 qa below. below;
         right = λ low2 qb.
             let eight = ia.most in
             number_low k a.bytes a.bytes (omega arith) (omega arith)
             ∙ kept_below (low_bytes a.bytes k) (256 ^ a.bytes) (low_below a.bytes k)
             ∙ ap (λ j. low_bytes j k) (sym same) ∙ sym (known low2 qb);
-        same = λ r low1 low2 qa qb. refl;
+        same = λ r exchanged low1 low2 qa qb. refl;
       }
 
   -- the lowest one alone is
   by_byte : (a b : Temp) (k : ℤ) (s : Bool) (m : Mach) → HasHome slots a → b.bytes ≡ a.bytes → IsKnown b k m → 1 < a.bytes
       → is_byte k ≡ true
       → ((low : ℕ) → m.temps a.at ≡ Some (record { bytes = a.bytes; content = bits low }) → low < 256)
-      → AreComparedBy a b k s 1 false m
+      → AreTakenBy a b k s 1 false m
   by_byte a b k s m ia same known more byte below =
       record {
         some = omega arith;
         within = omega (arith, more);
-        left = λ low1 low2 qa l. below low1 qa;
+        left = λ low1 qa l. below low1 qa;
         right = λ low2 qb. low_is 16 (omega arith) ∙ sym (number_is low2 qb);
-        same = λ r low1 low2 qa qb.
-            byte_order r s a.bytes low1 low2 more (below low1 qa) (subst (λ x. x < 256) (sym (number_is low2 qb)) v.below);
+        same = λ r exchanged low1 low2 qa qb. ordered r exchanged low1 low2 (below low1 qa)
+            (subst (λ x. x < 256) (sym (number_is low2 qb)) v.below);
       }
     where
       v : ByteNumber k
@@ -4488,13 +4961,34 @@ module _ (p : PlainProgram) (functions : List PlainIrFunction) (e : Env) (slots 
       number_is : (low2 : ℕ) → m.temps b.at ≡ Some (record { bytes = b.bytes; content = bits low2 }) → low2 ≡ v.value
       number_is low2 qb = known low2 qb ∙ byte_bytes k b.bytes byte (omega (arith, same, more))
 
+      ordered : (r : Relation) (exchanged : Bool) (low1 low2 : ℕ) → low1 < 256 → low2 < 256
+          → stand_so r s a.bytes (first_of_two exchanged low1 low2) (first_of_two exchanged low2 low1)
+          ≡ stand_so r false 1 (first_of_two exchanged low1 low2) (first_of_two exchanged low2 low1)
+      ordered r false low1 low2 l1 l2 = byte_order r s a.bytes low1 low2 more l1 l2
+      ordered r true low1 low2 l1 l2 = byte_order r s a.bytes low2 low1 more l2 l1
+
+  -- the operands stand as the first one stands to the number
+  compared_by : (a b : Temp) (k : ℤ) (r : Relation) (exchanged s sign : Bool) (size : ℕ) (m : Mach) → AreTakenBy a b k s size sign m
+      → HasHome slots a → (exchanged ≡ true → is_order r ≡ true)
+      → AreComparedBy a b r exchanged s (bound_of r exchanged sign size (low_bytes 16 k)) size m
+  compared_by a b k r exchanged s sign size m h ia order =
+      record {
+        some = h.some;
+        within = h.within;
+        left = h.left;
+        same = λ low1 low2 qa qb below. h.same r exchanged low1 low2 qa qb
+            ∙ (let within = h.within in let eight = ia.most in
+            bound_stands r exchanged sign size low1 low2 (low_bytes 16 k) order h.some (omega (arith, within, eight))
+            (h.left low1 qa below) (h.right low2 qb));
+      }
+
   -- a comparison
-  compared_number : (start : ℕ) → Ready start all → (n : ℕ) → Onwards n → (op : BinOp) (r : Relation)
-      → family_of op ≡ Compared r false
+  compared_number : (start : ℕ) → Ready start all → (n : ℕ) → Onwards n → (op : BinOp) (r : Relation) (exchanged : Bool)
+      → family_of op ≡ Compared r exchanged → (exchanged ≡ true → is_order r ≡ true)
       → (ty : PlainType) (mode : Mode) (t a : Temp) (aty : PlainType) (b : Temp) (bty : PlainType) (k : TakenNumber) (pc : ℕ)
       (rest : List PlainIr) (m : Mach) (v : View) → AreCompared slots t a b aty bty → IsKnown b k.number m → IsByte a k m
       → NumberCase op ty mode t a aty b bty k pc rest n m v
-  compared_number start ready n go op r is ty mode t a aty b bty k pc rest m v i known byte =
+  compared_number start ready n go op r exchanged is order ty mode t a aty b bty k pc rest m v i known byte =
       (subst (λ x. NumberCase op ty mode t a x b bty k pc rest n m v) (sym i.left_type)
       (subst (λ x. NumberCase op ty mode t a (integer i.signed a.bytes) b x k pc rest n m v) (sym i.right_type)
       (λ behind stands h f. by_told (telling rest) refl behind stands h f)))
@@ -4508,18 +5002,24 @@ module _ (p : PlainProgram) (functions : List PlainIrFunction) (e : Env) (slots 
       sign : Bool
       sign = compared_signed (Some (as_known k)) i.signed
 
-      by : AreComparedBy a b k.number i.signed size sign m
-      by = by_kind k.in_byte refl
+      taken_so : AreTakenBy a b k.number i.signed size sign m
+      taken_so = by_kind k.in_byte refl
         where
           by_kind : (x : Bool) → k.in_byte ≡ x
-              → AreComparedBy a b k.number i.signed (if x then min 1 a.bytes else a.bytes) (if x then false else i.signed) m
+              → AreTakenBy a b k.number i.signed (if x then min 1 a.bytes else a.bytes) (if x then false else i.signed) m
           by_kind true q =
               let z = byte q in
               let more = z.0 in
               let one : 1 ≡ min 1 a.bytes = omega (arith, more) in
-              subst (λ x. AreComparedBy a b k.number i.signed x false m) one
+              subst (λ x. AreTakenBy a b k.number i.signed x false m) one
               (by_byte a b k.number i.signed m i.left i.same_bytes known more z.1 z.2)
           by_kind false q = by_all a b k.number i.signed m i.left i.same_bytes known
+
+      own_bound : Bound
+      own_bound = bound_of r exchanged sign size (low_bytes 16 k.number)
+
+      by : AreComparedBy a b r exchanged i.signed own_bound size m
+      by = compared_by a b k.number r exchanged i.signed sign size m taken_so i.left order
 
       compared_needed : (ops : List PlainIr) → M (number_needs op t a k ops) m v
           → M (at_least a.at (operand_wanted op size (wanted (needs at ops) t)) (without t.at (needs at ops))) m v
@@ -4527,7 +5027,7 @@ module _ (p : PlainProgram) (functions : List PlainIrFunction) (e : Env) (slots 
           h
 
       telling : List PlainIr → Option Told
-      telling ops = number_told op ty mode t (integer i.signed a.bytes) (integer i.signed b.bytes) k ops
+      telling ops = number_told op ty mode t a (integer i.signed a.bytes) (integer i.signed b.bytes) k ops
 
       taken_by : Option Told → List PlainIr → List AsmItem
       taken_by told ops =
@@ -4539,29 +5039,33 @@ module _ (p : PlainProgram) (functions : List PlainIrFunction) (e : Env) (slots 
       by_told : (told : Option Told) → telling rest ≡ told → Behind rest → HasAt e (code (telling rest) rest) pc end
           → M (number_needs op t a k rest) m v → Rest (suc n) rest → G (suc n) m.state.work pc v (P n own rest m)
       by_told None q behind stands h f =
-          related_number_follows op r is i.signed sign size ty mode t a b k.number rest n pc m v i.result i.left i.right i.same_bytes by
+          related_number_follows op r exchanged is i.signed own_bound size ty mode t a b rest n pc m v i.result i.left i.right
+          i.same_bytes by
           (subst (λ x. HasAt e (taking_code (Some (as_known k)) None x i.signed i.signed (home a) (home b) (home t) a.bytes
           (wanted (needs at rest) t) ++ items rest) pc end) is (subst (λ x. HasAt e (code x rest) pc end) q stands))
           (compared_needed rest h) f
       by_told (Some told) q behind stands h f =
-          let z = are_testing t rest (told_taking (Some (as_known k)) false op i.signed) told q in
+          let z = are_testing t rest (told_taking (Some (as_known k)) false op i.signed a.bytes) told q in
           subst
           (λ ops. Behind ops → HasAt e (code (Some told) ops) pc end → M (number_needs op t a k ops) m v
           → G (suc n) m.state.work pc v (P n own ops m)) (sym z.is)
           (λ behind1 stands1 h1.
-          let by_flag : Some (Operands r sign) ≡ Some told =
-          ap (λ x. told_of x sign) (sym is)
-          ∙ ap (λ (x : Bool). if x then Some (Operands NotEqual false) else told_of (family_of op) sign)
-          (sym (order_unmasked op r false (as_known k) is))
+          let by_flag : Some (so_told own_bound.relation own_bound.signed) ≡ Some told =
+          ap (λ x. told_of (family_taking (Some (as_known k)) x i.signed a.bytes)
+          (signed_taking (Some (as_known k)) x i.signed a.bytes)) (sym is)
+          ∙ ap (λ (x : Bool). if x then Some (so_told NotEqual false)
+          else told_of (family_taking (Some (as_known k)) (family_of op) i.signed a.bytes)
+          (signed_taking (Some (as_known k)) (family_of op) i.signed a.bytes))
+          (sym (order_unmasked op r exchanged (as_known k) is))
           ∙ z.by in
-          let same : Operands r sign ≡ told = cc in
-          told_number_follows start z.l op r is i.signed sign size ty mode t a b k.number z.rest n pc m v ready behind1
-          i.result i.left i.right i.same_bytes by z.none
-          (subst (λ (x : Told). HasAt e (compared_with_code (home a) (low_bytes 16 k.number) size
+          let same : so_told own_bound.relation own_bound.signed ≡ told = cc in
+          told_number_follows start z.l op r exchanged is i.signed own_bound size ty mode t a b z.rest n pc m v ready
+          behind1 i.result i.left i.right i.same_bytes by z.none
+          (subst (λ (x : Told). HasAt e (bounded_code own_bound (home a) size
           ++ own_told (Some x) (branch_zero t z.l) z.rest) pc end) (sym same)
-          (at_use_behind (compared_with_code (home a) (low_bytes 16 k.number) size) (Some told) (branch_zero t z.l) z.rest pc
+          (at_use_behind (bounded_code own_bound (home a) size) (Some told) (branch_zero t z.l) z.rest pc
           behind1.covered.0.1 (λ l none. none)
-          (subst (λ x. HasAt e (told_number_code x (home a) (home t) (low_bytes 16 k.number) size
+          (subst (λ x. HasAt e (told_number_code x sign (home a) (home t) (low_bytes 16 k.number) size
           ++ items_told (Some told) (branch_zero t z.l ∷ z.rest)) pc end) is stands1)))
           (compared_needed (branch_zero t z.l ∷ z.rest) h1) go)
           behind (subst (λ x. HasAt e (code x rest) pc end) q stands) h
@@ -4584,33 +5088,38 @@ module _ (p : PlainProgram) (functions : List PlainIrFunction) (e : Env) (slots 
       (subst (λ x. HasAt e (taking_code (Some (as_known k)) x (family_of op) i.signed i.count_signed (home a) (home b) (home t) a.bytes
       (wanted (needs at rest) t) ++ items_told x rest) pc end)
       (untold (is_only_tested t (slice_get rest 0) (slice_index (wanted_bytes at rest) 0))
-      (is_apart (family_of op) mode (integer i.signed a.bytes) (integer i.signed a.bytes)
+      (is_untold (family_of op) mode (integer i.signed a.bytes) (integer i.signed a.bytes)
       (integer i.count_signed b.bytes)) i.signed)
       stands)) h f))))
     where
       w : ℕ
       w = wanted (needs at rest) t
 
-      none : (apart s : Bool) → told_by apart (family_of op) s ≡ None
+      none : (apart s : Bool) → told_by apart (family_taking (Some (as_known k)) (family_of op) s a.bytes)
+          (signed_taking (Some (as_known k)) (family_of op) s a.bytes) ≡ None
       none true s = refl
-      none false s = ap (λ x. told_of x s) is
+      none false s =
+          ap (λ x. told_of (family_taking (Some (as_known k)) x s a.bytes) (signed_taking (Some (as_known k)) x s a.bytes)) is
 
-      untold : (only apart s : Bool) → (if only then told_taking (Some (as_known k)) apart op s else None) ≡ None
+      untold : (only apart s : Bool) → (if only then told_taking (Some (as_known k)) apart op s a.bytes else None) ≡ None
       untold false apart s = refl
       untold true apart s =
-          ap (λ (x : Bool). if x then Some (so_told NotEqual false) else told_by apart (family_of op)
-          (compared_signed (Some (as_known k)) s))
-          (shift_unmasked op up (as_known k) is) ∙ none apart (compared_signed (Some (as_known k)) s)
+          ap (λ (x : Bool). if x then Some (so_told NotEqual false) else told_by apart
+          (family_taking (Some (as_known k)) (family_of op) s a.bytes) (signed_taking (Some (as_known k)) (family_of op) s a.bytes))
+          (shift_unmasked op up (as_known k) is)
+          ∙ none apart s
 
       -- no byte becomes 0
-      all_shifted : (s : Bool) → a.bytes ≡ t.bytes
+      all_shifted : (s : Bool) → a.bytes ≡ t.bytes → leaves_bit s (home t) a.bytes w (low_bytes 16 k.number % 256) ≡ false
           → counted_by_code false s (home a) (home t) a.bytes w (low_bytes 16 k.number % 256)
           ≡ counted_code (Right s) (home a) (home t) a.bytes (low_bytes 16 k.number % 256)
-      all_shifted s same =
+      all_shifted s same top_is =
           let most = wanted_most (needs at rest) t in
           let few : nat_le w a.bytes ≡ true = le-leb w a.bytes (omega (arith, most, same)) in
           let code = counted_code (Right s) (home a) (home t) a.bytes (low_bytes 16 k.number % 256) in
-          ap (λ (x : Bool). code ++ (if x then [] else widen_code false (home t) a.bytes (w - a.bytes))) few ∙ append-nil code
+          ap (λ (x : Bool). if x then move_code (home a) (home t) a.bytes ++ top_bit_code (home t) a.bytes
+          else code ++ extend_code false (home t) a.bytes w) top_is
+          ∙ ap (λ (x : Bool). code ++ (if x then [] else widen_code false (home t) a.bytes (w - a.bytes))) few ∙ append-nil code
 
       by_way : (s s2 : Bool) → HasHome slots t → HasHome slots a → HasHome slots b → a.bytes ≡ t.bytes → (u : Bool)
           → family_of op ≡ Shifted u → (x : Bool) → k.in_byte ≡ x
@@ -4625,9 +5134,29 @@ module _ (p : PlainProgram) (functions : List PlainIrFunction) (e : Env) (slots 
           (operand_wanted op (if x then min 1 a.bytes else a.bytes) w) rest n pc m v it ia ib same known
           (λ z. first_shifted op true is (if x then min 1 a.bytes else a.bytes) w z) stands h f
       by_way s s2 it ia ib same false is false q stands h f =
-          shifted_number_follows op false is s s2 mode t a b k.number (operand_wanted op a.bytes w) rest n pc m v it ia ib same known
-          (λ z. first_shifted op false is a.bytes w z)
-          (subst (λ (x : List AsmItem). HasAt e ((if w == 0 then [] else x) ++ items rest) pc end) (all_shifted s same) stands) h f
+          by_bit (leaves_bit s (home t) a.bytes w (low_bytes 16 k.number % 256)) refl
+        where
+          by_bit : (x : Bool) → leaves_bit s (home t) a.bytes w (low_bytes 16 k.number % 256) ≡ x
+              → G (suc n) m.state.work pc v
+              (P n (binary_op op (integer s a.bytes) mode t a (integer s a.bytes) b (integer s2 b.bytes)) rest m)
+          by_bit false top_is =
+              shifted_number_follows op false is s s2 mode t a b k.number (operand_wanted op a.bytes w) rest n pc m v it ia ib same known
+              (λ z. first_shifted op false is a.bytes w z)
+              (subst (λ (x : List AsmItem). HasAt e ((if w == 0 then [] else x) ++ items rest) pc end) (all_shifted s same top_is) stands)
+              h f
+          by_bit true top_is =
+              let u = leaves_top_bit s (home t) a.bytes w (low_bytes 16 k.number % 256) top_is in
+              let some : (w == 0) ≡ false = ap (λ x. x == 0) u.one in
+              subst (λ x. G (suc n) m.state.work pc v
+              (P n (binary_op op (integer x a.bytes) mode t a (integer x a.bytes) b (integer s2 b.bytes)) rest m)) (sym u.plain)
+              (top_bit_follows op is s2 mode t a b k.number u.register rest n pc m v it ia ib same known u.is u.one u.count
+              (subst (λ x. HasAt e ((move_code (home a) (home t) a.bytes ++ top_bit_code x a.bytes) ++ items rest) pc end) u.is
+              (subst (λ (x : Bool). HasAt e ((if x then move_code (home a) (home t) a.bytes ++ top_bit_code (home t) a.bytes
+              else counted_code (Right s) (home a) (home t) a.bytes (low_bytes 16 k.number % 256)
+              ++ extend_code false (home t) a.bytes w) ++ items rest) pc end) top_is
+              (subst (λ (x : Bool). HasAt e ((if x then [] else counted_by_code false s (home a) (home t) a.bytes w
+              (low_bytes 16 k.number % 256)) ++ items rest) pc end) some stands)))
+              (subst (λ x. M (at_least a.at x (without t.at (needs at rest))) m v) (first_shifted op false is a.bytes w some) h) f)
       by_way s s2 it ia ib same false is true q stands h f =
           let z = byte q in
           let more = z.0 in
@@ -4640,26 +5169,20 @@ module _ (p : PlainProgram) (functions : List PlainIrFunction) (e : Env) (slots 
   number_follows : (start : ℕ) → Ready start all → (n : ℕ) → Onwards n → (op : BinOp) (ty : PlainType) (mode : Mode)
       (t a : Temp) (aty : PlainType) (b : Temp) (bty : PlainType) (k : TakenNumber) (pc : ℕ) (rest : List PlainIr) (m : Mach) (v : View)
       → takes_number op ≡ true → IsBinary (family_of op) slots t a b ty aty bty → IsKnown b k.number m → IsByte a k m
-      → NumberCase op ty mode t a aty b bty k pc rest n m v
+      → MaskedCase op ty mode t a aty b bty k pc rest n m v
   number_follows start ready n go op ty mode t a aty b bty k pc rest m v taken i known byte =
       ⊎_elim
-      (λ (x : TakesSum op). by_mask x (is_masked (Some (as_known k)) op) refl)
+      (λ (x : TakesSum op). bitwise_number start ready n go op x.operator x.is x.changed ty mode t a aty b bty k pc rest m v
+      (subst (λ z. IsBinary z slots t a b ty aty bty) x.is i) known)
       (λ (z : TakesOrder op ⊎ TakesShift op). ⊎_elim
-      (λ (x : TakesOrder op). compared_number start ready n go op x.relation x.is ty mode t a aty b bty k pc rest m v
-      (subst (λ z. IsBinary z slots t a b ty aty bty) x.is i) known byte)
-      (λ (x : TakesShift op). shifted_number op x.up x.is ty mode t a aty b bty k pc rest n m v
-      (subst (λ z. IsBinary z slots t a b ty aty bty) x.is i) known byte) z)
+      (λ (x : TakesOrder op). without_mask op ty mode t a aty b bty k pc rest n m v
+      (orders_mask_none op x.relation x.exchanged k.number x.is)
+      (compared_number start ready n go op x.relation x.exchanged x.is x.order ty mode t a aty b bty k pc rest m v
+      (subst (λ z. IsBinary z slots t a b ty aty bty) x.is i) known byte))
+      (λ (x : TakesShift op). without_mask op ty mode t a aty b bty k pc rest n m v (shifts_mask_none op x.up k.number x.is)
+      (shifted_number op x.up x.is ty mode t a aty b bty k pc rest n m v
+      (subst (λ z. IsBinary z slots t a b ty aty bty) x.is i) known byte)) z)
       (takes op taken)
-    where
-      by_mask : TakesSum op → (x : Bool) → is_masked (Some (as_known k)) op ≡ x → NumberCase op ty mode t a aty b bty k pc rest n m v
-      by_mask s true q =
-          let is = masked_is op (as_known k) q in
-          subst (λ z. NumberCase z ty mode t a aty b bty k pc rest n m v) (sym is.0)
-          (masked_number start ready n go ty mode t a aty b bty k pc rest m v
-          (subst (λ z. IsBinary (family_of z) slots t a b ty aty bty) is.0 i) known is.1)
-      by_mask s false q =
-          combined_number op s.operator s.is s.changed ty mode t a aty b bty k pc rest n m v
-          (subst (λ z. IsBinary z slots t a b ty aty bty) s.is i) known q
 
   -- two operands that are known to be below 256
   record AreLow (a b : Temp) (m : Mach) : Type 0 where
@@ -4745,7 +5268,7 @@ module _ (p : PlainProgram) (functions : List PlainIrFunction) (e : Env) (slots 
       alive q false low1 low2 qa qb is stands =
           let needed = low_needed op r false is t a b rest m v q h in
           let held = low_hold op t a b need low1 low2 m v ia ib low qa qb needed in
-          let code = relation_code r false (home a) (home b) 1 ++ conversion_code false (InRegisters 30) (home t) 1 w in
+          let code = relation_in_code (truth_register (home t)) r false (home a) (home b) 1 ++ truth_at_code (home t) w in
           related_passes r false t a b 0 low1 low2 c rest n pc m.state.work (operands_needed op t a b 1 1 need) m v it ia ib
           ia.some ib.some (omega arith) held.0 held.1
           (omega (arith, relation_big op ty (integer s a.bytes) (integer s b.bytes)))
@@ -4754,7 +5277,7 @@ module _ (p : PlainProgram) (functions : List PlainIrFunction) (e : Env) (slots 
       alive q true low1 low2 qa qb is stands =
           let needed = low_needed op r true is t a b rest m v q h in
           let held = low_hold op t a b need low1 low2 m v ia ib low qa qb needed in
-          let code = relation_code r false (home b) (home a) 1 ++ conversion_code false (InRegisters 30) (home t) 1 w in
+          let code = relation_in_code (truth_register (home t)) r false (home b) (home a) 1 ++ truth_at_code (home t) w in
           related_passes r false t b a 0 low2 low1 c rest n pc m.state.work (operands_needed op t a b 1 1 need) m v it ib ia
           ib.some ia.some (omega arith) held.1 held.0
           (omega (arith, relation_big op ty (integer s a.bytes) (integer s b.bytes)))
@@ -4822,7 +5345,7 @@ module _ (p : PlainProgram) (functions : List PlainIrFunction) (e : Env) (slots 
   abbrev bytes_told : BinOp → PlainType → Mode → Temp → (aty bty : PlainType) → List PlainIr → Option Told
   bytes_told op ty mode t aty bty rest =
       if is_only_tested t (slice_get rest 0) (slice_index (wanted_bytes at rest) 0)
-      then told_by (is_apart (family_of op) mode ty aty bty) (family_of op) false else None
+      then told_by (is_untold (family_of op) mode ty aty bty) (family_of op) false else None
 
   abbrev bytes_items : BinOp → PlainType → Mode → (t a : Temp) → PlainType → Temp → PlainType → List PlainIr → List AsmItem
   bytes_items op ty mode t a aty b bty rest =
@@ -4910,6 +5433,81 @@ module _ (p : PlainProgram) (functions : List PlainIrFunction) (e : Env) (slots 
               → bytes_code (Some told) (Compared r x) (home a) (home b) (home t) 1 w ≡ flag_code (Compared r x) (home a) (home b) 1
           flags false w told = refl
           flags true w told = refl
+
+  -- ---- operators whose second operand alone is below 256
+
+  joined_follows : (op : BinOp) (o : Operator) → family_of op ≡ Combined o → is_joined o ≡ true → (s s1 s2 : Bool) (mode : Mode)
+      (t a b : Temp) (rest : List PlainIr) (n pc : ℕ) (m : Mach) (v : View) → HasHome slots t → HasHome slots a
+      → HasHome slots b → a.bytes ≡ t.bytes → b.bytes ≡ t.bytes → IsAlone t b m.temps
+      → HasAt e (joined_code o (home a) (home b) (home t) (wanted (needs at rest) t) ++ items rest) pc end
+      → M (operands_needed op t a b (wanted (needs at rest) t) (min (wanted (needs at rest) t) 1) (needs at rest)) m v
+      → Rest (suc n) rest
+      → G (suc n) m.state.work pc v
+      (P n (binary_op op (integer s t.bytes) mode t a (integer s1 a.bytes) b (integer s2 b.bytes)) rest m)
+  joined_follows op o is join s s1 s2 mode t a b rest n pc m v it ia ib sa sb alone stands h f =
+      let need = needs at rest in
+      let i = binary_op op (integer s t.bytes) mode t a (integer s1 a.bytes) b (integer s2 b.bytes) in
+      let c = op_steps i in
+      let st = worked c m.state in
+      let k = wanted need t in
+      let one = min k 1 in
+      let few : one ≤ k = omega arith in
+      let most = wanted_most need t in
+      let first = move_code (home a) (home t) k in
+      let second = operate_code o (home b) (home t) one in
+      let code = first ++ second in
+      let big : 10 * k + 1 ≤ c = operator_big op (integer s t.bytes) (integer s1 a.bytes) (integer s2 b.bytes) k most in
+      let straight : all_straight code ≡ true =
+      straight-append first second (move_straight (home a) (home t) k) (pieces_are_straight o (home b) (home t) one).1 in
+      let x = move_steps (home a) (home t) k in
+      let z = (pieces_take o (home b) (home t) one).1.1 in
+      let steps = steps-append first second in
+      from_number p place e s1 a m.temps st _ (suc n) m.state.work pc v
+      (λ low1 qa. from_number p place e s2 b m.temps st _ (suc n) m.state.work pc v
+      (λ low2 qb.
+      let below1 : low1 < 256 ^ t.bytes = subst (λ x. low1 < 256 ^ x) sa (h.temps_hold a _ ia qa refl).1 in
+      let below2 : low2 < 256 ^ t.bytes = subst (λ x. low2 < 256 ^ x) sb (h.temps_hold b _ ib qb refl).1 in
+      let g = gives_of op o is p mode s s1 s2 t.bytes a.bytes b.bytes low1 low2 st st sa sb below1 below2 in
+      let m1 = after_operator t (low_bytes t.bytes g.number) c m in
+      let matches : M need (after_operator t (result_of o t.bytes low1 low2) c m) (block e code v) =
+      joined_matches p e slots home base place y o join t a b need m v c low1 low2 it ia ib sa sb alone.apart (alone.below low2 qb)
+      qa qb h in
+      let matches1 : M need m1 (block e code v) =
+      subst (λ r. M need (after_operator t r c m) (block e code v)) (sym g.low) matches in
+      subst (λ r. G (suc n) m.state.work pc v (next (given r st) (λ u s3. R (suc n) rest (machine (with_temp t u m.temps) s3)))) (sym g.is)
+      (goes_past code (items rest) (suc n) (suc n) m.state.work m1.state.work pc v (R (suc n) rest m1) stands straight (omega arith)
+      (omega (arith, x, z, few, steps, big))
+      (λ mid u. f mid m1 _ u matches1))))
+
+  joined_integers : (op : BinOp) (o : Operator) → family_of op ≡ Combined o → is_joined o ≡ true → (ty : PlainType) (mode : Mode)
+      (t a : Temp) (aty : PlainType) (b : Temp) (bty : PlainType) (pc : ℕ) (rest : List PlainIr) (n : ℕ) (m : Mach) (v : View)
+      → AreIntegers slots t a b ty aty bty → IsAlone t b m.temps
+      → HasAt e (joined_code o (home a) (home b) (home t) (wanted (needs at rest) t) ++ items rest) pc end
+      → M (operands_needed op t a b (operand_wanted op a.bytes (wanted (needs at rest) t))
+      (right_wanted op b.bytes (min (wanted (needs at rest) t) 1)) (needs at rest)) m v → Rest (suc n) rest
+      → G (suc n) m.state.work pc v (P n (binary_op op ty mode t a aty b bty) rest m)
+  joined_integers op o is join ty mode t a aty b bty pc rest n m v i alone stands h f =
+      (subst (λ x. G (suc n) m.state.work pc v (P n (binary_op op x mode t a aty b bty) rest m)) (sym i.result_type)
+      (subst (λ x. G (suc n) m.state.work pc v (P n (binary_op op (integer i.signed t.bytes) mode t a x b bty) rest m)) (sym i.left_type)
+      (subst (λ x. G (suc n) m.state.work pc v (P n (binary_op op (integer i.signed t.bytes) mode t a (integer i.left_signed a.bytes) b x)
+      rest m)) (sym i.right_type)
+      (joined_follows op o is join i.signed i.left_signed i.right_signed mode t a b rest n pc m v i.result i.left i.right
+      i.left_bytes i.right_bytes alone stands
+      (subst (λ x. M (operands_needed op t a b (wanted (needs at rest) t) x (needs at rest)) m v)
+      (low_right_wanted op o is b.bytes (min (wanted (needs at rest) t) 1))
+      (subst (λ x. M (operands_needed op t a b x (right_wanted op b.bytes (min (wanted (needs at rest) t) 1)) (needs at rest)) m v)
+      (low_bytes_wanted op o is a.bytes (wanted (needs at rest) t)) h)) f))))
+
+  -- they tell nothing
+  untold_joined : (op : BinOp) → changes_byte op ≡ true → (only apart s : Bool) (bytes : ℕ)
+      → (if only then told_taking (Some (no_number false)) apart op s bytes else None) ≡ None
+  untold_joined Or q false apart s bytes = refl
+  untold_joined Or q true true s bytes = refl
+  untold_joined Or q true false s bytes = refl
+  untold_joined Xor q false apart s bytes = refl
+  untold_joined Xor q true true s bytes = refl
+  untold_joined Xor q true false s bytes = refl
+  untold_joined op q only apart s bytes = absurd cc
 
   -- ---- operators on numbers of one fixed-point format, which are those of the integers of their bytes
 
@@ -5054,7 +5652,7 @@ module _ (p : PlainProgram) (functions : List PlainIrFunction) (e : Env) (slots 
       (t a : Temp) (aty : PlainType) (b : Temp) (bty : PlainType) (number : TakenNumber) (pc : ℕ) (rest : List PlainIr) (m : Mach)
       (v : View) → takes_number op ≡ true → IsKnown b number.number m → IsByte a number m
       → is_on_integers (family_of op) mode ty aty bty ≡ true → IsOnWholes slots op mode t a b ty aty bty
-      → NumberCase op ty mode t a aty b bty number pc rest n m v
+      → MaskedCase op ty mode t a aty b bty number pc rest n m v
   on_number_follows start ready n go op ty mode t a aty b bty number pc rest m v taken known byte on h behind stands needed f =
       as_integers op ty mode t a aty b bty pc rest n m v h
       ((subst (λ x. done x bty) (sym h.left_is) (subst (λ x. done (fixed k s1) x) (sym h.right_is) run)) on stands)
@@ -5091,13 +5689,13 @@ module _ (p : PlainProgram) (functions : List PlainIrFunction) (e : Env) (slots 
           number_follows start ready n go op h.result mode t a (whole_type k) b (whole_type k) number pc rest m v taken h.binary known byte
           behind
           (subst (λ z. HasAt e
-          (items_telling (if only then told_taking (Some (as_known number)) (not z) op sign else None)) pc end) on own)
+          (items_telling (if only then told_taking (Some (as_known number)) (not z) op sign a.bytes else None)) pc end) on own)
           needed f
 
   -- where an operand is no integer, no number is taken
   none_taken : (op : BinOp) (known : Option RightNumber) (whole : Bool) → whole ≡ true → number_taken known whole op ≡ None
   none_taken op None whole q = refl
-  none_taken op (Some k) whole q = ap (λ x. if not x && takes_known k.number op then Some k else None) q
+  none_taken op (Some k) whole q = ap (λ x. if not x && takes_known k.number k.in_byte op then Some k else None) q
 
   -- of the code of one kind, that of the others says nothing
   other_same : (own : Bool) (c g x : List AsmItem) → own ≡ false → code_by_kind own c x ≡ code_by_kind own g x
@@ -5142,7 +5740,7 @@ module _ (p : PlainProgram) (functions : List PlainIrFunction) (e : Env) (slots 
       known = at.known (i ∷ rest)
 
       telling : Option Told
-      telling = tells_next p at None i rest
+      telling = tells_next link.core p home at None i rest
 
       w : ℕ
       w = wanted (needs at rest) t
@@ -5165,14 +5763,15 @@ module _ (p : PlainProgram) (functions : List PlainIrFunction) (e : Env) (slots 
       of_fixed : List AsmItem
       of_fixed = fixed_binary known telling op ty aty bty mode (home a) (home b) (home t) a.bytes w
 
-      of_pointers : Option RightNumber → List AsmItem
-      of_pointers x = pointer_binary x link.core (is_pointer aty) (is_pointer bty) p op aty bty (home a) (home b) (home t) a.bytes b.bytes w
+      of_pointers : Option Told → Option RightNumber → List AsmItem
+      of_pointers told x =
+          pointer_binary x told link.core (is_pointer aty) (is_pointer bty) p op aty bty (home a) (home b) (home t) a.bytes b.bytes w
 
       -- what it tells where so much of the second operand is taken
       telling_with : Option RightNumber → Option Told
       telling_with taken =
           if is_only_tested t (slice_get rest 0) (slice_index (wanted_bytes at rest) 0)
-          then told_taking taken (is_apart (family_of op) mode ty aty bty) op (is_signed aty) else None
+          then told_taking taken (is_untold (family_of op) mode ty aty bty) op (is_signed aty) a.bytes else None
 
       of_integers : Option RightNumber → List AsmItem
       of_integers taken =
@@ -5187,7 +5786,7 @@ module _ (p : PlainProgram) (functions : List PlainIrFunction) (e : Env) (slots 
           ≡ integer_code x told op (is_signed aty) (is_signed bty) (home a) (home b) (home t) a.bytes w
       code_on fx on x told =
           ap (λ z. code_by_kind z (fixed_binary x told op ty aty bty mode (home a) (home b) (home t) a.bytes w)
-          (code_by_kind is_px (of_pointers x)
+          (code_by_kind is_px (of_pointers told x)
           (integer_code x told op (is_signed aty) (is_signed bty) (home a) (home b) (home t) a.bytes w))) fx
           ∙ ap
           (λ z. if z then integer_code x told op (is_signed aty) (is_signed bty) (home a) (home b) (home t) a.bytes w
@@ -5209,47 +5808,98 @@ module _ (p : PlainProgram) (functions : List PlainIrFunction) (e : Env) (slots 
 
       needs_with : (apart : Bool) → (taken second : Option RightNumber) → Need
       needs_with apart taken second =
-          at_least a.at (first_wanted apart op (compared_bytes taken a.bytes) w)
-          (right_needed second b.at (second_wanted apart op (compared_bytes taken b.bytes) w) (without t.at (needs at rest)))
+          at_least a.at (first_wanted apart op (compared_bytes taken a.bytes) (masked_bytes taken op w))
+          (right_needed second b.at (second_wanted apart op (compared_bytes taken b.bytes) (joined_bytes taken w))
+          (without t.at (needs at rest)))
+
+      -- where the first operand is a pointer that is moved, or the second one
+      needs_moving : (first last apart : Bool) → (taken second : Option RightNumber) → Need
+      needs_moving first last apart taken second =
+          at_least a.at (moved_wanted first w (first_wanted apart op (compared_bytes taken a.bytes) (masked_bytes taken op w)))
+          (right_needed second b.at (moved_wanted last w (second_wanted apart op (compared_bytes taken b.bytes) (joined_bytes taken w)))
+          (without t.at (needs at rest)))
 
       -- an operator that shifts no fixed-point number takes any number where it moves a pointer
-      moving_needs : is_fx ≡ false
-          → M (needs_with is_ax (number_taken known is_ax op) (right_taken known (moves_pointer op aty bty) is_ax op)) m v
+      moving_needs : is_fx ≡ false → M (needs_moving (moves_pointer op aty bty) (moves_pointer op bty aty) is_ax
+          (number_taken known is_ax op) (right_taken known (moves_pointer op aty bty) is_ax op)) m v
       moving_needs fx =
-          subst (λ x. M (needs_with is_ax (number_taken known is_ax op) (right_taken known x is_ax op)) m v)
+          subst (λ x. M (needs_moving (moves_pointer op aty bty) (moves_pointer op bty aty) is_ax (number_taken known is_ax op)
+          (right_taken known x is_ax op)) m v)
           (uncounted_takes op mode ty aty bty t b (not_counted op mode ty aty bty t b fx)) h
 
       -- one that moves no pointer takes a count
-      unmoved_needs : moves_pointer op aty bty ≡ false
+      unmoved_needs : moves_pointer op aty bty ≡ false → moves_pointer op bty aty ≡ false
           → M (needs_with is_ax (number_taken known is_ax op) (right_taken known counted is_ax op)) m v
-      unmoved_needs q =
-          subst (λ x. M (needs_with is_ax (number_taken known is_ax op) (right_taken known x is_ax op)) m v)
-          (unmoved_takes op mode ty aty bty t b q) h
+      unmoved_needs q r =
+          subst (λ x. M (needs_moving false x is_ax (number_taken known is_ax op) (right_taken known counted is_ax op)) m v) r
+          (subst (λ x. M (needs_moving x (moves_pointer op bty aty) is_ax (number_taken known is_ax op)
+          (right_taken known counted is_ax op)) m v) q
+          (subst (λ x. M (needs_moving (moves_pointer op aty bty) (moves_pointer op bty aty) is_ax (number_taken known is_ax op)
+          (right_taken known x is_ax op)) m v)
+          (unmoved_takes op mode ty aty bty t b q) h))
 
       -- and where it is not apart, the number that is taken is that of integers
-      taken_needs : moves_pointer op aty bty ≡ false → counted ≡ false → is_ax ≡ false
+      taken_needs : moves_pointer op aty bty ≡ false → moves_pointer op bty aty ≡ false → counted ≡ false → is_ax ≡ false
           → M (needs_with false (number_taken known false op) (numbered (number_taken known false op))) m v
-      taken_needs unmoved uncounted ax =
+      taken_needs unmoved turned uncounted ax =
           subst (λ x. M (needs_with x (number_taken known x op) (numbered (number_taken known x op))) m v) ax
           (subst (λ x. M (needs_with is_ax (number_taken known is_ax op) x) m v) (right_same known counted is_ax op uncounted)
-          (unmoved_needs unmoved))
+          (unmoved_needs unmoved turned))
 
-      own_needs : moves_pointer op aty bty ≡ false → is_ax ≡ true → count_taken known counted ≡ false → M (plain_needs i rest) m v
-      own_needs unmoved q none =
+      own_needs : moves_pointer op aty bty ≡ false → moves_pointer op bty aty ≡ false → is_ax ≡ true → count_taken known counted ≡ false
+          → M (plain_needs i rest) m v
+      own_needs unmoved turned q none =
           subst (λ x. M (needs_with is_ax x None) m v) (none_taken op known is_ax q)
           (subst (λ x. M (needs_with is_ax (number_taken known is_ax op) x) m v)
-          (right_none known counted is_ax op none (none_taken op known is_ax q)) (unmoved_needs unmoved))
+          (right_none known counted is_ax op none (none_taken op known is_ax q)) (unmoved_needs unmoved turned))
 
       on_pointers : IsPointerBinary p slots op t a b ty aty bty → G (suc n) m.state.work pc v (P n i rest m)
       on_pointers k =
           let wx : is_wx ≡ true = either_whole aty bty k.pointer in
           let fx = no_fixed_operand p slots op t a b ty aty bty k in
           let ax : is_ax ≡ true = ap (λ z. z && not is_on) wx ∙ ap not (none_on_integers op mode ty aty bty fx) in
-          pointer_binary_follows p functions e slots home base place y labels all end results me link stack known op ty mode t a aty b bty
-          rest n pc m v (λ number held_so. number_there (known_at all (i ∷ rest)) a b bty number m.temps held_so held) k
-          (whole_stands ax)
-          (subst (λ x. M (needs_with x (number_taken known x op) (right_taken known (moves_pointer op aty bty) x op)) m v) (ax ∙ sym wx)
-          (moving_needs fx)) r.here.core f
+          by_told ax wx fx (telling_with None) refl
+        where
+          by_told : is_ax ≡ true → is_wx ≡ true → is_fx ≡ false → (told : Option Told) → telling_with None ≡ told
+              → G (suc n) m.state.work pc v (P n i rest m)
+          by_told ax wx fx None q =
+              pointer_binary_follows p functions e slots home base place y labels all end results me link stack known op ty mode t a aty b
+              bty rest n pc m v
+              (λ number held_so. number_there (known_at all (i ∷ rest)) (takes_alone op t b) a b bty number m.temps held_so held) k
+              (subst (λ x. HasAt e (own_code p home link None x known (needs at rest) i ++ items_told x rest) pc end) q (whole_stands ax))
+              (subst (λ x. M (needs_moving (moves_pointer op aty bty) (moves_pointer op bty aty) x (number_taken known x op)
+              (right_taken known (moves_pointer op aty bty) x op)) m v) (ax ∙ sym wx) (moving_needs fx)) r.here.core f
+          by_told ax wx fx (Some told) q =
+              let z = are_testing t rest (told_taking None (is_untold (family_of op) mode ty aty bty) op (is_signed aty) a.bytes) told q in
+              let both = told_pointers (is_pointer aty) (is_pointer bty) is_ax (family_of op) (is_signed aty) told ax z.by in
+              let uncounted = none_counted known counted (not_counted op mode ty aty bty t b fx) in
+              shown z.l z.rest z.is z.none told z.by (pointer_type aty both.0) (pointer_type bty both.1)
+              (subst (λ x. HasAt e (own_code p home link None x known (needs at rest) i ++ items_told x rest) pc end) q (whole_stands ax))
+              (own_needs (both_unmoved op aty bty both.1) (both_unmoved op bty aty both.0) ax uncounted)
+            where
+              -- of operands with these types, and the operations behind
+              Shown : Told → (x y : PlainType) → List PlainIr → Type 0
+              Shown told x y after =
+                  Behind after → IsPointerBinary p slots op t a b ty x y
+                  → told_taking None (is_untold (family_of op) mode ty x y) op (is_signed x) a.bytes ≡ Some told
+                  → HasAt e (own_code p home link None (Some told) known (needs at after) (binary_op op ty mode t a x b y)
+                  ++ items_told (Some told) after) pc end
+                  → M (plain_needs (binary_op op ty mode t a x b y) after) m v
+                  → G (suc n) m.state.work pc v (P n (binary_op op ty mode t a x b y) after m)
+
+              shown : (l : ℕ) (ops : List PlainIr) → rest ≡ branch_zero t l ∷ ops → wanted (either (needs at ops) (labels l)) t ≡ 0
+                  → (told : Told) → told_taking None (is_untold (family_of op) mode ty aty bty) op (is_signed aty) a.bytes ≡ Some told
+                  → IsPointerType aty → IsPointerType bty
+                  → HasAt e (own_code p home link None (Some told) known (needs at rest) i ++ items_told (Some told) rest) pc end
+                  → M (plain_needs i rest) m v → G (suc n) m.state.work pc v (P n i rest m)
+              shown l ops is none told by x y there needed =
+                  (subst (λ z. Shown told z bty rest) (sym x.is) (subst (λ z. Shown told (pointer x.space x.const x.to) z rest) (sym y.is)
+                  (subst (λ z. Shown told (pointer x.space x.const x.to) (pointer y.space y.const y.to) z) (sym is)
+                  (λ behind1 k1 by1 there1 needed1. two_told start l op ty mode t a x.space x.const x.to b y.space y.const y.to ops
+                  n pc m v told by1 ready behind1 k1.result k1 none
+                  (at_use_behind (pointers_code (Some told) link.core (family_of op) (home a) (home b) (home t) a.bytes
+                  (element_size p (pointer x.space x.const x.to)) (wanted (needs at (branch_zero t l ∷ ops)) t)) (Some told)
+                  (branch_zero t l) ops pc behind1.covered.0.1 (λ l none. none) there1) needed1 r.here.core go)))) behind k by there needed
 
       -- a shift by a known count
       on_count : IsFixedBinary slots op t a b ty aty bty → is_ax ≡ true → TakesCount known counted
@@ -5257,12 +5907,12 @@ module _ (p : PlainProgram) (functions : List PlainIrFunction) (e : Env) (slots 
       on_count k ax c =
           let needed : M (needs_with is_ax None (right_taken known counted is_ax op)) m v =
           subst (λ x. M (needs_with is_ax x (right_taken known counted is_ax op)) m v) (none_taken op known is_ax ax)
-          (unmoved_needs (fixed_unmoved op aty bty k.types.fixed)) in
+          (unmoved_needs (fixed_unmoved op aty bty k.types.fixed) (turned_unmoved op aty bty k.types.fixed)) in
           let by_number : M (needs_with is_ax None (right_taken (Some (as_known c.number)) true is_ax op)) m v =
           subst (λ x. M (needs_with is_ax None (right_taken (Some (as_known c.number)) x is_ax op)) m v) c.counted_so
           (subst (λ x. M (needs_with is_ax None (right_taken x counted is_ax op)) m v) c.known_is needed) in
           fixed_counted_follows c.number op ty mode t a aty b bty rest n pc m v
-          (right_held (known_at all (i ∷ rest)) a b bty c.number m.temps c.known_is held).number k
+          (right_held (known_at all (i ∷ rest)) (takes_alone op t b) a b bty c.number m.temps c.known_is held).number k
           (counted_is op mode ty aty bty t b c.counted_so)
           (subst (λ x. HasAt e (known_items x i rest) pc end) c.known_is (whole_stands ax)) by_number f
 
@@ -5275,8 +5925,9 @@ module _ (p : PlainProgram) (functions : List PlainIrFunction) (e : Env) (slots 
           by_count : (x : Bool) → count_taken known counted ≡ x → G (suc n) m.state.work pc v (P n i rest m)
           by_count false q =
               fixed_binary_follows known op ty mode t a aty b bty rest n pc m v
-              (λ number held_so. number_there (known_at all (i ∷ rest)) a b bty number m.temps held_so held) k apart (whole_stands ax)
-              (own_needs (fixed_unmoved op aty bty k.types.fixed) ax q) f
+              (λ number held_so. number_there (known_at all (i ∷ rest)) (takes_alone op t b) a b bty number m.temps held_so held)
+              k apart (whole_stands ax)
+              (own_needs (fixed_unmoved op aty bty k.types.fixed) (turned_unmoved op aty bty k.types.fixed) ax q) f
           by_count true q = on_count k ax (count_is_taken known counted q)
 
       -- numbers of one format, as the integers of their bytes
@@ -5293,7 +5944,9 @@ module _ (p : PlainProgram) (functions : List PlainIrFunction) (e : Env) (slots 
           wholes = on_wholes slots op mode t a b ty aty bty k on
 
           needed : M (needs_with false (number_taken known false op) (numbered (number_taken known false op))) m v
-          needed = taken_needs (fixed_unmoved op aty bty k.types.fixed) (on_uncounted op mode ty aty bty t b on) ax
+          needed =
+              taken_needs (fixed_unmoved op aty bty k.types.fixed) (turned_unmoved op aty bty k.types.fixed)
+              (on_uncounted op mode ty aty bty t b on) ax
 
           -- the code where so much of the second operand is taken
           items_with : Option RightNumber → List AsmItem
@@ -5318,7 +5971,8 @@ module _ (p : PlainProgram) (functions : List PlainIrFunction) (e : Env) (slots 
               ⊎_elim
               (λ (x : HasNumber taken). with_number x.taken (q ∙ ap Some x.is))
               (λ (x : taken ≡ no_number taken.in_byte).
-              absurd (on_no_bytes (known_at all (i ∷ rest)) a b bty wholes.kind wholes.second_saturates taken.in_byte wholes.right_is
+              absurd (on_no_bytes (known_at all (i ∷ rest)) (takes_alone op t b) a b bty wholes.kind wholes.second_saturates
+              taken.in_byte wholes.right_is
               (taken_is op known (no_number taken.in_byte) (q ∙ ap Some x)).0))
               (number_or_none taken)
             where
@@ -5326,7 +5980,7 @@ module _ (p : PlainProgram) (functions : List PlainIrFunction) (e : Env) (slots 
                   → G (suc n) m.state.work pc v (P n i rest m)
               with_number number q =
                   let is = taken_is op known (as_known number) q in
-                  let row = right_held (known_at all (i ∷ rest)) a b bty number m.temps is.0 held in
+                  let row = right_held (known_at all (i ∷ rest)) (takes_alone op t b) a b bty number m.temps is.0 held in
                   on_number_follows start ready n go op ty mode t a aty b bty number pc rest m v is.1 row.number row.byte on wholes behind
                   (subst (λ x. HasAt e (items_with x) pc end) q stand)
                   (subst (λ x. M (needs_with false x (numbered x)) m v) q needed) f
@@ -5351,7 +6005,9 @@ module _ (p : PlainProgram) (functions : List PlainIrFunction) (e : Env) (slots 
           fx = no_kind is_fixed (λ s n. refl) (family_of op) t a b ty aty bty k
 
           needed : M (needs_with false (number_taken known false op) (numbered (number_taken known false op))) m v
-          needed = taken_needs (whole_unmoved op aty bty wx) (not_counted op mode ty aty bty t b fx) ax
+          needed =
+              taken_needs (whole_unmoved op aty bty wx) (whole_unmoved op bty aty (or_turned (is_whole aty) (is_whole bty) wx))
+              (not_counted op mode ty aty bty t b fx) ax
 
           taken_so : (x : Option RightNumber) → number_taken known false op ≡ x → number_taken known is_ax op ≡ x
           taken_so x q = ap (λ z. number_taken known z op) ax ∙ q
@@ -5365,14 +6021,15 @@ module _ (p : PlainProgram) (functions : List PlainIrFunction) (e : Env) (slots 
               integers_follow start ready n go op ty mode t a aty b bty pc rest m v k behind
               (subst (λ x. HasAt e (code_by_kind is_fx
               (fixed_binary None (telling_with x) op ty aty bty mode (home a) (home b) (home t) a.bytes w)
-              (code_by_kind is_px (of_pointers None) (items_with None (telling_with x))) ++ items_told (telling_with x) rest) pc end)
+              (code_by_kind is_px (of_pointers (telling_with x) None) (items_with None (telling_with x)))
+              ++ items_told (telling_with x) rest) pc end)
               (taken_so None q)
               (subst (λ x. HasAt e (x ++ items_told telling rest) pc end)
               (other_same is_fx of_fixed (fixed_binary None telling op ty aty bty mode (home a) (home b) (home t) a.bytes w)
-              (code_by_kind is_px (of_pointers None) (of_integers None)) fx)
+              (code_by_kind is_px (of_pointers telling None) (of_integers None)) fx)
               (subst (λ x. HasAt e (code_by_kind is_fx of_fixed x ++ items_told telling rest) pc end)
-              (other_same is_px (of_pointers known) (of_pointers None) (of_integers None) px)
-              (subst (λ x. HasAt e (code_by_kind is_fx of_fixed (code_by_kind is_px (of_pointers known) (of_integers x))
+              (other_same is_px (of_pointers telling known) (of_pointers telling None) (of_integers None) px)
+              (subst (λ x. HasAt e (code_by_kind is_fx of_fixed (code_by_kind is_px (of_pointers telling known) (of_integers x))
               ++ items_told telling rest) pc end) q stands))))
               (subst (λ x. M (needs_with x None None) m v) (sym ax) (subst (λ x. M (needs_with false x (numbered x)) m v) q needed)) f
           by_taken (Some taken) q =
@@ -5386,10 +6043,11 @@ module _ (p : PlainProgram) (functions : List PlainIrFunction) (e : Env) (slots 
               stands_taking x q =
                   subst (λ z. HasAt e (items_with (Some x) (telling_with z) ++ items_told (telling_with z) rest) pc end)
                   (taken_so (Some x) q)
-                  (subst (λ z. HasAt e (code_by_kind z (of_pointers known) (of_integers (Some x)) ++ items_told telling rest) pc end) px
-                  (subst (λ z. HasAt e (code_by_kind z of_fixed (code_by_kind is_px (of_pointers known) (of_integers (Some x)))
+                  (subst (λ z. HasAt e (code_by_kind z (of_pointers telling known) (of_integers (Some x))
+                  ++ items_told telling rest) pc end) px
+                  (subst (λ z. HasAt e (code_by_kind z of_fixed (code_by_kind is_px (of_pointers telling known) (of_integers (Some x)))
                   ++ items_told telling rest) pc end) fx
-                  (subst (λ z. HasAt e (code_by_kind is_fx of_fixed (code_by_kind is_px (of_pointers known) (of_integers z))
+                  (subst (λ z. HasAt e (code_by_kind is_fx of_fixed (code_by_kind is_px (of_pointers telling known) (of_integers z))
                   ++ items_told telling rest) pc end) q stands)))
 
               needs_taking : (x : RightNumber) → number_taken known false op ≡ Some x
@@ -5400,30 +6058,39 @@ module _ (p : PlainProgram) (functions : List PlainIrFunction) (e : Env) (slots 
                   → G (suc n) m.state.work pc v (P n i rest m)
               with_number number q =
                   let is = taken_is op known (as_known number) q in
-                  let row = right_held (known_at all (i ∷ rest)) a b bty number m.temps is.0 held in
+                  let row = right_held (known_at all (i ∷ rest)) (takes_alone op t b) a b bty number m.temps is.0 held in
                   number_follows start ready n go op ty mode t a aty b bty number pc rest m v is.1 k row.number row.byte behind
                   (stands_taking (as_known number) q) (needs_taking (as_known number) q) f
 
-              -- what it tells where it is masked, or not
-              tell : (masked : Bool) → Option Told
-              tell masked =
+              -- what bytes tell, of an AND with a known number or not
+              masked_told : Bool → Option Told
+              masked_told z =
                   if is_only_tested t (slice_get rest 0) (slice_index (wanted_bytes at rest) 0)
-                  then (if masked then Some (so_told NotEqual false)
-                  else told_by (is_apart (family_of op) mode ty aty bty) (family_of op) false) else None
+                  then (if z then Some (Operands NotEqual false)
+                  else told_by (is_untold (family_of op) mode ty aty bty) (family_of op) false) else None
 
               with_bytes : (byte : Bool) → number_taken known false op ≡ Some (no_number byte) → G (suc n) m.state.work pc v (P n i rest m)
-              with_bytes byte q =
-                  let is = taken_is op known (no_number byte) q in
-                  let row = bytes_held (known_at all (i ∷ rest)) a b bty byte m.temps is.0 held in
+              with_bytes true q =
+                  let is = taken_is op known (no_number true) q in
+                  let row = bytes_held (known_at all (i ∷ rest)) (takes_alone op t b) a b bty m.temps is.0 held in
                   let order = compares op is.1 in
                   bytes_follow start ready n go op order.relation order.exchanged order.is ty mode t a aty b bty pc rest m v
                   (subst (λ z. IsBinary z slots t a b ty aty bty) order.is k)
                   (record { more = row.more; left = row.left; right = row.right }) behind
-                  (subst (λ (x : Bool). HasAt e (items_with (Some (no_number true)) (tell x) ++ items_told (tell x) rest) pc end)
-                  (order_unmasked op order.relation order.exchanged (no_number true) order.is)
-                  (subst (λ z. HasAt e (items_with (Some (no_number z)) (telling_with (Some (no_number z)))
-                  ++ items_told (telling_with (Some (no_number z))) rest) pc end) row.byte (stands_taking (no_number byte) q)))
-                  (subst (λ z. M (needs_with false (Some (no_number z)) None) m v) row.byte (needs_taking (no_number byte) q)) f
+                  (subst (λ z. HasAt e (items_with (Some (no_number true)) (masked_told z) ++ items_told (masked_told z) rest) pc end)
+                  (order_unmasked op order.relation order.exchanged (no_number true) order.is) (stands_taking (no_number true) q))
+                  (needs_taking (no_number true) q) f
+              with_bytes false q =
+                  let is = taken_is op known (no_number false) q in
+                  let join = joins op is.1 in
+                  joined_integers op join.operator join.is join.joined ty mode t a aty b bty pc rest n m v
+                  (subst (λ z. IsBinary z slots t a b ty aty bty) join.is k)
+                  (alone_held (known_at all (i ∷ rest)) op t a b bty m.temps is.0 held)
+                  (subst (λ z. HasAt e (bytes_code None z (home a) (home b) (home t) a.bytes w ++ items rest) pc end) join.is
+                  (subst (λ z. HasAt e (items_with (Some (no_number false)) z ++ items_told z rest) pc end)
+                  (untold_joined op is.1 (is_only_tested t (slice_get rest 0) (slice_index (wanted_bytes at rest) 0))
+                  (is_untold (family_of op) mode ty aty bty) (is_signed aty) a.bytes) (stands_taking (no_number false) q)))
+                  (needs_taking (no_number false) q) f
 
   -- a call of the routine of an operator
   called_binary_follows : (l : ℕ) (op : BinOp) (ty : PlainType) (mode : Mode) (t a : Temp) (aty : PlainType) (b : Temp) (bty : PlainType)
@@ -5432,7 +6099,7 @@ module _ (p : PlainProgram) (functions : List PlainIrFunction) (e : Env) (slots 
       → HasRoutineOf e l (binary_op op ty mode t a aty b bty) → is_on_integers (family_of op) mode ty aty bty ≡ false
       → takes_count (at.known (binary_op op ty mode t a aty b bty ∷ rest)) (binary_op op ty mode t a aty b bty) ≡ false
       → HasAt e (called_code home l (wanted (needs at rest) t) (binary_op op ty mode t a aty b bty)
-      ++ items_told (tells_next p at None (binary_op op ty mode t a aty b bty) rest) rest) pc end
+      ++ items_told (tells_next link.core p home at None (binary_op op ty mode t a aty b bty) rest) rest) pc end
       → M (needs at (binary_op op ty mode t a aty b bty ∷ rest)) m v → Rest (suc n) rest
       → G (suc n) m.state.work pc v (P n (binary_op op ty mode t a aty b bty) rest m)
   called_binary_follows l op ty mode t a aty b bty pc rest n m v covered routine apart uncounted stands h f =
@@ -5466,22 +6133,34 @@ module _ (p : PlainProgram) (functions : List PlainIrFunction) (e : Env) (slots 
       -- what is needed and told where so much of the second operand is taken
       needs_with : (taken second : Option RightNumber) → Need
       needs_with taken second =
-          at_least a.at (first_wanted is_ax op (compared_bytes taken a.bytes) w)
-          (right_needed second b.at (second_wanted is_ax op (compared_bytes taken b.bytes) w) (without t.at (needs at rest)))
+          at_least a.at (first_wanted is_ax op (compared_bytes taken a.bytes) (masked_bytes taken op w))
+          (right_needed second b.at (second_wanted is_ax op (compared_bytes taken b.bytes) (joined_bytes taken w))
+          (without t.at (needs at rest)))
 
       counted : Bool
       counted = is_counted op mode ty aty bty t b
 
       telling_with : Option RightNumber → Option Told
       telling_with taken =
-          if only then told_taking taken (is_apart (family_of op) mode ty aty bty) op (is_signed aty) else None
+          if only then told_taking taken (is_untold (family_of op) mode ty aty bty) op (is_signed aty) a.bytes else None
 
-      plain : moves_pointer op aty bty ≡ false → number_taken known is_ax op ≡ None → M (plain_needs i rest) m v
-      plain unmoved q =
-          subst (λ x. M (needs_with x None) m v) q
-          (subst (λ x. M (needs_with (number_taken known is_ax op) x) m v) (right_none known counted is_ax op uncounted q)
-          (subst (λ x. M (needs_with (number_taken known is_ax op) (right_taken known x is_ax op)) m v)
-          (unmoved_takes op mode ty aty bty t b unmoved) h))
+      needs_moving : (first last : Bool) → (taken second : Option RightNumber) → Need
+      needs_moving first last taken second =
+          at_least a.at (moved_wanted first w (first_wanted is_ax op (compared_bytes taken a.bytes) (masked_bytes taken op w)))
+          (right_needed second b.at (moved_wanted last w (second_wanted is_ax op (compared_bytes taken b.bytes) (joined_bytes taken w)))
+          (without t.at (needs at rest)))
+
+      plain : moves_pointer op aty bty ≡ false → moves_pointer op bty aty ≡ false → number_taken known is_ax op ≡ None
+          → M (plain_needs i rest) m v
+      plain unmoved turned q =
+          subst (λ x. M (needs_moving false x None None) m v) turned
+          (subst (λ x. M (needs_moving x (moves_pointer op bty aty) None None) m v) unmoved
+          (subst (λ x. M (needs_moving (moves_pointer op aty bty) (moves_pointer op bty aty) x None) m v) q
+          (subst (λ x. M (needs_moving (moves_pointer op aty bty) (moves_pointer op bty aty) (number_taken known is_ax op) x) m v)
+          (right_none known counted is_ax op uncounted q)
+          (subst (λ x. M (needs_moving (moves_pointer op aty bty) (moves_pointer op bty aty) (number_taken known is_ax op)
+          (right_taken known x is_ax op)) m v)
+          (unmoved_takes op mode ty aty bty t b unmoved) h))))
 
       untold : number_taken known is_ax op ≡ None → telling_with None ≡ None → HasAt e (calling ++ items rest) pc end
       untold q none =
@@ -5497,10 +6176,11 @@ module _ (p : PlainProgram) (functions : List PlainIrFunction) (e : Env) (slots 
       on_fixed k =
           let is_apart_so = fixed_apart op ty mode aty bty k.types.fixed apart in
           let none = none_taken op known is_ax is_apart_so in
-          let telling = untold_by only (is_apart (family_of op) mode ty aty bty) (family_of op) (is_signed aty) is_apart_so in
+          let telling = untold_by only (is_untold (family_of op) mode ty aty bty) (family_of op) (is_signed aty)
+          (fixed_untold op ty mode aty bty k.types.fixed apart) in
           fixed_binary_called l op ty mode t a aty b bty rest n pc m v k apart
           (subst body_for (either_fixed is_fixed type_fixed aty bty k.types.fixed) routine) (untold none telling)
-          (plain (fixed_unmoved op aty bty k.types.fixed) none) f
+          (plain (fixed_unmoved op aty bty k.types.fixed) (turned_unmoved op aty bty k.types.fixed) none) f
 
       -- a call of the routine of a quotient, with these types
       Divides : Bool → (x z u : PlainType) → Type 0
@@ -5533,15 +6213,16 @@ module _ (p : PlainProgram) (functions : List PlainIrFunction) (e : Env) (slots 
               (no_kind is_whole (λ s n. refl) (family_of op) t a b ty aty bty k)
               ∙ divided_number op r q known in
               let telling : telling_with None ≡ None =
-              ap (λ z. if only then told_by (is_apart (family_of op) mode ty aty bty) z (is_signed aty) else None) q
-              ∙ divided_untold r only (is_apart (family_of op) mode ty aty bty) (is_signed aty) in
+              ap (λ z. if only then told_by (is_untold (family_of op) mode ty aty bty) z (is_signed aty) else None) q
+              ∙ divided_untold r only (is_untold (family_of op) mode ty aty bty) (is_signed aty) in
               (subst (λ z. Divides r z aty bty) (sym type)
               (subst (λ z. Divides r (integer x.signed (suc top)) z bty) (sym x.left_type)
               (subst (λ z. Divides r (integer x.signed (suc top)) (integer x.signed a.bytes) z) (sym x.right_type)
               (λ there needed. divided_called l op r q x.signed mode t a b top rest n pc m v x.result x.left x.right qt qa qb
               (subst (λ j. j ≤ 4) qt x.most) (subst (λ j. HasRoutine e l (quotient_body r x.signed (j - 1))) x.left_bytes there)
               (untold taken telling) needed f)))) body
-              (plain (whole_unmoved op aty bty (no_kind is_whole (λ s n. refl) (family_of op) t a b ty aty bty k)) taken)
+              (let whole = no_kind is_whole (λ s n. refl) (family_of op) t a b ty aty bty k in
+              plain (whole_unmoved op aty bty whole) (whole_unmoved op bty aty (or_turned (is_whole aty) (is_whole bty) whole)) taken)
 
   binary_follows : (start : ℕ) → Ready start all → (n : ℕ) → Onwards n → (op : BinOp) (ty : PlainType) (mode : Mode)
       (t a : Temp) (aty : PlainType) (b : Temp) (bty : PlainType) (pc : ℕ) (rest : List PlainIr) (m : Mach) (v : View)
@@ -5611,6 +6292,227 @@ module _ (p : PlainProgram) (functions : List PlainIrFunction) (e : Env) (slots 
           j)
           r.covered.0.0
 
+  -- ---- an index that is loaded, and the operation that moves a pointer by it
+
+  right_more : (x : Option RightNumber) (place n : ℕ) (need : Need) (u : ℕ) → need u ≤ right_needed x place n need u
+  right_more None place n need u = least_other place n u need
+  right_more (Some k) place n need u = omega arith
+
+  -- such an operator tells nothing
+  moves_apart : (op : BinOp) (f : Family) (mode : Mode) (ty aty bty : PlainType) → moves_pointer op aty bty ≡ true
+      → is_apart f mode ty aty bty ≡ true
+  moves_apart op f mode ty (pointer space const to) bty q = refl
+  moves_apart op f mode ty aty bty q = absurd cc
+
+  moves_untold : (op : BinOp) (f : Family) (mode : Mode) (ty aty bty : PlainType) → moves_pointer op aty bty ≡ true
+      → is_untold f mode ty aty bty ≡ true
+  moves_untold op f mode ty (pointer space const to) (pointer space2 const2 to2) q = absurd cc
+  moves_untold op f mode ty (pointer space const to) (integer signed bytes) q = refl
+  moves_untold op f mode ty (pointer space const to) (fixed kind saturates) q = absurd cc
+  moves_untold op f mode ty (pointer space const to) void q = refl
+  moves_untold op f mode ty (pointer space const to) (array of len) q = refl
+  moves_untold op f mode ty (pointer space const to) (struct index) q = refl
+  moves_untold op f mode ty aty bty q = absurd cc
+
+  untold_own : (only own untold : Bool) (known : Option RightNumber) (op : BinOp) (s : Bool) (bytes : ℕ) → own ≡ true → untold ≡ true
+      → (if only then told_taking (number_taken known own op) untold op s bytes else None) ≡ None
+  untold_own false own untold known op s bytes q u = refl
+  untold_own true own untold known op s bytes q u =
+      ap (λ x. told_taking (number_taken known x op) untold op s bytes) q
+      ∙ ap (λ x. told_taking (number_taken known true op) x op s bytes) u ∙ by_known known
+    where
+      by_known : (known : Option RightNumber) → told_taking (number_taken known true op) true op s bytes ≡ None
+      by_known None = refl
+      by_known (Some k) = refl
+
+  -- behind a load to a temporary stands an operator that moves a pointer by it
+  record IsIndexAlone (t : Temp) (code : List PlainIr) : Type 0 where
+    op : BinOp
+    ty : PlainType
+    mode : Mode
+    to : Temp
+    a : Temp
+    aty : PlainType
+    bty : PlainType
+    rest : List PlainIr
+    is : code ≡ binary_op op ty mode to a aty t bty ∷ rest
+    none : needs at rest t.at ≡ 0
+    few : nat_le t.bytes 2 ≡ true
+    apart : t.at ≢ a.at
+    moves : moves_pointer op aty bty ≡ true
+
+  index_alone : (t : Temp) (code : List PlainIr) → is_index_alone t (slice_get code 0) (index_behind at code) ≡ true
+      → IsIndexAlone t code
+  index_alone t (binary_op op ty mode to a aty b bty ∷ rest) q =
+      let behind = get_or (if moves_pointer op aty bty then needs at rest b.at ∷ [] else []) 0 0 in
+      let halves = and_parts (behind == 0 && nat_le b.bytes 2)
+      ((b.at == t.at && b.bytes == t.bytes) && (not (b.at == a.at) && moves_pointer op aty bty)) q in
+      let free = and_parts (behind == 0) (nat_le b.bytes 2) halves.0 in
+      let last = and_parts (b.at == t.at && b.bytes == t.bytes) (not (b.at == a.at) && moves_pointer op aty bty) halves.1 in
+      let one = and_parts (b.at == t.at) (b.bytes == t.bytes) last.0 in
+      let other = and_parts (not (b.at == a.at)) (moves_pointer op aty bty) last.1 in
+      let same : b ≡ t = same_temp t b (eqb-true b.at t.at one.0) (eqb-true b.bytes t.bytes one.1) in
+      let none : needs at rest b.at ≡ 0 =
+      ap (λ x. get_or (if x then needs at rest b.at ∷ [] else []) 0 0) (sym other.1) ∙ eqb-true behind 0 free.0 in
+      record {
+        op = op;
+        ty = ty;
+        mode = mode;
+        to = to;
+        a = a;
+        aty = aty;
+        bty = bty;
+        rest = rest;
+        is = ap (λ z. binary_op op ty mode to a aty z bty ∷ rest) same;
+        none = subst (λ z. needs at rest z.at ≡ 0) same none;
+        few = subst (λ z. nat_le z.bytes 2 ≡ true) same free.1;
+        apart = λ z. false≢true (sym (ap not (eq-eqb b.at a.at (ap (λ (x : Temp). x.at) same ∙ z))) ∙ other.0);
+        moves = other.1;
+      }
+  index_alone t [] q = absurd cc
+  index_alone t (i ∷ rest) q = absurd cc
+
+  -- R30 and R31 hold what a temporary does
+  abbrev HoldsIndex : Temp → Mach → View → Type 0
+  HoldsIndex b m v = (x : Held) → m.temps b.at ≡ Some x → x.bytes ≡ b.bytes → HoldsContent p place v.at 30 b.bytes b.bytes x.content
+
+  -- the operator behind the load
+  indexed_follows : (op : BinOp) (ty : PlainType) (mode : Mode) (to a : Temp) (aty : PlainType) (b : Temp) (bty : PlainType)
+      (rest : List PlainIr) (n pc : ℕ) (m : Mach) (v : View) → Behind (binary_op op ty mode to a aty b bty ∷ rest)
+      → IsRunning p functions e slots home base place y labels all end results me link stack
+      → needs at rest b.at ≡ 0 → nat_le b.bytes 2 ≡ true → b.at ≢ a.at → moves_pointer op aty bty ≡ true
+      → HasAt e (items_told (Some Index) (binary_op op ty mode to a aty b bty ∷ rest)) pc end
+      → M (without b.at (needs at (binary_op op ty mode to a aty b bty ∷ rest))) m v → HoldsIndex b m v → Onwards n
+      → G n m.state.work pc v (R n (binary_op op ty mode to a aty b bty ∷ rest) m)
+  indexed_follows op ty mode to a aty b bty rest zero pc m v r here none few apart moves stands h held go =
+      stay p place e pc v m.state h.seen h.safe
+  indexed_follows op ty mode to a aty b bty rest (suc n) pc m v r here none few apart moves stands h held go =
+      checked functions p y.inputs place e n (suc n) m.state.work pc v all stack i rest m
+      (λ known_so.
+      ⊎_elim
+      (λ (k : IsBinary (family_of op) slots to a b ty aty bty).
+      absurd (false≢true (sym (whole_unmoved op aty bty (no_kind is_whole (λ s n. refl) (family_of op) to a b ty aty bty k)) ∙ moves)))
+      (λ j. ⊎_elim
+      (λ (k : IsFixedBinary slots op to a b ty aty bty). absurd (false≢true (sym (fixed_unmoved op aty bty k.types.fixed) ∙ moves)))
+      (λ (k : IsPointerBinary p slots op to a b ty aty bty). by_pointer k)
+      j)
+      r.covered.0.0)
+    where
+      i : PlainIr
+      i = binary_op op ty mode to a aty b bty
+
+      known : Option RightNumber
+      known = at.known (i ∷ rest)
+
+      need : Need
+      need = needs at rest
+
+      w : ℕ
+      w = wanted need to
+
+      is_own : Bool
+      is_own = is_apart (family_of op) mode ty aty bty
+
+      taken : Option RightNumber
+      taken = number_taken known is_own op
+
+      -- what is needed of the second operand
+      second : Need
+      second =
+          right_needed (right_taken known (takes_whole op mode ty aty bty to b) is_own op) b.at
+          (moved_wanted (moves_pointer op bty aty) w (second_wanted is_own op (compared_bytes taken b.bytes) (joined_bytes taken w)))
+          (without to.at need)
+
+      need0 : Need
+      need0 = without b.at (needs at (i ∷ rest))
+
+      is_own_so : is_own ≡ true
+      is_own_so = moves_apart op (family_of op) mode ty aty bty moves
+
+      -- what is needed of the pointer
+      first : ℕ
+      first = moved_wanted (moves_pointer op aty bty) w (first_wanted is_own op (compared_bytes taken a.bytes) (masked_bytes taken op w))
+
+      first_so : first ≡ pointer_wanted w
+      first_so =
+          ap (λ x. moved_wanted x w (first_wanted is_own op (compared_bytes taken a.bytes) (masked_bytes taken op w))) moves
+
+      there : pointer_wanted w ≤ need0 a.at
+      there =
+          let l = least_here a.at first second in
+          let k = without_other b.at a.at (needs at (i ∷ rest)) (λ z. apart (sym z)) in
+          omega (arith, l, k, first_so)
+
+      more : (u : ℕ) → u ≢ to.at → need u ≤ need0 u
+      more u d =
+          ⊎_elim
+          (λ (q : u ≡ b.at). let z : need u ≡ 0 = ap need q ∙ none in omega (arith, z))
+          (λ (q : u ≢ b.at).
+          let k = without_other b.at u (needs at (i ∷ rest)) q in
+          let x = without_other to.at u need d in
+          let z = right_more (right_taken known (takes_whole op mode ty aty bty to b) is_own op) b.at
+          (moved_wanted (moves_pointer op bty aty) w (second_wanted is_own op (compared_bytes taken b.bytes) (joined_bytes taken w)))
+          (without to.at need) u in
+          let l = least_other a.at first u second in
+          omega (arith, k, x, z, l))
+          (cases_eq u b.at)
+
+      by_pointer : IsPointerBinary p slots op to a b ty aty bty → G (suc n) m.state.work pc v (P n i rest m)
+      by_pointer k =
+          let own = at_use_behind [] (Some Index) i rest pc r.covered.0.1
+          (λ l routine. pointers_have_none p e slots l op ty mode to a aty b bty k routine) stands in
+          index_follows p functions e slots home base place y labels all end results me link stack known op ty mode to a aty b bty rest n pc
+          need0 m v k moves few
+          (subst (λ x. HasAt e (own_code p home link (Some Index) x known need i ++ items_told x rest) pc end)
+          (untold_own (is_only_tested to (slice_get rest 0) (slice_index (wanted_bytes at rest) 0)) is_own
+          (is_untold (family_of op) mode ty aty bty) known op (is_signed aty) a.bytes is_own_so
+          (moves_untold op (family_of op) mode ty aty bty moves)) own) held there more h here.core
+          (λ pc1 m1 v1 s z. go (suc n) (omega arith) pc1 rest m1 v1
+          (record { covered = r.covered.1; live = r.live; inside = r.inside; here = here; stands = s }) z)
+
+  -- a load of an object of which no pointer stays in Z
+  abbrev load_items : (t : Temp) (o offset : ℕ) → List PlainIr → List AsmItem
+  load_items t o offset rest =
+      index_items p functions e slots home base place y labels all end results me link stack t o offset rest
+
+  load_goes : (t : Temp) (o offset pc : ℕ) (rest : List PlainIr) (n : ℕ) (m : Mach) (v : View) → Ready pc (load_object t o offset ∷ rest)
+      → HasAt e (load_items t o offset rest) pc end → M (needs at (load_object t o offset ∷ rest)) m v → Onwards n
+      → G (suc n) m.state.work pc v (P n (load_object t o offset) rest m)
+  load_goes t o offset pc rest n m v r stands h go =
+      by_next (is_index_alone t (slice_get rest 0) (index_behind at rest)) refl stands
+    where
+      i : PlainIr
+      i = load_object t o offset
+
+      telling : Bool → Option Told
+      telling x = if x then Some Index else None
+
+      behind : Behind rest
+      behind = record { covered = r.covered.1; live = r.live; inside = r.inside }
+
+      by_next : (x : Bool) → is_index_alone t (slice_get rest 0) (index_behind at rest) ≡ x
+          → HasAt e (own_code p home link None (telling x) (at.known (i ∷ rest)) (needs at rest) i ++ items_told (telling x) rest) pc end
+          → G (suc n) m.state.work pc v (P n i rest m)
+      by_next false q stands =
+          let k = r.covered.0.0 in
+          load_follows p functions e slots home base place y labels all end results me link stack t o offset rest n pc m v k.0 k.1
+          stands h r.here.core
+          (λ pc1 m1 v1 s z. go n (omega arith) pc1 rest m1 v1
+          (record { covered = r.covered.1; live = r.live; inside = r.inside; here = r.here; stands = s }) z)
+      by_next true q stands =
+          let k = r.covered.0.0 in
+          let x = index_alone t rest q in
+          load_index_follows p functions e slots home base place y labels all end results me link stack t o offset rest n pc m v k.0 k.1
+          x.few stands h r.here.core
+          (λ mid m1 v1 s z held.
+          let onward : Behind rest → HasAt e (items_told (Some Index) rest) mid end → M (without t.at (needs at rest)) m1 v1
+          → G n m1.state.work mid v1 (R n rest m1) = subst
+          (λ c. Behind c → HasAt e (items_told (Some Index) c) mid end → M (without t.at (needs at c)) m1 v1
+          → G n m1.state.work mid v1 (R n c m1)) (sym x.is)
+          (λ b u g. indexed_follows x.op x.ty x.mode x.to x.a x.aty t x.bty x.rest n mid m1 v1 b r.here x.none x.few x.apart x.moves
+          u g held go) in
+          onward behind s z)
+
   -- what is shown of an operation whose second operand holds what is known of it, where it is of those behind it
   performs : (start : ℕ) → Ready start all → (n : ℕ) → Onwards n → CallCase n → ReturnCase n → (pc : ℕ) (i : PlainIr)
       (rest : List PlainIr) (m : Mach) (v : View) → Ready pc (i ∷ rest) → M (needs at (i ∷ rest)) m v
@@ -5632,10 +6534,7 @@ module _ (p : PlainProgram) (functions : List PlainIrFunction) (e : Env) (slots 
       object_goes p functions e slots home base place y labels all end results me link stack t o offset rest n pc m v i.0 i.1
       (record { covered = r.covered.1; live = r.live; inside = r.inside; here = r.here })
       (at_use (load_object t o offset) rest pc r (λ l none. none)) h (λ j few. go j (omega arith))
-      (λ stands. load_follows p functions e slots home base place y labels all end results me link stack t o offset rest n pc m v
-      i.0 i.1 stands h r.here.core
-      (λ pc1 m1 v1 s z. go n (omega arith) pc1 rest m1 v1
-      (record { covered = r.covered.1; live = r.live; inside = r.inside; here = r.here; stands = s }) z))
+      (λ stands. load_goes t o offset pc rest n m v r stands h go)
   performs start ready n go calls returns pc (store_object o offset t) rest m v r h held more =
       let i = r.covered.0.0 in
       store_follows p functions e slots home base place y labels all end results me link stack o offset t rest n pc m v i.0 i.1 i.2

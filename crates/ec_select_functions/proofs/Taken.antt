@@ -10,6 +10,7 @@ use Rattle.ec_core.specs.declared.expressions.BinOp.TheVariants.{Eq, Ne, Shl, Sh
 use Rattle.ec_core.specs.ArithmeticValues.{is_comparison}
 use Rattle.ec_core.specs.Plain.{PlainType, void, integer, fixed, pointer, array, struct}
 use Rattle.ec_ir_known.specs.declared.known.RightNumber.{RightNumber}
+use Rattle.ec_ir_known.specs.Known.{changes_byte}
 use Rattle.ec_select_fixed.specs.Types.{IsFixedType}
 use Rattle.ec_select_order.specs.declared.relations.Relation.{Relation}
 use Rattle.ec_select_order.specs.declared.relations.Relation.TheVariants.{Less, NotLess, Equal, NotEqual}
@@ -29,9 +30,18 @@ pub record TakesSum (op : BinOp) : Type 0 where
   pub is : family_of op ≡ Combined operator
   pub changed : is_changed operator ≡ true
 
+-- the relations of operands that may be exchanged
+abbrev pub is_order : Relation → Bool
+is_order Less = true
+is_order NotLess = true
+is_order Equal = false
+is_order NotEqual = false
+
 pub record TakesOrder (op : BinOp) : Type 0 where
   pub relation : Relation
-  pub is : family_of op ≡ Compared relation false
+  pub exchanged : Bool
+  pub is : family_of op ≡ Compared relation exchanged
+  pub order : exchanged ≡ true → is_order relation ≡ true
 
 pub record TakesShift (op : BinOp) : Type 0 where
   pub up : Bool
@@ -42,18 +52,18 @@ takes Add q = inl (record { operator = Sum; is = refl; changed = refl })
 takes Sub q = inl (record { operator = Difference; is = refl; changed = refl })
 takes And q = inl (record { operator = BitAnd; is = refl; changed = refl })
 takes Or q = inl (record { operator = BitOr; is = refl; changed = refl })
-takes Lt q = inr (inl (record { relation = Less; is = refl }))
-takes Ge q = inr (inl (record { relation = NotLess; is = refl }))
-takes Eq q = inr (inl (record { relation = Equal; is = refl }))
-takes Ne q = inr (inl (record { relation = NotEqual; is = refl }))
+takes Lt q = inr (inl (record { relation = Less; exchanged = false; is = refl; order = λ z. refl }))
+takes Gt q = inr (inl (record { relation = Less; exchanged = true; is = refl; order = λ z. refl }))
+takes Le q = inr (inl (record { relation = NotLess; exchanged = true; is = refl; order = λ z. refl }))
+takes Ge q = inr (inl (record { relation = NotLess; exchanged = false; is = refl; order = λ z. refl }))
+takes Eq q = inr (inl (record { relation = Equal; exchanged = false; is = refl; order = λ z. absurd cc }))
+takes Ne q = inr (inl (record { relation = NotEqual; exchanged = false; is = refl; order = λ z. absurd cc }))
 takes Xor q = absurd cc
 takes Mul q = absurd cc
 takes Div q = absurd cc
 takes Rem q = absurd cc
 takes Shl q = inr (inr (record { up = true; is = refl }))
 takes Shr q = inr (inr (record { up = false; is = refl }))
-takes Gt q = absurd cc
-takes Le q = absurd cc
 
 -- a comparison, with its operands exchanged or not
 pub record ComparesSo (op : BinOp) : Type 0 where
@@ -69,6 +79,22 @@ compares Ge q = record { relation = NotLess; exchanged = false; is = refl }
 compares Eq q = record { relation = Equal; exchanged = false; is = refl }
 compares Ne q = record { relation = NotEqual; exchanged = false; is = refl }
 compares op q = absurd cc
+
+-- the operators of bytes that change no byte where that of the second operand is 0
+abbrev pub is_joined : Operator → Bool
+is_joined BitOr = true
+is_joined BitXor = true
+is_joined op = false
+
+pub record Joins (op : BinOp) : Type 0 where
+  pub operator : Operator
+  pub is : family_of op ≡ Combined operator
+  pub joined : is_joined operator ≡ true
+
+pub joins : (op : BinOp) → changes_byte op ≡ true → Joins op
+joins Or q = record { operator = BitOr; is = refl; joined = refl }
+joins Xor q = record { operator = BitXor; is = refl; joined = refl }
+joins op q = absurd cc
 
 -- ---- what is known of a second operand: a number, or none
 
@@ -98,14 +124,14 @@ number_or_none k = by_number k.number refl
 
 -- what is taken is known
 pub taken_is : (op : BinOp) (known : Option RightNumber) (k : RightNumber) → number_taken known false op ≡ Some k
-    → (known ≡ Some k) × (takes_known k.number op ≡ true)
+    → (known ≡ Some k) × (takes_known k.number k.in_byte op ≡ true)
 taken_is op None k q = absurd cc
-taken_is op (Some x) k q = by_test (takes_known x.number op) refl q
+taken_is op (Some x) k q = by_test (takes_known x.number x.in_byte op) refl q
   where
-    by_test : (taken : Bool) → takes_known x.number op ≡ taken → (if taken then Some x else None) ≡ Some k
-        → (Some x ≡ Some k) × (takes_known k.number op ≡ true)
+    by_test : (taken : Bool) → takes_known x.number x.in_byte op ≡ taken → (if taken then Some x else None) ≡ Some k
+        → (Some x ≡ Some k) × (takes_known k.number k.in_byte op ≡ true)
     by_test true t r =
-        let same : x ≡ k = cc in (r, subst (λ (z : RightNumber). takes_known z.number op ≡ true) same t)
+        let same : x ≡ k = cc in (r, subst (λ (z : RightNumber). takes_known z.number z.in_byte op ≡ true) same t)
     by_test false t r = absurd cc
 
 -- no more bytes are compared than there are
@@ -158,7 +184,7 @@ whole_unmoved op (array of len) bty q = refl
 whole_unmoved op (struct index) bty q = refl
 
 -- and those with a fixed-point operand
-no_pointer : (x : PlainType) → IsFixedType x → is_pointer x ≡ false
+pub no_pointer : (x : PlainType) → IsFixedType x → is_pointer x ≡ false
 no_pointer (fixed kind saturates) h = refl
 no_pointer (pointer space const to) h = absurd h
 no_pointer void h = refl
@@ -177,3 +203,13 @@ whole_type (struct index) h = absurd h
 pub fixed_unmoved : (op : BinOp) (aty bty : PlainType) → IsFixedType aty ⊎ IsFixedType bty → moves_pointer op aty bty ≡ false
 fixed_unmoved op aty bty (inl h) = unmoved op aty bty (inl (no_pointer aty h))
 fixed_unmoved op aty bty (inr h) = unmoved op aty bty (inr (whole_type bty h))
+
+-- also as the second operand
+pub turned_unmoved : (op : BinOp) (aty bty : PlainType) → IsFixedType aty ⊎ IsFixedType bty → moves_pointer op bty aty ≡ false
+turned_unmoved op aty bty (inl h) = fixed_unmoved op bty aty (inr h)
+turned_unmoved op aty bty (inr h) = fixed_unmoved op bty aty (inl h)
+
+pub or_turned : (x y : Bool) → (x || y) ≡ false → (y || x) ≡ false
+or_turned true y q = absurd cc
+or_turned false true q = absurd cc
+or_turned false false q = refl

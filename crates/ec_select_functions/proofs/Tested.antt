@@ -19,7 +19,7 @@ use Rattle.ec_select_order.specs.declared.relations.Relation.{Relation}
 use Rattle.ec_select_order.specs.declared.relations.Relation.TheVariants.{Less, NotLess, Equal, NotEqual}
 use Rattle.ec_select_order.specs.Relations.{flag_of, is_set}
 use Rattle.ec_select_operations.specs.declared.families.Told.{Told}
-use Rattle.ec_select_operations.specs.declared.families.Told.TheVariants.{Operands, InZ}
+use Rattle.ec_select_operations.specs.declared.families.Told.TheVariants.{Operands, InZ, Index}
 use Rattle.ec_select_operations.specs.Code.{opposite, turned}
 use Rattle.ec_select_functions.proofs.Truth.{not_not}
 
@@ -30,10 +30,11 @@ pub record FlagTells (truth : Bool) (r : Relation) (s : Bool) (v : View) : Type 
   pub holds : truth ≡ true → flag_at v.flags (flag_of r s) ≡ if_bit (is_set r)
   pub fails : truth ≡ false → flag_at v.flags (flag_of r s) ≡ if_bit (not (is_set r))
 
--- no flag tells anything of a pointer in Z
+-- no flag tells anything of a pointer or an index in Z
 abbrev pub TellsTruth : (truth : Bool) → Told → View → Type 0
 TellsTruth truth (Operands r s) v = FlagTells truth r s v
 TellsTruth truth (InZ offset) v = ⊥
+TellsTruth truth Index v = ⊥
 
 -- Z tells whether a number is 0
 pub zero_told : (b : Bool) (v : View) → v.flags.z ≡ from_bool b → TellsTruth b (turned None) v
@@ -66,6 +67,7 @@ turned_told false (Operands r s) v h = record {
   fails = λ z. absurd (false≢true (sym z));
 }
 turned_told truth (InZ offset) v h = absurd h
+turned_told truth Index v h = absurd h
 
 -- ---- at least one step
 

@@ -39,6 +39,9 @@ held_at t c temps = let q = eq-eqb t.at t.at refl in rw q refl
 pub content_of_held : (h k : Held) → Some h ≡ Some k → h.content ≡ k.content
 content_of_held h k q = let e : h ≡ k = cc in ap (λ x. x.content) e
 
+pub bytes_of_held : (h k : Held) → Some h ≡ Some k → h.bytes ≡ k.bytes
+bytes_of_held h k q = let e : h ≡ k = cc in ap (λ x. x.bytes) e
+
 -- ---- temporaries that are the same
 
 pub same_temp : (t u : Temp) → u.at ≡ t.at → u.bytes ≡ t.bytes → u ≡ t

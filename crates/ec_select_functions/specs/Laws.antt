@@ -28,6 +28,7 @@ use Rattle.ec_select_functions.specs.Covered.{AreCovered}
 use Rattle.ec_select_operations.specs.Homes.{home}
 use Rattle.ec_select_functions.specs.Kept.{meaning_on}
 use Rattle.ec_select_operations.specs.Needs.{Need, IsLive}
+use Rattle.ec_select_operations.specs.Pointers.{has_tables}
 use Rattle.ec_select_operations.specs.Routines.{HasRoutineOf}
 use Rattle.ec_select_operations.specs.Places.{ObjectLeaf, CanBeLiveTogether, Apart, Layout}
 use Rattle.ec_select_functions.specs.Relation.{accesses, HoldsLeaf}
@@ -66,7 +67,7 @@ pub record IsSelected (p : PlainIrProgram) (e : Env) (place : ℕ → ℕ) (entr
   pub pc : ℕ
   pub end : ℕ
   pub covered : AreCovered (data_of p) results f (called_in g.code) g.slots g.code
-  pub live : IsLive made.labels g.code
+  pub live : IsLive (has_tables (data_of p).objects) made.labels g.code
   pub scratch_stands : ScratchStands e g.slots made.homes scratch
   pub objects_stand : ObjectsStand p e g.slots scratch place
   pub stands : HasAt e (function_code (data_of p) (linkage_of e.core p entry_of f g.slots made) f made.labels g.code) pc end

@@ -10,14 +10,15 @@ use ec_select_fixed::laws::{
 use ec_select_numbers::laws::numbers_are_operands;
 use ec_select_places::laws::{
     elements_are_formed, elements_are_right, far_elements_are_right, far_places_are_formed,
-    far_pointers_are_advanced, far_pointers_are_compared, indexes_are_added, indexes_are_formed,
-    indexes_are_scaled, places_are_short, pointers_are_advanced, pointers_are_compared,
-    pointers_are_converted,
+    far_places_are_numbers, far_pointers_are_advanced, far_pointers_are_compared,
+    indexes_are_added, indexes_are_formed, indexes_are_scaled, places_are_numbers,
+    places_are_short, pointers_are_advanced, pointers_are_compared, pointers_are_converted,
 };
 use ec_select_pointers::laws::{
     addresses_are_right, far_addresses_are_right, far_loads_are_right, far_loads_by_top_are_right,
     far_pointers_are_straight, fields_are_right, loads_are_right, loads_by_tag_are_right,
-    pointers_are_straight, stores_are_right, tables_are_formed, tables_are_loaded,
+    loads_from_z_by_tag_are_right, pointers_are_straight, stores_are_right, tables_are_formed,
+    tables_are_loaded,
 };
 use ec_select_routines::laws::{
     binary_routines_are_right, conversion_routines_are_right, quotient_routines_are_right,
@@ -48,6 +49,7 @@ pub fn code_follows_operations()
     fields_are_right();
     loads_are_right();
     loads_by_tag_are_right();
+    loads_from_z_by_tag_are_right();
     tables_are_loaded();
     tables_are_formed();
     stores_are_right();
@@ -58,6 +60,7 @@ pub fn code_follows_operations()
     pointers_are_advanced();
     elements_are_right();
     elements_are_formed();
+    places_are_numbers();
     pointers_are_compared();
     pointers_are_converted();
     places_are_short();
@@ -67,6 +70,7 @@ pub fn code_follows_operations()
     far_pointers_are_straight();
     far_pointers_are_advanced();
     far_elements_are_right();
+    far_places_are_numbers();
     far_pointers_are_compared();
     far_places_are_formed();
     numbers_are_operands();

@@ -1,7 +1,7 @@
 -- What needs no more than any table that tells all.
 use Rattle.std.proofs.Common.{Option, Some, None, ◌≡◌, ℕ, zero, suc, ◌<◌, ◌≤◌, List, [], ◌∷◌, Bool, true, false}
 use Rattle.std.proofs.Common.{refl, sym, ap, ◌∙◌, subst, arith, drop, replicate, max, ◌+◌, ⊎_elim}
-use Rattle.std.specs.Prelude.{◌==◌, ◌||◌, if◌then◌else◌}
+use Rattle.std.specs.Prelude.{◌==◌, ◌||◌, if◌then◌else◌, min}
 use Rattle.std.proofs.lemmas.Bool.{cases_eq, ne_eqb}
 use Rattle.std.proofs.lemmas.Bool.Decides.{nat_tests}
 use Rattle.ec_core.specs.declared.expressions.BinOp.{BinOp}
@@ -17,11 +17,15 @@ use Rattle.ec_select_operations.specs.Needs.{is_fixed, is_whole, first_wanted, s
 use Rattle.ec_select_operations.specs.Needs.{is_apart}
 use Rattle.ec_select_operations.specs.Needs.{index_needed, all_or_none, operand_wanted, right_wanted, returned_need}
 use Rattle.ec_select_operations.specs.Needs.{number_taken, takes_whole, right_taken, right_needed, before, Facts}
+use Rattle.ec_select_operations.specs.Needs.{is_low_mask, is_number, masked_bytes, joined_bytes, moves_pointer}
+use Rattle.ec_select_operations.specs.Needs.{pointer_wanted, moved_wanted}
+use Rattle.ec_select_operations.specs.Needs.{narrowed}
 use Rattle.ec_select_operations.specs.Needs.{compared_bytes, facts_of, known_right, needs}
 use Rattle.ec_select_operations.specs.Needs.{IsLiveBy, IsLive}
 use Rattle.ec_select_live.specs.Least.{HasLabel, HaveLabels, IsLeast}
 use Rattle.ec_select_live.specs.Places.{HasPlace, HasPlaces}
 use Rattle.ec_select_live.specs.Tables.{need_of, needs_of, AreSame, IsJoined, NeedsNoMore, TellNoMore}
+use Rattle.ec_select_live.proofs.Operations.{narrowed_places, narrowed_label}
 
 -- ---- operations
 
@@ -62,6 +66,15 @@ more_second : (whole : Bool) (op : BinOp) (bytes n m : ℕ) → n ≤ m → seco
 more_second true op bytes n m l = more_all bytes n m l
 more_second false op bytes n m l = more_right op bytes n m l
 
+more_pointer : (n m : ℕ) → n ≤ m → pointer_wanted n ≤ pointer_wanted m
+more_pointer zero m l = omega arith
+more_pointer (suc n) zero l = absurd (omega arith)
+more_pointer (suc n) (suc m) l = omega (arith, l)
+
+more_moved : (moved : Bool) (n m i j : ℕ) → n ≤ m → i ≤ j → moved_wanted moved n i ≤ moved_wanted moved m j
+more_moved true n m i j l k = more_pointer n m l
+more_moved false n m i j l k = k
+
 more_only : (whole : Bool) (bytes n m : ℕ) → n ≤ m → only_wanted whole bytes n ≤ only_wanted whole bytes m
 more_only true bytes n m l = more_all bytes n m l
 more_only false bytes n m l = l
@@ -87,6 +100,22 @@ more_index s (Some t) a b h = more_least s t.at 1 1 a b (omega arith) h
 same_needs : (s : ℕ) (a : Need) → NeedsNoMore s a a
 same_needs s a place l = omega arith
 
+more_masked : (taken : Option RightNumber) (op : BinOp) (n m : ℕ) → n ≤ m → masked_bytes taken op n ≤ masked_bytes taken op m
+more_masked None op n m l = l
+more_masked (Some k) op n m l = by_test (is_low_mask k.number op)
+  where
+    by_test : (x : Bool) → (if x then min n 1 else n) ≤ (if x then min m 1 else m)
+    by_test true = omega (arith, l)
+    by_test false = l
+
+more_joined : (taken : Option RightNumber) (n m : ℕ) → n ≤ m → joined_bytes taken n ≤ joined_bytes taken m
+more_joined None n m l = l
+more_joined (Some k) n m l = by_test (is_number k.number || k.in_byte)
+  where
+    by_test : (x : Bool) → (if x then n else min n 1) ≤ (if x then m else min m 1)
+    by_test true = l
+    by_test false = omega (arith, l)
+
 more_second_needed : (s : ℕ) (taken : Option RightNumber) (at n m : ℕ) (a b : Need) → n ≤ m → NeedsNoMore s a b
     → NeedsNoMore s (right_needed taken at n a) (right_needed taken at m b)
 more_second_needed s None at n m a b e h = more_least s at n m a b e h
@@ -102,15 +131,22 @@ before_more n s at other known (binary_op op ty mode to x xty y yty) a b l k q h
     let w = is_apart (family_of op) mode ty xty yty in
     let taken = number_taken known w op in
     let right = right_taken known (takes_whole op mode ty xty yty to y) w op in
-    let first = first_wanted w op (compared_bytes taken x.bytes) in
-    let second = second_wanted w op (compared_bytes taken y.bytes) in
-    more_least s x.at (first (wanted a to)) (first (wanted b to))
-    (right_needed right y.at (second (wanted a to)) (without to.at a))
-    (right_needed right y.at (second (wanted b to)) (without to.at b))
-    (more_first w op (compared_bytes taken x.bytes) (wanted a to) (wanted b to) (more_wanted s to a b l.0 h))
-    (more_second_needed s right y.at (second (wanted a to)) (second (wanted b to)) (without to.at a)
-    (without to.at b) (more_second w op (compared_bytes taken y.bytes) (wanted a to) (wanted b to) (more_wanted s to a b l.0 h))
-    (more_without s to.at a b h))
+    let first = λ (n : ℕ). first_wanted w op (compared_bytes taken x.bytes) (masked_bytes taken op n) in
+    let second = λ (n : ℕ). second_wanted w op (compared_bytes taken y.bytes) (joined_bytes taken n) in
+    let moved = moves_pointer op xty yty in
+    let turned = moves_pointer op yty xty in
+    let more = more_wanted s to a b l.0 h in
+    more_least s x.at (moved_wanted moved (wanted a to) (first (wanted a to))) (moved_wanted moved (wanted b to) (first (wanted b to)))
+    (right_needed right y.at (moved_wanted turned (wanted a to) (second (wanted a to))) (without to.at a))
+    (right_needed right y.at (moved_wanted turned (wanted b to) (second (wanted b to))) (without to.at b))
+    (more_moved moved (wanted a to) (wanted b to) (first (wanted a to)) (first (wanted b to)) more
+    (more_first w op (compared_bytes taken x.bytes) (masked_bytes taken op (wanted a to)) (masked_bytes taken op (wanted b to))
+    (more_masked taken op (wanted a to) (wanted b to) more)))
+    (more_second_needed s right y.at (moved_wanted turned (wanted a to) (second (wanted a to)))
+    (moved_wanted turned (wanted b to) (second (wanted b to))) (without to.at a) (without to.at b)
+    (more_moved turned (wanted a to) (wanted b to) (second (wanted a to)) (second (wanted b to)) more
+    (more_second w op (compared_bytes taken y.bytes) (joined_bytes taken (wanted a to)) (joined_bytes taken (wanted b to))
+    (more_joined taken (wanted a to) (wanted b to) more))) (more_without s to.at a b h))
 before_more n s at other known (unary_op op ty mode to x) a b l k q h = more_alone s (is_whole ty) to x a b l.0 h
 before_more n s at other known (conversion to ty mode x xty) a b l k q h = more_alone s (is_fixed ty || is_fixed xty) to x a b l.0 h
 before_more n s at other known (branch_zero t j) a b l k q h =
@@ -120,12 +156,12 @@ before_more n s at other known (return_from from) a b l k q h = same_needs s (re
 before_more n s at other known (label j) a b l k q h = q j k
 before_more n s at other known (jump j) a b l k q h = q j k
 before_more n s at other known (address t o offset) a b l k q h = more_without s t.at a b h
-before_more n s at other known (field ptr space offset) a b l k q h = more_least s ptr.at ptr.bytes ptr.bytes a b (omega arith) h
+before_more n s at other known (field ptr space offset) a b l k q h = more_least s ptr.at 2 2 a b (omega arith) h
 before_more n s at other known (load_at to ptr space) a b l k q h =
     more_least s ptr.at ptr.bytes ptr.bytes (without to.at a) (without to.at b) (omega arith) (more_without s to.at a b h)
 before_more n s at other known (store_at ptr space from) a b l k q h =
-    more_least s from.at from.bytes from.bytes (at_least ptr.at ptr.bytes a) (at_least ptr.at ptr.bytes b) (omega arith)
-    (more_least s ptr.at ptr.bytes ptr.bytes a b (omega arith) h)
+    more_least s from.at from.bytes from.bytes (at_least ptr.at 2 a) (at_least ptr.at 2 b) (omega arith)
+    (more_least s ptr.at 2 2 a b (omega arith) h)
 before_more n s at other known (call_function f None) a b l k q h = h
 before_more n s at other known (call_function f (Some t)) a b l k q h = more_without s t.at a b h
 before_more n s at other known (port_in to port index width) a b l k q h =
@@ -202,36 +238,41 @@ live_joined s at (cell_port read t cell offset index width) code need h k = tt
 -- ---- one operation
 
 -- a table and a row need no more than any table that tells all of the code, where the table t0 needed no more
-pub record NoMore (s : ℕ) (code : List PlainIr) (t0 t : List (List ℕ)) (need : List ℕ) (rest : List PlainIr) : Type 0 where
-  pub at_labels : (labels : ℕ) (other : ℕ → Need) → HaveLabels labels code → IsLive other code
+pub record NoMore (s : ℕ) (in_flash : Bool) (code : List PlainIr) (t0 t : List (List ℕ)) (need : List ℕ)
+    (rest : List PlainIr) : Type 0 where
+  pub at_labels : (labels : ℕ) (other : ℕ → Need) → HaveLabels labels code → IsLive in_flash other code
       → TellNoMore labels s (needs_of t0) other → TellNoMore labels s (needs_of t) other
-  pub here : (labels : ℕ) (other : ℕ → Need) → HaveLabels labels code → IsLive other code
-      → TellNoMore labels s (needs_of t0) other → NeedsNoMore s (need_of need) (needs (facts_of other code) rest)
+  pub here : (labels : ℕ) (other : ℕ → Need) → HaveLabels labels code → IsLive in_flash other code
+      → TellNoMore labels s (needs_of t0) other → NeedsNoMore s (need_of need) (needs (facts_of in_flash other code) rest)
 
-pub no_more : (s : ℕ) (code : List PlainIr) (t0 t t1 : List (List ℕ)) (need need1 : List ℕ) (rest : List PlainIr)
+pub no_more : (s : ℕ) (in_flash : Bool) (code : List PlainIr) (t0 t t1 : List (List ℕ)) (need need1 : List ℕ) (rest : List PlainIr)
     (n : Option RightNumber) (i : PlainIr) (k : ℕ) → n ≡ known_right code (i ∷ rest) → HasPlaces s i → drop k code ≡ i ∷ rest
-    → NoMore s code t0 t need rest
+    → NoMore s in_flash code t0 t need rest
     → ((labels : ℕ) (other : ℕ → Need) → TellNoMore labels s (needs_of t) other → IsJoined s other i (need_of need)
     → TellNoMore labels s (needs_of t1) other)
-    → AreSame s (need_of need1) (before (needs_of t1) n i (need_of need)) → NoMore s code t0 t1 need1 (drop k code)
-no_more s code t0 t t1 need need1 rest n i k number p is z j b =
-    let tells : (labels : ℕ) (other : ℕ → Need) → HaveLabels labels code → IsLive other code
+    → AreSame s (need_of need1) (before (needs_of t1) n (narrowed i in_flash) (need_of need))
+    → NoMore s in_flash code t0 t1 need1 (drop k code)
+no_more s in_flash code t0 t t1 need need1 rest n i k number p is z j b =
+    let tells : (labels : ℕ) (other : ℕ → Need) → HaveLabels labels code → IsLive in_flash other code
     → TellNoMore labels s (needs_of t0) other → TellNoMore labels s (needs_of t1) other =
     λ labels other h live q.
     j labels other (z.at_labels labels other h live q)
-    (live_joined s (facts_of other code) i rest (need_of need)
-    (subst (λ (x : List PlainIr). IsLiveBy (facts_of other code) x) is (live_drop (facts_of other code) k code live))
+    (live_joined s (facts_of in_flash other code) i rest (need_of need)
+    (subst (λ (x : List PlainIr). IsLiveBy (facts_of in_flash other code) x) is (live_drop (facts_of in_flash other code) k code live))
     (z.here labels other h live q)) in
     record {
       at_labels = tells;
       here = λ labels other h live q.
           let l : HaveLabels labels (i ∷ rest) = subst (λ (x : List PlainIr). HaveLabels labels x) is (labels_drop labels k code h) in
-          subst (λ (x : List PlainIr). NeedsNoMore s (need_of need1) (needs (facts_of other code) x)) (sym is)
+          subst (λ (x : List PlainIr). NeedsNoMore s (need_of need1) (needs (facts_of in_flash other code) x)) (sym is)
           (λ place m.
           let x = b place m in
-          let y = before_more labels s (needs_of t1) other n i (need_of need) (needs (facts_of other code) rest) p l.0
+          let y = before_more labels s (needs_of t1) other n (narrowed i in_flash) (need_of need)
+          (needs (facts_of in_flash other code) rest)
+          (narrowed_places s in_flash i p) (narrowed_label labels in_flash i l.0)
           (tells labels other h live q) (z.here labels other h live q) place m in
-          let w = ap (λ (v : Option RightNumber). before other v i (needs (facts_of other code) rest) place) number in
+          let w = ap (λ (v : Option RightNumber). before other v (narrowed i in_flash) (needs (facts_of in_flash other code) rest) place)
+          number in
           omega (arith, x, y, w));
     }
 
@@ -282,13 +323,13 @@ more_labels n m code rest i is h k =
     subst (λ (x : List PlainIr). HaveLabels (max m n) x) (sym is)
     (label_more n (max m n) i (omega arith) h, labels_more m (max m n) rest (omega arith) k)
 
-abbrev pub IsNoMore : ℕ → List PlainIr → (t0 t : List (List ℕ)) → Type 0
-IsNoMore s code t0 t =
-    (labels : ℕ) (other : ℕ → Need) → HaveLabels labels code → IsLive other code
+abbrev pub IsNoMore : (in_flash : Bool) → ℕ → List PlainIr → (t0 t : List (List ℕ)) → Type 0
+IsNoMore in_flash s code t0 t =
+    (labels : ℕ) (other : ℕ → Need) → HaveLabels labels code → IsLive in_flash other code
     → TellNoMore labels s (needs_of t0) other → TellNoMore labels s (needs_of t) other
 
-pub least_table : (s : ℕ) (code : List PlainIr) (labels : ℕ) (t0 t : List (List ℕ)) → HaveLabels labels code
-    → t0 ≡ replicate labels (replicate s 0) → IsNoMore s code t0 t → IsLeast s (needs_of t) code
-least_table s code labels t0 t h e q other v l k place p =
+pub least_table : (in_flash : Bool) (s : ℕ) (code : List PlainIr) (labels : ℕ) (t0 t : List (List ℕ)) → HaveLabels labels code
+    → t0 ≡ replicate labels (replicate s 0) → IsNoMore in_flash s code t0 t → IsLeast in_flash s (needs_of t) code
+least_table in_flash s code labels t0 t h e q other v l k place p =
     q labels other h v (subst (λ (x : List (List ℕ)). TellNoMore labels s (needs_of x) other) (sym e) (nothing_more labels s other)) l
     (stands_below labels l code h k) place p

@@ -3,6 +3,8 @@ use Rattle.std.proofs.Common.{◌≡◌, ℕ, zero, suc, ◌≤◌, List, [], �
 use Rattle.std.proofs.Common.{ap, ◌∙◌, arith}
 use Rattle.std.specs.Prelude.{◌==◌, if◌then◌else◌, min, max}
 use Rattle.std.proofs.lemmas.Bool.Decides.{nat_tests}
+use Rattle.ec_space.specs.declared.space.SpaceId.{SpaceId}
+use Rattle.ec_space.specs.declared.space.SpaceId.TheVariants.{Flash, FarFlash, Data, Generic}
 use Rattle.ec_core.specs.declared.expressions.BinOp.{BinOp}
 use Rattle.ec_core.specs.declared.expressions.BinOp.TheVariants.{Shl, Shr}
 use Rattle.ec_ir.specs.declared.operations.Temp.{Temp}
@@ -16,7 +18,9 @@ use Rattle.ec_select_operations.specs.Needs.{all_or_none, is_fixed, is_whole, fi
 use Rattle.ec_select_operations.specs.Needs.{family_of, is_apart}
 use Rattle.ec_select_operations.specs.Needs.{index_needed, operand_wanted, right_wanted, returned_need, without_result}
 use Rattle.ec_select_operations.specs.Needs.{number_taken, takes_whole, right_taken, compared_bytes, right_needed}
-use Rattle.ec_select_operations.specs.Needs.{before, facts_of, known_right, needs}
+use Rattle.ec_select_operations.specs.Needs.{is_low_mask, is_number, masked_bytes, joined_bytes, before, facts_of, known_right, needs}
+use Rattle.ec_select_operations.specs.Needs.{moves_pointer, moved_wanted, narrowed, loaded_bytes}
+use Rattle.ec_select_live.specs.Least.{HasLabel}
 use Rattle.ec_select_live.specs.Places.{HasPlace, MayHavePlace, HasPlaces, HavePlaces}
 use Rattle.ec_select_live.specs.Tables.{AreSame, IsBounded, AreBounded}
 
@@ -73,8 +77,10 @@ before_same s at k (binary_op op ty mode to x xty y yty) a b l h =
     let w = is_apart (family_of op) mode ty xty yty in
     let taken = number_taken k w op in
     let right = right_taken k (takes_whole op mode ty xty yty to y) w op in
-    let first = first_wanted w op (compared_bytes taken x.bytes) in
-    let second = second_wanted w op (compared_bytes taken y.bytes) in
+    let first =
+    λ (n : ℕ). moved_wanted (moves_pointer op xty yty) n (first_wanted w op (compared_bytes taken x.bytes) (masked_bytes taken op n)) in
+    let second =
+    λ (n : ℕ). moved_wanted (moves_pointer op yty xty) n (second_wanted w op (compared_bytes taken y.bytes) (joined_bytes taken n)) in
     same_least s x.at (first (wanted a to)) (first (wanted b to))
     (right_needed right y.at (second (wanted a to)) (without to.at a))
     (right_needed right y.at (second (wanted b to)) (without to.at b))
@@ -90,12 +96,12 @@ before_same s at k (return_from from) a b l h = λ place q. refl
 before_same s at k (label j) a b l h = λ place q. refl
 before_same s at k (jump j) a b l h = λ place q. refl
 before_same s at k (address t o offset) a b l h = same_without s t.at a b h
-before_same s at k (field ptr space offset) a b l h = same_least s ptr.at ptr.bytes ptr.bytes a b refl h
+before_same s at k (field ptr space offset) a b l h = same_least s ptr.at 2 2 a b refl h
 before_same s at k (load_at to ptr space) a b l h =
     same_least s ptr.at ptr.bytes ptr.bytes (without to.at a) (without to.at b) refl (same_without s to.at a b h)
 before_same s at k (store_at ptr space from) a b l h =
-    same_least s from.at from.bytes from.bytes (at_least ptr.at ptr.bytes a) (at_least ptr.at ptr.bytes b) refl
-    (same_least s ptr.at ptr.bytes ptr.bytes a b refl h)
+    same_least s from.at from.bytes from.bytes (at_least ptr.at 2 a) (at_least ptr.at 2 b) refl
+    (same_least s ptr.at 2 2 a b refl h)
 before_same s at k (call_function f to) a b l h = same_result s to a b h
 before_same s at k (port_in to port index width) a b l h = same_index s index (without to.at a) (without to.at b)
     (same_without s to.at a b h)
@@ -137,6 +143,7 @@ result_same s (cell_port false from cell offset index width) a b l h = refl
 pub behind_same : (s : ℕ) (at : ℕ → Need) (i : PlainIr) (a b : Need) → HasPlaces s i → AreSame s a b
     → wanted_behind at a i ≡ wanted_behind at b i
 behind_same s at (branch_zero t k) a b l h = same_wanted s t (either a (at k)) (either b (at k)) l (same_either s a b (at k) h)
+behind_same s at (store_at ptr space from) a b l h = same_wanted s ptr a b l.0 h
 behind_same s at i a b l h = result_same s i a b l h
 
 -- ---- no more bytes than a place has
@@ -175,6 +182,11 @@ second_most : (whole : Bool) (op : BinOp) (bytes n : ℕ) → bytes ≤ 16 → n
 second_most true op bytes n l k = all_most bytes n l
 second_most false op bytes n l k = right_most op bytes n l k
 
+moved_most : (moved : Bool) (n others : ℕ) → n ≤ 16 → others ≤ 16 → moved_wanted moved n others ≤ 16
+moved_most true zero others l k = omega arith
+moved_most true (suc n) others l k = omega (arith, l)
+moved_most false n others l k = k
+
 only_most : (whole : Bool) (bytes n : ℕ) → bytes ≤ 16 → n ≤ 16 → only_wanted whole bytes n ≤ 16
 only_most true bytes n l k = all_most bytes n l
 only_most false bytes n l k = k
@@ -209,6 +221,22 @@ compared_most (Some k) bytes l = by_test k.in_byte
     by_test true = omega arith
     by_test false = l
 
+masked_most : (taken : Option RightNumber) (op : BinOp) (n : ℕ) → n ≤ 16 → masked_bytes taken op n ≤ 16
+masked_most None op n l = l
+masked_most (Some k) op n l = by_test (is_low_mask k.number op)
+  where
+    by_test : (x : Bool) → (if x then min n 1 else n) ≤ 16
+    by_test true = omega (arith, l)
+    by_test false = l
+
+joined_most : (taken : Option RightNumber) (n : ℕ) → n ≤ 16 → joined_bytes taken n ≤ 16
+joined_most None n l = l
+joined_most (Some k) n l = by_test (is_number k.number || k.in_byte)
+  where
+    by_test : (x : Bool) → (if x then n else min n 1) ≤ 16
+    by_test true = l
+    by_test false = omega (arith, l)
+
 bounded_right : (taken : Option RightNumber) (at n : ℕ) (a : Need) → n ≤ 16 → IsBounded a → IsBounded (right_needed taken at n a)
 bounded_right None at n a l h = bounded_least at n a l h
 bounded_right (Some k) at n a l h = h
@@ -223,13 +251,19 @@ before_bounded s at n (binary_op op ty mode to x xty y yty) a l k h =
     let w = is_apart (family_of op) mode ty xty yty in
     let taken = number_taken n w op in
     let right = right_taken n (takes_whole op mode ty xty yty to y) w op in
-    let first = first_wanted w op (compared_bytes taken x.bytes) in
-    let second = second_wanted w op (compared_bytes taken y.bytes) in
-    bounded_least x.at (first (wanted a to))
-    (right_needed right y.at (second (wanted a to)) (without to.at a))
-    (first_most w op (compared_bytes taken x.bytes) (wanted a to) (compared_most taken x.bytes l.1.1) (wanted_most a to l.0.1))
-    (bounded_right right y.at (second (wanted a to)) (without to.at a)
-    (second_most w op (compared_bytes taken y.bytes) (wanted a to) (compared_most taken y.bytes l.2.1) (wanted_most a to l.0.1))
+    let moved = moves_pointer op xty yty in
+    let turned = moves_pointer op yty xty in
+    let first = first_wanted w op (compared_bytes taken x.bytes) (masked_bytes taken op (wanted a to)) in
+    let second = second_wanted w op (compared_bytes taken y.bytes) (joined_bytes taken (wanted a to)) in
+    bounded_least x.at (moved_wanted moved (wanted a to) first)
+    (right_needed right y.at (moved_wanted turned (wanted a to) second) (without to.at a))
+    (moved_most moved (wanted a to) first (wanted_most a to l.0.1)
+    (first_most w op (compared_bytes taken x.bytes) (masked_bytes taken op (wanted a to)) (compared_most taken x.bytes l.1.1)
+    (masked_most taken op (wanted a to) (wanted_most a to l.0.1))))
+    (bounded_right right y.at (moved_wanted turned (wanted a to) second) (without to.at a)
+    (moved_most turned (wanted a to) second (wanted_most a to l.0.1)
+    (second_most w op (compared_bytes taken y.bytes) (joined_bytes taken (wanted a to)) (compared_most taken y.bytes l.2.1)
+    (joined_most taken (wanted a to) (wanted_most a to l.0.1))))
     (bounded_without to.at a h))
 before_bounded s at n (unary_op op ty mode to x) a l k h = bounded_only (is_whole ty) to x a l.0.1 l.1.1 h
 before_bounded s at n (conversion to ty mode x xty) a l k h = bounded_only (is_fixed ty || is_fixed xty) to x a l.0.1 l.1.1 h
@@ -239,11 +273,11 @@ before_bounded s at n (return_from from) a l k h = bounded_returned s from l
 before_bounded s at n (label q) a l k h = k q
 before_bounded s at n (jump q) a l k h = k q
 before_bounded s at n (address t o offset) a l k h = bounded_without t.at a h
-before_bounded s at n (field ptr space offset) a l k h = bounded_least ptr.at ptr.bytes a l.1 h
+before_bounded s at n (field ptr space offset) a l k h = bounded_least ptr.at 2 a (omega arith) h
 before_bounded s at n (load_at to ptr space) a l k h =
     bounded_least ptr.at ptr.bytes (without to.at a) l.1.1 (bounded_without to.at a h)
 before_bounded s at n (store_at ptr space from) a l k h =
-    bounded_least from.at from.bytes (at_least ptr.at ptr.bytes a) l.1.1 (bounded_least ptr.at ptr.bytes a l.0.1 h)
+    bounded_least from.at from.bytes (at_least ptr.at 2 a) l.1.1 (bounded_least ptr.at 2 a (omega arith) h)
 before_bounded s at n (call_function f None) a l k h = h
 before_bounded s at n (call_function f (Some t)) a l k h = bounded_without t.at a h
 before_bounded s at n (port_in to port index width) a l k h = bounded_index index (without to.at a) (bounded_without to.at a h)
@@ -256,8 +290,25 @@ before_bounded s at n (cell_port true to cell offset index width) a l k h =
 before_bounded s at n (cell_port false from cell offset index width) a l k h =
     bounded_least from.at width (index_needed index a) l.2 (bounded_index index a h)
 
-pub needs_bounded : (s : ℕ) (at : ℕ → Need) (all code : List PlainIr) → HavePlaces s code → AreBounded at
-    → IsBounded (needs (facts_of at all) code)
-needs_bounded s at all [] l k = bounded_nothing
-needs_bounded s at all (i ∷ code) l k =
-    before_bounded s at (known_right all (i ∷ code)) i (needs (facts_of at all) code) l.0 k (needs_bounded s at all code l.1 k)
+-- an operation that takes less of its pointer has the same places, and the same label
+loaded_most : (space : SpaceId) (in_flash : Bool) (bytes : ℕ) → bytes ≤ 16 → loaded_bytes space in_flash bytes ≤ 16
+loaded_most Generic false bytes l = omega arith
+loaded_most Generic true bytes l = l
+loaded_most Flash in_flash bytes l = l
+loaded_most FarFlash in_flash bytes l = l
+loaded_most Data in_flash bytes l = l
+
+pub narrowed_places : (s : ℕ) (in_flash : Bool) (i : PlainIr) → HasPlaces s i → HasPlaces s (narrowed i in_flash)
+narrowed_places s in_flash (load_at to ptr space) h = (h.0, (h.1.0, loaded_most space in_flash ptr.bytes h.1.1))
+narrowed_places s in_flash i h = h
+
+pub narrowed_label : (n : ℕ) (in_flash : Bool) (i : PlainIr) → HasLabel n i → HasLabel n (narrowed i in_flash)
+narrowed_label n in_flash (load_at to ptr space) h = h
+narrowed_label n in_flash i h = h
+
+pub needs_bounded : (s : ℕ) (in_flash : Bool) (at : ℕ → Need) (all code : List PlainIr) → HavePlaces s code → AreBounded at
+    → IsBounded (needs (facts_of in_flash at all) code)
+needs_bounded s in_flash at all [] l k = bounded_nothing
+needs_bounded s in_flash at all (i ∷ code) l k =
+    before_bounded s at (known_right all (i ∷ code)) (narrowed i in_flash) (needs (facts_of in_flash at all) code)
+    (narrowed_places s in_flash i l.0) k (needs_bounded s in_flash at all code l.1 k)

@@ -9,10 +9,10 @@ use Rattle.ec_ir.specs.Operations.{call_function, return_from, port_in, port_out
 use Rattle.ec_ir_known.specs.declared.known.RightNumber.{RightNumber}
 use Rattle.ec_ir_known.specs.Known.{numbers_left, right_numbers}
 use Rattle.ec_select_operations.specs.Code.{wanted_behind, wanted_bytes}
-use Rattle.ec_select_operations.specs.Needs.{Need, before, facts_of, known_right, needs, IsLiveBy}
+use Rattle.ec_select_operations.specs.Needs.{Need, before, facts_of, known_right, needs, narrowed, IsLiveBy}
 use Rattle.ec_select_live.specs.Places.{HasPlaces, HavePlaces}
 use Rattle.ec_select_live.specs.Tables.{need_of, needs_of, AreSame, IsBounded, IsTable, IsJoined, room}
-use Rattle.ec_select_live.proofs.Operations.{before_same, before_bounded, needs_bounded, behind_same}
+use Rattle.ec_select_live.proofs.Operations.{before_same, before_bounded, needs_bounded, behind_same, narrowed_places}
 
 below_or_not : (a b : ℕ) → (a < b) ⊎ (b ≤ a)
 below_or_not a zero = inr (omega arith)
@@ -35,67 +35,73 @@ drop_back f xs k x z h e =
     ∙ ap (λ y. y ∷ drop ((k - 1) + 1) (map f xs)) (get_or-map f xs (k - 1) x (f x) l ∙ ap f (sym e))
     ∙ ap (λ j. f x ∷ drop j (map f xs)) n
 
-label_live : (s : ℕ) (at : ℕ → Need) (all : List PlainIr) (l : ℕ) (rest : List PlainIr) (need : Need) → IsTable s at
+label_live : (s : ℕ) (in_flash : Bool) (at : ℕ → Need) (all : List PlainIr) (l : ℕ) (rest : List PlainIr) (need : Need) → IsTable s at
     → HavePlaces s rest → ((place : ℕ) → place < s → need place ≤ at l place)
-    → AreSame s need (needs (facts_of at all) rest) → (place : ℕ) → needs (facts_of at all) rest place ≤ at l place
-label_live s at all l rest need t h j same place =
+    → AreSame s need (needs (facts_of in_flash at all) rest) → (place : ℕ) → needs (facts_of in_flash at all) rest place ≤ at l place
+label_live s in_flash at all l rest need t h j same place =
     ⊎_elim
     (λ (b : place < s). let x = j place b in let y = same place b in omega arith)
-    (λ (b : s ≤ place). let x = t.beyond l place b in let y = needs_bounded s at all rest h t.most place in omega arith)
+    (λ (b : s ≤ place). let x = t.beyond l place b in let y = needs_bounded s in_flash at all rest h t.most place in omega arith)
     (below_or_not place s)
 
-live_more : (s : ℕ) (at : ℕ → Need) (all : List PlainIr) (i : PlainIr) (rest : List PlainIr) (need : Need) → IsTable s at
-    → HavePlaces s rest → IsJoined s at i need → AreSame s need (needs (facts_of at all) rest)
-    → IsLiveBy (facts_of at all) rest → IsLiveBy (facts_of at all) (i ∷ rest)
-live_more s at all (label l) rest need t h j same live = (label_live s at all l rest need t h j same, live)
-live_more s at all (constant u n) rest need t h j same live = live
-live_more s at all (copy to from) rest need t h j same live = live
-live_more s at all (address u o offset) rest need t h j same live = live
-live_more s at all (field ptr space offset) rest need t h j same live = live
-live_more s at all (load_at to ptr space) rest need t h j same live = live
-live_more s at all (store_at ptr space from) rest need t h j same live = live
-live_more s at all (load_object u o offset) rest need t h j same live = live
-live_more s at all (store_object o offset u) rest need t h j same live = live
-live_more s at all (binary_op op ty mode to a aty b bty) rest need t h j same live = live
-live_more s at all (unary_op op ty mode to a) rest need t h j same live = live
-live_more s at all (conversion to ty mode a aty) rest need t h j same live = live
-live_more s at all (jump l) rest need t h j same live = live
-live_more s at all (branch_zero u l) rest need t h j same live = live
-live_more s at all (call_function f to) rest need t h j same live = live
-live_more s at all (return_from from) rest need t h j same live = live
-live_more s at all (port_in to port index width) rest need t h j same live = live
-live_more s at all (port_out from port index width) rest need t h j same live = live
-live_more s at all (load_cell to cell) rest need t h j same live = live
-live_more s at all (store_cell cell from) rest need t h j same live = live
-live_more s at all (cell_port read u cell offset index width) rest need t h j same live = live
+live_more : (s : ℕ) (in_flash : Bool) (at : ℕ → Need) (all : List PlainIr) (i : PlainIr) (rest : List PlainIr) (need : Need) → IsTable s at
+    → HavePlaces s rest → IsJoined s at i need → AreSame s need (needs (facts_of in_flash at all) rest)
+    → IsLiveBy (facts_of in_flash at all) rest → IsLiveBy (facts_of in_flash at all) (i ∷ rest)
+live_more s in_flash at all (label l) rest need t h j same live = (label_live s in_flash at all l rest need t h j same, live)
+live_more s in_flash at all (constant u n) rest need t h j same live = live
+live_more s in_flash at all (copy to from) rest need t h j same live = live
+live_more s in_flash at all (address u o offset) rest need t h j same live = live
+live_more s in_flash at all (field ptr space offset) rest need t h j same live = live
+live_more s in_flash at all (load_at to ptr space) rest need t h j same live = live
+live_more s in_flash at all (store_at ptr space from) rest need t h j same live = live
+live_more s in_flash at all (load_object u o offset) rest need t h j same live = live
+live_more s in_flash at all (store_object o offset u) rest need t h j same live = live
+live_more s in_flash at all (binary_op op ty mode to a aty b bty) rest need t h j same live = live
+live_more s in_flash at all (unary_op op ty mode to a) rest need t h j same live = live
+live_more s in_flash at all (conversion to ty mode a aty) rest need t h j same live = live
+live_more s in_flash at all (jump l) rest need t h j same live = live
+live_more s in_flash at all (branch_zero u l) rest need t h j same live = live
+live_more s in_flash at all (call_function f to) rest need t h j same live = live
+live_more s in_flash at all (return_from from) rest need t h j same live = live
+live_more s in_flash at all (port_in to port index width) rest need t h j same live = live
+live_more s in_flash at all (port_out from port index width) rest need t h j same live = live
+live_more s in_flash at all (load_cell to cell) rest need t h j same live = live
+live_more s in_flash at all (store_cell cell from) rest need t h j same live = live
+live_more s in_flash at all (cell_port read u cell offset index width) rest need t h j same live = live
 
 -- ---- one operation
 
-pub need_bounded : (s : ℕ) (at : ℕ → Need) (n : Option RightNumber) (i : PlainIr) (need need1 : List ℕ) → HasPlaces s i → IsTable s at
-    → length need1 ≡ s → IsBounded (need_of need) → AreSame s (need_of need1) (before at n i (need_of need))
+pub need_bounded : (s : ℕ) (in_flash : Bool) (at : ℕ → Need) (n : Option RightNumber) (i : PlainIr) (need need1 : List ℕ) → HasPlaces s i
+    → IsTable s at
+    → length need1 ≡ s → IsBounded (need_of need) → AreSame s (need_of need1) (before at n (narrowed i in_flash) (need_of need))
     → IsBounded (need_of need1)
-need_bounded s at n i need need1 p t e b same place =
+need_bounded s in_flash at n i need need1 p t e b same place =
     ⊎_elim
-    (λ (l : place < s). let x = same place l in let y = before_bounded s at n i (need_of need) p t.most b place in omega arith)
+    (λ (l : place < s). let x = same place l in let y = before_bounded s at n (narrowed i in_flash) (need_of need)
+    (narrowed_places s in_flash i p) t.most b place in omega arith)
     (λ (l : s ≤ place). let x : need_of need1 place ≡ 16 = get_or_past need1 place 16 (omega arith) in omega arith)
     (below_or_not place s)
 
-pub need_more : (s : ℕ) (at : ℕ → Need) (all code rest : List PlainIr) (n : Option RightNumber) (i : PlainIr) (need need1 : List ℕ)
-    → n ≡ known_right all (i ∷ rest) → HasPlaces s i → code ≡ i ∷ rest → AreSame s (need_of need) (needs (facts_of at all) rest)
-    → AreSame s (need_of need1) (before at n i (need_of need)) → AreSame s (need_of need1) (needs (facts_of at all) code)
-need_more s at all code rest n i need need1 number p is h b =
-    subst (λ (x : List PlainIr). AreSame s (need_of need1) (needs (facts_of at all) x)) (sym is)
-    (λ place l. b place l ∙ before_same s at n i (need_of need) (needs (facts_of at all) rest) p h place l
-    ∙ ap (λ (k : Option RightNumber). before at k i (needs (facts_of at all) rest) place) number)
+pub need_more : (s : ℕ) (in_flash : Bool) (at : ℕ → Need) (all code rest : List PlainIr) (n : Option RightNumber) (i : PlainIr)
+    (need need1 : List ℕ)
+    → n ≡ known_right all (i ∷ rest) → HasPlaces s i → code ≡ i ∷ rest → AreSame s (need_of need) (needs (facts_of in_flash at all) rest)
+    → AreSame s (need_of need1) (before at n (narrowed i in_flash) (need_of need))
+    → AreSame s (need_of need1) (needs (facts_of in_flash at all) code)
+need_more s in_flash at all code rest n i need need1 number p is h b =
+    subst (λ (x : List PlainIr). AreSame s (need_of need1) (needs (facts_of in_flash at all) x)) (sym is)
+    (λ place l. b place l ∙ before_same s at n (narrowed i in_flash) (need_of need) (needs (facts_of in_flash at all) rest)
+    (narrowed_places s in_flash i p) h place l
+    ∙ ap (λ (k : Option RightNumber). before at k (narrowed i in_flash) (needs (facts_of in_flash at all) rest) place) number)
 
 -- the rest of all operations was passed over: first there was the table t0
-pub record Passed (s : ℕ) (all : List PlainIr) (t0 t : List (List ℕ)) (need : List ℕ) (rest : List PlainIr) (grown : Bool) : Type 0 where
+pub record Passed (s : ℕ) (in_flash : Bool) (all : List PlainIr) (t0 t : List (List ℕ)) (need : List ℕ) (rest : List PlainIr)
+    (grown : Bool) : Type 0 where
   pub kept : IsTable s (needs_of t)
   pub bounded : IsBounded (need_of need)
   pub grew : grown ≡ true → room t < room t0
   pub same : grown ≡ false → t ≡ t0
-  pub need_is : grown ≡ false → AreSame s (need_of need) (needs (facts_of (needs_of t) all) rest)
-  pub live : grown ≡ false → IsLiveBy (facts_of (needs_of t) all) rest
+  pub need_is : grown ≡ false → AreSame s (need_of need) (needs (facts_of in_flash (needs_of t) all) rest)
+  pub live : grown ≡ false → IsLiveBy (facts_of in_flash (needs_of t) all) rest
 
 -- a label was joined
 pub record Joined (s : ℕ) (t t1 : List (List ℕ)) (need : List ℕ) (i : PlainIr) (more : Bool) : Type 0 where
@@ -109,40 +115,41 @@ never_more : (s : ℕ) (t t1 : List (List ℕ)) (need : List ℕ) (i : PlainIr) 
 never_more s t t1 need i true j = let x = j.grew refl in omega arith
 never_more s t t1 need i false j = let x = ap room (j.same refl) in omega arith
 
-more_before : (s : ℕ) (code : List PlainIr) (t0 t : List (List ℕ)) (need : List ℕ) (rest : List PlainIr) (grown : Bool)
-    → Passed s code t0 t need rest grown → room t ≤ room t0
-more_before s code t0 t need rest true j = let x = j.grew refl in omega arith
-more_before s code t0 t need rest false j = let x = ap room (j.same refl) in omega arith
+more_before : (s : ℕ) (in_flash : Bool) (code : List PlainIr) (t0 t : List (List ℕ)) (need : List ℕ) (rest : List PlainIr) (grown : Bool)
+    → Passed s in_flash code t0 t need rest grown → room t ≤ room t0
+more_before s in_flash code t0 t need rest true j = let x = j.grew refl in omega arith
+more_before s in_flash code t0 t need rest false j = let x = ap room (j.same refl) in omega arith
 
-pub passed_more : (s : ℕ) (whole : List PlainIr) (t0 t t1 : List (List ℕ)) (need need1 : List ℕ) (rest code : List PlainIr)
+pub passed_more : (s : ℕ) (in_flash : Bool) (whole : List PlainIr) (t0 t t1 : List (List ℕ)) (need need1 : List ℕ)
+    (rest code : List PlainIr)
     (n : Option RightNumber) (i : PlainIr) (grown more all : Bool) → n ≡ known_right whole (i ∷ rest) → HasPlaces s i → HavePlaces s rest
     → length need1 ≡ s → code ≡ i ∷ rest
     → ((all ≡ false) → (grown ≡ false) × (more ≡ false)) → ((all ≡ true) → (grown ≡ true) ⊎ (more ≡ true))
-    → Passed s whole t0 t need rest grown → Joined s t t1 need i more
-    → AreSame s (need_of need1) (before (needs_of t1) n i (need_of need)) → Passed s whole t0 t1 need1 code all
-passed_more s whole t0 t t1 need need1 rest code n i grown more all number p ps e is none some z j b =
+    → Passed s in_flash whole t0 t need rest grown → Joined s t t1 need i more
+    → AreSame s (need_of need1) (before (needs_of t1) n (narrowed i in_flash) (need_of need)) → Passed s in_flash whole t0 t1 need1 code all
+passed_more s in_flash whole t0 t t1 need need1 rest code n i grown more all number p ps e is none some z j b =
     let k = j.kept s z.kept in
     record {
       kept = k;
-      bounded = need_bounded s (needs_of t1) n i need need1 p k e z.bounded b;
+      bounded = need_bounded s in_flash (needs_of t1) n i need need1 p k e z.bounded b;
       grew = λ a.
           ⊎_elim
           (λ (g : grown ≡ true). let x = z.grew g in let y = never_more s t t1 need i more j in omega arith)
-          (λ (g : more ≡ true). let x = j.grew g in let y = more_before s whole t0 t need rest grown z in omega arith)
+          (λ (g : more ≡ true). let x = j.grew g in let y = more_before s in_flash whole t0 t need rest grown z in omega arith)
           (some a);
       same = λ a. j.same (none a).1 ∙ z.same (none a).0;
       need_is = λ a.
           let o : t ≡ t1 = sym (j.same (none a).1) in
-          let h = subst (λ (x : List (List ℕ)). AreSame s (need_of need) (needs (facts_of (needs_of x) whole) rest)) o
+          let h = subst (λ (x : List (List ℕ)). AreSame s (need_of need) (needs (facts_of in_flash (needs_of x) whole) rest)) o
           (z.need_is (none a).0) in
-          need_more s (needs_of t1) whole code rest n i need need1 number p is h b;
+          need_more s in_flash (needs_of t1) whole code rest n i need need1 number p is h b;
       live = λ a.
           let o : t ≡ t1 = sym (j.same (none a).1) in
-          let h = subst (λ (x : List (List ℕ)). AreSame s (need_of need) (needs (facts_of (needs_of x) whole) rest)) o
+          let h = subst (λ (x : List (List ℕ)). AreSame s (need_of need) (needs (facts_of in_flash (needs_of x) whole) rest)) o
           (z.need_is (none a).0) in
-          let v = subst (λ (x : List (List ℕ)). IsLiveBy (facts_of (needs_of x) whole) rest) o (z.live (none a).0) in
-          subst (λ (x : List PlainIr). IsLiveBy (facts_of (needs_of t1) whole) x) (sym is)
-          (live_more s (needs_of t1) whole i rest (need_of need) k ps (j.is (none a).1) h v);
+          let v = subst (λ (x : List (List ℕ)). IsLiveBy (facts_of in_flash (needs_of x) whole) rest) o (z.live (none a).0) in
+          subst (λ (x : List PlainIr). IsLiveBy (facts_of in_flash (needs_of t1) whole) x) (sym is)
+          (live_more s in_flash (needs_of t1) whole i rest (need_of need) k ps (j.is (none a).1) h v);
     }
 
 -- ---- the measure
@@ -160,20 +167,20 @@ pub places_at : {A : Type 0} (f : A → PlainIr) (s : ℕ) (xs : List A) (k : �
 places_at f s xs k x z h e p =
     subst (λ (code : List PlainIr). HavePlaces s code) (drop_back f xs k x z h e) (places_drop s (k - 1) (map f xs) p)
 
-pub wanted_more : (s : ℕ) (at : ℕ → Need) (all code rest : List PlainIr) (i : PlainIr) (need wanted : List ℕ) (k n : ℕ)
-    → HasPlaces s i → code ≡ i ∷ rest → AreSame s (need_of need) (needs (facts_of at all) rest)
-    → n ≡ wanted_behind at (need_of need) i → 0 < k → k ≤ length wanted → drop k wanted ≡ wanted_bytes (facts_of at all) rest
-    → drop (k - 1) (set wanted (k - 1) n) ≡ wanted_bytes (facts_of at all) code
-wanted_more s at all code rest i need wanted k n p is h r z l w =
+pub wanted_more : (s : ℕ) (in_flash : Bool) (at : ℕ → Need) (all code rest : List PlainIr) (i : PlainIr) (need wanted : List ℕ) (k n : ℕ)
+    → HasPlaces s i → code ≡ i ∷ rest → AreSame s (need_of need) (needs (facts_of in_flash at all) rest)
+    → n ≡ wanted_behind at (need_of need) i → 0 < k → k ≤ length wanted → drop k wanted ≡ wanted_bytes (facts_of in_flash at all) rest
+    → drop (k - 1) (set wanted (k - 1) n) ≡ wanted_bytes (facts_of in_flash at all) code
+wanted_more s in_flash at all code rest i need wanted k n p is h r z l w =
     let m : k - 1 < length wanted = omega arith in
     let e : (k - 1) + 1 ≡ k = omega arith in
-    let q : n ≡ wanted_behind at (needs (facts_of at all) rest) i =
-    r ∙ behind_same s at i (need_of need) (needs (facts_of at all) rest) p h in
+    let q : n ≡ wanted_behind at (needs (facts_of in_flash at all) rest) i =
+    r ∙ behind_same s at i (need_of need) (needs (facts_of in_flash at all) rest) p h in
     drop-set wanted (k - 1) n m
     ∙ ap (λ (j : ℕ). n ∷ drop j wanted) e
     ∙ ap (λ (x : List ℕ). n ∷ x) w
-    ∙ ap (λ (x : ℕ). x ∷ wanted_bytes (facts_of at all) rest) q
-    ∙ ap (wanted_bytes (facts_of at all)) (sym is)
+    ∙ ap (λ (x : ℕ). x ∷ wanted_bytes (facts_of in_flash at all) rest) q
+    ∙ ap (wanted_bytes (facts_of in_flash at all)) (sym is)
 
 -- ---- the number that the second operand of an operation is known to hold
 

@@ -13,7 +13,7 @@ use crate::rows::clear;
 use crate::table::{LabelNeeds, zeros};
 use ec_ir::{Ir, Temp};
 use ec_ir_known::RightNumber;
-use ec_select_operations::number_at;
+use ec_select_operations::{moves_pointer, number_at};
 use ec_space::{NoMemory, Seq};
 use std::alloc::Global;
 
@@ -57,13 +57,30 @@ fn row_of(alloc: Global, need: &[u8], to: Option<Temp>) -> Result<Vec<u8>, NoMem
     Ok(row)
 }
 
-/// What an operation keeps: one that is no call keeps nothing.
+/// A row of one number.
+fn row_with(alloc: Global, n: u8) -> Result<Vec<u8>, NoMemory>
+    ensures { IfOk result (λ row. row.items ≡ n ∷ []) }
+{
+    let mut row = Vec::new(alloc);
+    push(&mut row, n)?;
+    Ok(row)
+}
+
+/// What a call keeps, or what is needed of the place of an index. The row of any other operation is empty.
 fn kept_row(alloc: Global, need: &[u8], i: &Ir) -> Result<Vec<u8>, NoMemory>
+    requires { HasPlaces (length need.now) (plain_ir i.now) }
     ensures { IfOk result (λ row. row.items
         ≡ kept_row (length need.now) (need_of need.now) (plain_ir i.now)) }
 {
     match i {
         Ir::Call(_, to) => row_of(alloc, need, *to),
+        Ir::Bin {
+            op,
+            aty,
+            b,
+            bty,
+            ..
+        } if moves_pointer(*op, aty, bty) => row_with(alloc, need[usize::from(b.at)]),
         _ => Ok(Vec::new(alloc)),
     }
 }
@@ -85,6 +102,7 @@ fn empty_rows(alloc: Global, n: usize) -> Result<Vec<Vec<u8>>, NoMemory>
 fn keep_all(
     alloc: Global,
     table: &LabelNeeds,
+    in_flash: bool,
     code: &[Ir],
     numbers: &[Option<RightNumber>],
     need: &mut [u8],
@@ -94,23 +112,25 @@ fn keep_all(
     requires places { HavePlaces (length need.old) (map plain_ir code.now) }
     requires lengths { length rows.old ≡ length code.now }
     ensures { OnOk result (map (λ row. row.items) rows.new
-        ≡ kept_rows (length need.old) (facts_of (needs_of table.now) (map plain_ir code.now)) (map plain_ir code.now)) }
+        ≡ kept_rows (length need.old) (facts_of in_flash (needs_of table.now) (map plain_ir code.now)) (map plain_ir code.now)) }
 {
     clear(need);
     for k in (0..code.len()).rev() {
         let i = &code[k];
         let number = number_at(numbers, k);
         rows[k] = kept_row(alloc, need, i)?;
-        before(table, number, i, need);
+        before(table, in_flash, number, i, need);
     }
     Ok(())
 }
 
 /// For each call a row of numbers: how many bytes it keeps of each of the first places, where so much is needed at the
-/// labels, and second operands are known to hold these numbers. The row of any other operation is empty.
+/// labels, and second operands are known to hold these numbers. For each operation that moves a pointer one number: how
+/// many bytes are needed behind it of the place of its index. The row of any other operation is empty.
 pub fn kept(
     alloc: Global,
     table: &LabelNeeds,
+    in_flash: bool,
     code: &Seq<Ir>,
     numbers: &[Option<RightNumber>],
     slots: u16,
@@ -118,10 +138,18 @@ pub fn kept(
     requires places { HavePlaces slots (map plain_ir code.now.items) }
     requires numbers { numbers.now ≡ right_numbers (map plain_ir code.now.items) }
     ensures { IfOk result (λ rows. map (λ row. row.items) rows.items
-        ≡ kept_rows slots (facts_of (needs_of table.now) (map plain_ir code.now.items)) (map plain_ir code.now.items)) }
+        ≡ kept_rows slots (facts_of in_flash (needs_of table.now) (map plain_ir code.now.items)) (map plain_ir code.now.items)) }
 {
     let mut need = zeros(alloc, usize::from(slots))?;
     let mut rows = empty_rows(alloc, code.len())?;
-    keep_all(alloc, table, code.as_slice(), numbers, &mut need, &mut rows)?;
+    keep_all(
+        alloc,
+        table,
+        in_flash,
+        code.as_slice(),
+        numbers,
+        &mut need,
+        &mut rows,
+    )?;
     Ok(rows)
 }

@@ -38,6 +38,7 @@ fn join_label(table: &mut LabelNeeds, i: &Ir, need: &[u8]) -> bool
 /// Goes over the operations from the last to the first. Answers whether more is needed at a label than the table told.
 fn pass(
     table: &mut LabelNeeds,
+    in_flash: bool,
     code: &[Ir],
     numbers: &[Option<RightNumber>],
     need: &mut [u8],
@@ -48,9 +49,9 @@ fn pass(
     ensures kept { IsTable (length need.old) (needs_of table.new) }
     ensures grown { result ≡ true → room table.new < room table.old }
     ensures same { result ≡ false → table.new ≡ table.old }
-    ensures live { result ≡ false → IsLive (needs_of table.new) (map plain_ir code.now) }
+    ensures live { result ≡ false → IsLive in_flash (needs_of table.new) (map plain_ir code.now) }
     ensures least { (labels : ℕ) (other : ℕ → Need) → HaveLabels labels (map plain_ir code.now)
-        → IsLive other (map plain_ir code.now) → TellNoMore labels (length need.old) (needs_of table.old) other
+        → IsLive in_flash other (map plain_ir code.now) → TellNoMore labels (length need.old) (needs_of table.old) other
         → TellNoMore labels (length need.old) (needs_of table.new) other }
 {
     clear(need);
@@ -59,25 +60,31 @@ fn pass(
         let i = &code[k];
         let number = number_at(numbers, k);
         let more = join_label(table, i, need);
-        before(table, number, i, need);
+        before(table, in_flash, number, i, need);
         grown = grown || more;
     }
     grown
 }
 
 /// Passes over the operations until a table tells all that is needed.
-fn settle(table: &mut LabelNeeds, code: &[Ir], numbers: &[Option<RightNumber>], need: &mut [u8])
+fn settle(
+    table: &mut LabelNeeds,
+    in_flash: bool,
+    code: &[Ir],
+    numbers: &[Option<RightNumber>],
+    need: &mut [u8],
+)
     requires numbers { numbers.now ≡ right_numbers (map plain_ir code.now) }
     requires places { HavePlaces (length need.old) (map plain_ir code.now) }
     requires known { IsTable (length need.old) (needs_of table.old) }
-    ensures live { IsLive (needs_of table.new) (map plain_ir code.now) }
+    ensures live { IsLive in_flash (needs_of table.new) (map plain_ir code.now) }
     ensures least { (labels : ℕ) (other : ℕ → Need) → HaveLabels labels (map plain_ir code.now)
-        → IsLive other (map plain_ir code.now) → TellNoMore labels (length need.old) (needs_of table.old) other
+        → IsLive in_flash other (map plain_ir code.now) → TellNoMore labels (length need.old) (needs_of table.old) other
         → TellNoMore labels (length need.old) (needs_of table.new) other }
 {
     let mut grown = true;
     while grown {
-        grown = pass(table, code, numbers, need);
+        grown = pass(table, in_flash, code, numbers, need);
     }
 }
 
@@ -112,25 +119,26 @@ fn label_count(code: &[Ir]) -> Result<usize, NoMemory>
 /// The labels are best numbered from 0 on, as the table has a row for each number up to the greatest.
 pub fn live(
     alloc: Global,
+    in_flash: bool,
     code: &Seq<Ir>,
     numbers: &[Option<RightNumber>],
     slots: u16,
 ) -> Result<LabelNeeds, NoMemory>
     requires places { HavePlaces slots (map plain_ir code.now.items) }
     requires numbers { numbers.now ≡ right_numbers (map plain_ir code.now.items) }
-    ensures live { IfOk result (λ table. IsLive (needs_of table) (map plain_ir code.now.items)) }
-    ensures least { IfOk result (λ table. IsLeast slots (needs_of table) (map plain_ir code.now.items)) }
+    ensures live { IfOk result (λ table. IsLive in_flash (needs_of table) (map plain_ir code.now.items)) }
+    ensures least { IfOk result (λ table. IsLeast in_flash slots (needs_of table) (map plain_ir code.now.items)) }
 {
     let places = usize::from(slots);
     let labels = label_count(code.as_slice())?;
     let mut need = zeros(alloc, places)?;
     let mut table = LabelNeeds::new(alloc, labels, places)?;
-    settle(&mut table, code.as_slice(), numbers, &mut need);
+    settle(&mut table, in_flash, code.as_slice(), numbers, &mut need);
     Ok(table)
 }
 
-/// The bytes that are needed behind an operation, where so much is needed there: of its result, or of what a branch has
-/// tested.
+/// The bytes that are needed behind an operation, where so much is needed there: of its result, of what a branch has
+/// tested, or of the pointer by which a store has stored.
 fn wanted_behind(table: &LabelNeeds, need: &[u8], i: &Ir) -> u8
     requires { HasPlaces (length need.now) (plain_ir i.now) }
     ensures { result ≡ wanted_behind (needs_of table.now) (need_of need.now) (plain_ir i.now) }
@@ -148,7 +156,8 @@ fn wanted_behind(table: &LabelNeeds, need: &[u8], i: &Ir) -> u8
             temp: to,
             ..
         }
-        | Ir::Call(_, Some(to)) => wanted_of(need, *to),
+        | Ir::Call(_, Some(to))
+        | Ir::Store { ptr: to, .. } => wanted_of(need, *to),
         Ir::BranchZero(t, l) => {
             let place = usize::from(t.at);
             need[place].max(table.need(*l, place)).min(t.bytes)
@@ -159,6 +168,7 @@ fn wanted_behind(table: &LabelNeeds, need: &[u8], i: &Ir) -> u8
 
 fn want(
     table: &LabelNeeds,
+    in_flash: bool,
     code: &[Ir],
     numbers: &[Option<RightNumber>],
     need: &mut [u8],
@@ -167,14 +177,14 @@ fn want(
     requires numbers { numbers.now ≡ right_numbers (map plain_ir code.now) }
     requires places { HavePlaces (length need.old) (map plain_ir code.now) }
     requires lengths { length wanted.old ≡ length code.now }
-    ensures { wanted.new ≡ wanted_bytes (facts_of (needs_of table.now) (map plain_ir code.now)) (map plain_ir code.now) }
+    ensures { wanted.new ≡ wanted_bytes (facts_of in_flash (needs_of table.now) (map plain_ir code.now)) (map plain_ir code.now) }
 {
     clear(need);
     for k in (0..code.len()).rev() {
         let i = &code[k];
         let number = number_at(numbers, k);
         wanted[k] = wanted_behind(table, need, i);
-        before(table, number, i, need);
+        before(table, in_flash, number, i, need);
     }
 }
 
@@ -183,6 +193,7 @@ fn want(
 pub fn wanted(
     alloc: Global,
     table: &LabelNeeds,
+    in_flash: bool,
     code: &Seq<Ir>,
     numbers: &[Option<RightNumber>],
     slots: u16,
@@ -190,10 +201,17 @@ pub fn wanted(
     requires places { HavePlaces slots (map plain_ir code.now.items) }
     requires numbers { numbers.now ≡ right_numbers (map plain_ir code.now.items) }
     ensures { IfOk result (λ bytes. bytes.items
-        ≡ wanted_bytes (facts_of (needs_of table.now) (map plain_ir code.now.items)) (map plain_ir code.now.items)) }
+        ≡ wanted_bytes (facts_of in_flash (needs_of table.now) (map plain_ir code.now.items)) (map plain_ir code.now.items)) }
 {
     let mut need = zeros(alloc, usize::from(slots))?;
     let mut bytes = zeros(alloc, code.len())?;
-    want(table, code.as_slice(), numbers, &mut need, &mut bytes);
+    want(
+        table,
+        in_flash,
+        code.as_slice(),
+        numbers,
+        &mut need,
+        &mut bytes,
+    );
     Ok(bytes)
 }

@@ -1,21 +1,25 @@
 //! What is needed before operations.
-ghost use Rattle.std.specs.Prelude.{◌<◌, length};
+ghost use Rattle.std.specs.Prelude.{◌≡◌, ◌<◌, length};
 ghost use Rattle.ec_ir.specs.Operations.{plain_ir};
 ghost use Rattle.ec_select_operations.specs.Needs.{before, either, at_least, without, wanted, index_needed};
 ghost use Rattle.ec_select_operations.specs.Needs.{returned_need, without_result, first_wanted, second_wanted};
-ghost use Rattle.ec_select_operations.specs.Needs.{only_wanted, right_needed, compared_bytes};
+ghost use Rattle.ec_select_operations.specs.Needs.{only_wanted, right_needed, compared_bytes, masked_bytes, joined_bytes};
+ghost use Rattle.ec_select_operations.specs.Needs.{moved_wanted, loaded_bytes, narrowed};
 ghost use Rattle.ec_select_live.specs.Places.{MayHavePlace, HasPlaces};
 ghost use Rattle.ec_select_live.specs.Tables.{need_of, needs_of, AreSame};
 
-use crate::rows::{clear, first_wanted, forget, keep, only_wanted, second_wanted, wanted_of};
+use crate::rows::{
+    clear, first_wanted, forget, keep, moved_wanted, only_wanted, second_wanted, wanted_of,
+};
 use crate::table::{LabelNeeds, zeros};
 use ec_core::BinOp;
 use ec_ir::{Ir, Temp};
 use ec_ir_known::RightNumber;
 use ec_select_operations::{
-    compared_bytes, family_of, is_apart, is_fixed, is_whole, number_taken, right_taken, takes_whole,
+    compared_bytes, family_of, is_apart, is_fixed, is_whole, joined_bytes, masked_bytes,
+    moves_pointer, number_taken, right_taken, takes_whole,
 };
-use ec_space::{NoMemory, Seq};
+use ec_space::{NoMemory, Seq, SpaceId};
 use std::alloc::Global;
 
 /// As many bytes of an operand are needed as of the result, or all.
@@ -42,11 +46,19 @@ fn keep_right(need: &mut [u8], taken: Option<RightNumber>, b: Temp, n: u8)
     }
 }
 
+/// Whether an operator moves its first operand, or its second one.
+#[derive(Clone, Copy)]
+struct Moves {
+    first: bool,
+    second: bool,
+}
+
 /// The operands of a binary operator. An operator on integers takes what is known of the second operand as `taken`, and any
 /// operator takes the number `right` in place of it.
 fn pass_operands(
     need: &mut [u8],
     whole: bool,
+    moves: Moves,
     taken: Option<RightNumber>,
     right: Option<RightNumber>,
     op: BinOp,
@@ -58,16 +70,22 @@ fn pass_operands(
     requires left { a.at < length need.old }
     requires right { b.at < length need.old }
     ensures { AreSame (length need.old) (need_of need.new)
-        (at_least a.at (first_wanted whole op (compared_bytes taken a.bytes) (wanted (need_of need.old) to))
-        (right_needed right b.at (second_wanted whole op (compared_bytes taken b.bytes) (wanted (need_of need.old) to))
+        (at_least a.at (moved_wanted moves.first (wanted (need_of need.old) to)
+        (first_wanted whole op (compared_bytes taken a.bytes) (masked_bytes taken op (wanted (need_of need.old) to))))
+        (right_needed right b.at (moved_wanted moves.second (wanted (need_of need.old) to)
+        (second_wanted whole op (compared_bytes taken b.bytes) (joined_bytes taken (wanted (need_of need.old) to))))
         (without to.at (need_of need.old)))) }
 {
     let n = wanted_of(need, to);
     forget(need, to);
     let bytes = compared_bytes(taken, b.bytes);
-    keep_right(need, right, b, second_wanted(whole, op, bytes, n));
+    let joined = joined_bytes(taken, n);
+    let second = moved_wanted(moves.second, n, second_wanted(whole, op, bytes, joined));
+    keep_right(need, right, b, second);
     let bytes = compared_bytes(taken, a.bytes);
-    keep(need, a, first_wanted(whole, op, bytes, n));
+    let masked = masked_bytes(taken, op, n);
+    let first = moved_wanted(moves.first, n, first_wanted(whole, op, bytes, masked));
+    keep(need, a, first);
 }
 
 /// What is needed at a label.
@@ -109,15 +127,26 @@ fn at_call(need: &mut [u8], to: Option<Temp>)
     }
 }
 
-/// What is needed before a load through a pointer.
-fn at_load(need: &mut [u8], to: Temp, ptr: Temp)
+/// The bytes of a pointer that a load takes: where no object is kept in flash, of one into the unnamed space the two of an
+/// address.
+fn loaded_bytes(space: SpaceId, in_flash: bool, bytes: u8) -> u8
+    ensures { result ≡ loaded_bytes space in_flash bytes }
+{
+    match space {
+        SpaceId::Generic => { if in_flash { bytes } else { 2 } }
+        SpaceId::Flash | SpaceId::FarFlash | SpaceId::Data => bytes,
+    }
+}
+
+/// What is needed before a load through a pointer, of which it takes so many bytes.
+fn at_load(need: &mut [u8], to: Temp, ptr: Temp, bytes: u8)
     requires to { to.at < length need.old }
     requires pointer { ptr.at < length need.old }
     ensures { AreSame (length need.old) (need_of need.new)
-        (at_least ptr.at ptr.bytes (without to.at (need_of need.old))) }
+        (at_least ptr.at bytes (without to.at (need_of need.old))) }
 {
     forget(need, to);
-    keep(need, ptr, ptr.bytes);
+    keep(need, ptr, bytes);
 }
 
 /// What is needed before a store through a pointer.
@@ -125,9 +154,9 @@ fn at_store(need: &mut [u8], ptr: Temp, from: Temp)
     requires pointer { ptr.at < length need.old }
     requires from { from.at < length need.old }
     ensures { AreSame (length need.old) (need_of need.new)
-        (at_least from.at from.bytes (at_least ptr.at ptr.bytes (need_of need.old))) }
+        (at_least from.at from.bytes (at_least ptr.at 2 (need_of need.old))) }
 {
-    keep(need, ptr, ptr.bytes);
+    keep(need, ptr, 2);
     keep(need, from, from.bytes);
 }
 
@@ -173,16 +202,24 @@ fn at_write(need: &mut [u8], from: Temp, index: Option<Temp>, width: u8)
 }
 
 /// What is needed before an operation, in place of what is needed after it: `need` has a byte for each of the first
-/// places. Its second operand may be known to hold a number.
-pub fn before(table: &LabelNeeds, known: Option<RightNumber>, i: &Ir, need: &mut [u8])
+/// places. Its second operand may be known to hold a number; `in_flash` tells whether some object is kept in flash.
+pub fn before(
+    table: &LabelNeeds,
+    in_flash: bool,
+    known: Option<RightNumber>,
+    i: &Ir,
+    need: &mut [u8],
+)
     requires { HasPlaces (length need.old) (plain_ir i.now) }
     ensures { AreSame (length need.old) (need_of need.new)
-        (before (needs_of table.now) known (plain_ir i.now) (need_of need.old)) }
+        (before (needs_of table.now) known (narrowed (plain_ir i.now) in_flash) (need_of need.old)) }
 {
     match i {
         Ir::Const(t, _) | Ir::Addr(t, _, _) | Ir::LoadObj(t, _, _) => forget(need, *t),
-        Ir::Field { ptr, .. } => keep(need, *ptr, ptr.bytes),
-        Ir::Load { to, ptr, .. } => at_load(need, *to, *ptr),
+        Ir::Field { ptr, .. } => keep(need, *ptr, 2),
+        Ir::Load { to, ptr, space } => {
+            at_load(need, *to, *ptr, loaded_bytes(*space, in_flash, ptr.bytes))
+        }
         Ir::Store { ptr, from, .. } => at_store(need, *ptr, *from),
         Ir::StoreObj(_, _, t) => keep(need, *t, t.bytes),
         Ir::Copy(to, a) => pass_on(need, false, *to, *a),
@@ -202,7 +239,11 @@ pub fn before(table: &LabelNeeds, known: Option<RightNumber>, i: &Ir, need: &mut
             let takes = takes_whole(*op, *mode, ty, aty, bty, *to, *b);
             let taken = number_taken(known, apart, *op);
             let right = right_taken(known, takes, apart, *op);
-            pass_operands(need, apart, taken, right, *op, *to, *a, *b)
+            let moves = Moves {
+                first: moves_pointer(*op, aty, bty),
+                second: moves_pointer(*op, bty, aty),
+            };
+            pass_operands(need, apart, moves, taken, right, *op, *to, *a, *b)
         }
         Ir::Label(l) | Ir::Jump(l) => at_label(table, *l, need),
         Ir::BranchZero(t, l) => at_branch(table, *t, compared_bytes(known, t.bytes), *l, need),

@@ -2,6 +2,7 @@
 ghost use Rattle.std.specs.Prelude.{◌≡◌, ◌<◌, length};
 ghost use Rattle.ec_select_operations.specs.Needs.{nothing, at_least, without, wanted, all_or_none};
 ghost use Rattle.ec_select_operations.specs.Needs.{operand_wanted, first_wanted, second_wanted, only_wanted};
+ghost use Rattle.ec_select_operations.specs.Needs.{pointer_wanted, moved_wanted};
 ghost use Rattle.ec_select_operations.specs.Needs.{right_wanted, is_of_low_bytes};
 ghost use Rattle.ec_select_live.specs.Tables.{need_of, AreSame};
 
@@ -98,6 +99,20 @@ pub fn second_wanted(whole: bool, op: BinOp, bytes: u8, n: u8) -> u8
     } else {
         right_wanted(op, bytes, n)
     }
+}
+
+/// As many bytes of a pointer as are needed, but at least the two of an address.
+fn pointer_wanted(n: u8) -> u8
+    ensures { result ≡ pointer_wanted n }
+{
+    if n == 0 { 0 } else { n.max(2) }
+}
+
+/// The bytes of an operand that n bytes of the result take: of a pointer that is moved as many, and of others so many.
+pub fn moved_wanted(moved: bool, n: u8, others: u8) -> u8
+    ensures { result ≡ moved_wanted moved n others }
+{
+    if moved { pointer_wanted(n) } else { others }
 }
 
 /// The bytes of the only operand that `n` bytes of a result take: as many, or where all bytes are taken all of them.

@@ -1,6 +1,6 @@
 -- Lemmas of the emitters.
-use Rattle.std.proofs.Common.{◌≡◌, ◌++◌, ℕ, ◌≤◌, true, List, [], ◌∷◌, Ok, Err, append_assoc, refl, ap, ◌∙◌, inl, inr, subst, arith}
-use Rattle.std.specs.Prelude.{Result, OnOk, ◌||◌, ◌&&◌, ◌==◌, ◌<◌, nat_lt, not, Bool, map}
+use Rattle.std.proofs.Common.{◌≡◌, ◌++◌, ℕ, ◌≤◌, true, false, List, [], ◌∷◌, Ok, Err, append_assoc, refl, ap, ◌∙◌, inl, inr, subst, arith}
+use Rattle.std.specs.Prelude.{Result, OnOk, ◌||◌, ◌&&◌, ◌==◌, ◌<◌, nat_lt, nat_le, not, Bool, if◌then◌else◌, map}
 use Rattle.std.specs.List.{list_any}
 use Rattle.std.proofs.lemmas.Bool.{eqb-true, ltb-true, and_parts}
 use Rattle.ec_space.specs.declared.Core.{Core}
@@ -18,12 +18,21 @@ pub use Rattle.ec_select_bytes.proofs.Bytes.{byte_there}
 use Rattle.ec_select_places.specs.Indexes.{can_add}
 use Rattle.ec_select_places.specs.Steps.{compared_bytes}
 use Rattle.ec_select_pointers.specs.Addresses.{pointer_bytes}
-use Rattle.ec_select_operations.specs.Code.{is_far, is_whole_address, related_bytes, takes_index}
+use Rattle.ec_select_operations.specs.Code.{is_far, is_whole_address, related_bytes, takes_index, truth_register}
 use Rattle.ec_select_operations.specs.Pointers.{is_table, has_tables, tag_in, IsPointerSize}
 
 pub fewer_bytes : (p : Location) (n m : ℕ) → m ≤ n → HasBytes p n → HasBytes p m
 fewer_bytes (InRegisters r) n m l h = omega arith
 fewer_bytes (InMemory o k) n m l h = omega arith
+
+-- a truth value is made in a register
+pub truth_there : (to : Location) (n : ℕ) → 1 ≤ n → HasBytes to n → HasBytes (InRegisters (truth_register to)) 1
+truth_there (InRegisters r) n some h = by_reach (nat_le 16 r)
+  where
+    by_reach : (x : Bool) → HasBytes (InRegisters (if x then r else 30)) 1
+    by_reach true = omega arith
+    by_reach false = omega arith
+truth_there (InMemory o k) n some h = omega arith
 
 -- a pointer has room for its tag
 pub tag_there : (p : Location) (bytes : ℕ) (bank : Bank) → IsPointerSize bytes → HasBytes p bytes

@@ -5,3 +5,4 @@ pub mod OneFormat
 -- For this crate alone.
 mod Emits
 mod OneRoutine
+mod Powers

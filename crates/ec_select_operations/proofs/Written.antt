@@ -1,7 +1,8 @@
 -- Code that is written operation by operation.
 use Rattle.std.proofs.Common.{◌≡◌, ℕ, zero, suc, ◌+◌, ◌<◌, List, [], ◌∷◌, ◌++◌, Some, length, refl, sym, ap, ◌∙◌}
-use Rattle.std.proofs.Common.{subst, arith, append_assoc, append-nil, map, true, false}
+use Rattle.std.proofs.Common.{subst, arith, append_assoc, append-nil, map, true, false, Bool, ◌-◌, ◌&&◌, ◌||◌}
 use Rattle.std.specs.Prelude.{slice_get, slice_index, get_or, Option, None, option_and_then}
+use Rattle.ec_space.specs.declared.Core.{Core}
 use Rattle.ec_asm.specs.declared.items.AsmItem.{AsmItem}
 use Rattle.ec_asm.specs.declared.pieces.Location.{Location}
 use Rattle.ec_asm.specs.Items.{chain}
@@ -12,12 +13,16 @@ use Rattle.ec_ir.specs.Operations.{store_object, binary_op, unary_op, conversion
 use Rattle.ec_ir.specs.Operations.{call_function, return_from, port_in, port_out, load_cell, store_cell, cell_port}
 use Rattle.ec_select_operations.specs.Code.{Linkage, register_places, save_place, restore_place, save_code}
 use Rattle.ec_select_operations.specs.declared.families.Told.{Told}
-use Rattle.ec_select_operations.specs.Code.{restore_code, operation_code, tells_any, wanted_behind, wanted_bytes, op_code}
-use Rattle.ec_select_operations.specs.Code.{tells_next, ops_code, own_code, called_code, linked_code, routine_used, result_wanted}
+use Rattle.ec_select_operations.specs.Code.{restore_code, operation_code, tells_any, wanted_behind, wanted_bytes}
+use Rattle.ec_select_operations.specs.Code.{is_waiting, look, known_left, leaves_z, is_store_by_z, waits}
+use Rattle.ec_select_operations.specs.Code.{op_code, tells_next, ops_code, own_code, called_code, linked_code}
+use Rattle.ec_select_operations.specs.Code.{routine_used, result_wanted, index_behind}
 use Rattle.ec_ir_known.specs.declared.known.RightNumber.{RightNumber}
 use Rattle.ec_ir_known.specs.Known.{known_at, right_number, numbers_left}
 use Rattle.ec_select_operations.specs.Needs.{Need, without_result, Facts, facts_of, needs}
-use Rattle.ec_select_operations.specs.Written.{need_in, operation_at, told_from, told_at, written_code, row_from}
+use Rattle.ec_select_operations.specs.Written.{need_in, operation_at, index_in, told_from, told_at, written_code}
+use Rattle.ec_select_operations.specs.Written.{row_from}
+use Rattle.ec_select_operations.specs.Pointers.{has_tables}
 use Rattle.ec_select_operations.specs.Written.{kept_row}
 use Rattle.ec_select_operations.specs.Written.{kept_rows, routed, NeededCodeIsWritten}
 
@@ -137,37 +142,85 @@ module _ (p : PlainProgram) (home : Temp → Location) (k : Linkage) (routine_of
       (own_code p home (routed k routine_of) told telling known need i) (same_called at need i)
       (same_code at told telling known need i)
 
-  -- the pieces of the operations that are left of some code, of which the first one has been told so much
+  -- what is needed of the place of an index behind the first operation
+  index_same : (at : Facts) (code : List PlainIr)
+      → index_in (slice_get code 0) (get_or (kept_rows k.slots at code) 0 []) ≡ index_behind at code
+  index_same at [] = refl
+  index_same at (constant t n ∷ code) = refl
+  index_same at (copy to from ∷ code) = refl
+  index_same at (address t o offset ∷ code) = refl
+  index_same at (field ptr space offset ∷ code) = refl
+  index_same at (load_at to ptr space ∷ code) = refl
+  index_same at (store_at ptr space from ∷ code) = refl
+  index_same at (load_object t o offset ∷ code) = refl
+  index_same at (store_object o offset t ∷ code) = refl
+  index_same at (binary_op op ty mode to a aty b bty ∷ code) = refl
+  index_same at (unary_op op ty mode to a ∷ code) = refl
+  index_same at (conversion to ty mode a aty ∷ code) = refl
+  index_same at (label l ∷ code) = refl
+  index_same at (jump l ∷ code) = refl
+  index_same at (branch_zero t l ∷ code) = refl
+  index_same at (call_function f to ∷ code) = refl
+  index_same at (return_from from ∷ code) = refl
+  index_same at (port_in to port index width ∷ code) = refl
+  index_same at (port_out from port index width ∷ code) = refl
+  index_same at (load_cell to cell ∷ code) = refl
+  index_same at (store_cell cell from ∷ code) = refl
+  index_same at (cell_port read t cell offset index width ∷ code) = refl
+
+  -- what the operations that are left of some code have been told, of which the first one has been told so much
+  abbrev told_in : Facts → (all : List PlainIr) → Option Told → List PlainIr → ℕ → Option Told
+  told_in at all first code j =
+      told_from k.core p home first (wanted_bytes at code) (kept_rows k.slots at code) (numbers_left all code) code j
+
+  -- their pieces
   abbrev piece : (labels : ℕ → Need) (all : List PlainIr) → Option Told → List PlainIr → ℕ → List AsmItem
   piece labels all first code j =
-      let at = facts_of labels all in
-      operation_at p home k (told_from p first (wanted_bytes at code) (numbers_left all code) code j)
-      (told_from p first (wanted_bytes at code) (numbers_left all code) code (suc j)) (get_or (numbers_left all code) j None)
-      (get_or (map routine_of code) j None) (slice_index (wanted_bytes at code) j) (get_or (kept_rows k.slots at code) j [])
-      (slice_get code j)
+      let at = facts_of (has_tables p.objects) labels all in
+      operation_at p home k (told_in at all first code j) (told_in at all first code (suc j))
+      (get_or (numbers_left all code) j None) (get_or (map routine_of code) j None) (slice_index (wanted_bytes at code) j)
+      (get_or (kept_rows k.slots at code) j []) (slice_get code j)
+
+  -- what is known of second operands is told both ways
+  known_same : (labels : ℕ → Need) (all code : List PlainIr)
+      → numbers_left all code ≡ known_left (facts_of (has_tables p.objects) labels all) code
+  known_same labels all [] = refl
+  known_same labels all (i ∷ code) = ap (λ ks. right_number (known_at all (i ∷ code)) i ∷ ks) (known_same labels all code)
 
   -- what those behind the first operation have been told is what the other ones have been told
   told_behind : (labels : ℕ → Need) (all : List PlainIr) (first : Option Told) (i : PlainIr) (code : List PlainIr) (j : ℕ)
-      → told_from p first (wanted_bytes (facts_of labels all) (i ∷ code)) (numbers_left all (i ∷ code)) (i ∷ code) (suc j)
-      ≡ told_from p (tells_next p (facts_of labels all) first i code) (wanted_bytes (facts_of labels all) code) (numbers_left all code)
-      code j
-  told_behind labels all first i code zero = refl
+      → told_in (facts_of (has_tables p.objects) labels all) all first (i ∷ code) (suc j)
+      ≡ told_in (facts_of (has_tables p.objects) labels all) all
+      (tells_next k.core p home (facts_of (has_tables p.objects) labels all) first i code) code j
+  told_behind labels all first i code zero =
+      let at = facts_of (has_tables p.objects) labels all in
+      let soon_by = λ (ks : List (Option RightNumber)). is_waiting p home first i (slice_get code 0)
+      (look 8 code (wanted_bytes at code) ks 0)
+      (look 8 code (wanted_bytes at code) ks 1) in
+      ap (λ n. tells_any k.core p (at.known (i ∷ code)) first i (slice_get code 0) (slice_get code 1)
+      (slice_index (wanted_bytes at code) 0) n (soon_by (numbers_left all code)))
+      (index_same at code)
+      ∙ ap (λ (ks : List (Option RightNumber)). tells_any k.core p (at.known (i ∷ code)) first i (slice_get code 0) (slice_get code 1)
+      (slice_index (wanted_bytes at code) 0) (index_behind at code) (soon_by ks)) (known_same labels all code)
   told_behind labels all first i code (suc j) =
-      ap (λ told. option_and_then (λ x. tells_any p (get_or (numbers_left all code) j None) told x (slice_get code (suc j))
-      (slice_get code (suc (suc j))) (slice_index (wanted_bytes (facts_of labels all) code) (suc j))) (slice_get code j))
+      let at = facts_of (has_tables p.objects) labels all in
+      ap (λ told. option_and_then (λ x. tells_any k.core p (get_or (numbers_left all code) j None) told x (slice_get code (suc j))
+      (slice_get code (suc (suc j))) (slice_index (wanted_bytes at code) (suc j))
+      (index_in (slice_get code (suc j)) (get_or (kept_rows k.slots at code) (suc j) []))
+      (is_waiting p home told x (slice_get code (suc j)) (look 8 code (wanted_bytes at code) (numbers_left all code) (suc j))
+      (look 8 code (wanted_bytes at code) (numbers_left all code) (suc (suc j))))) (slice_get code j))
       (told_behind labels all first i code j)
 
   -- those behind the first operation are those of the other ones
   piece_behind : (labels : ℕ → Need) (all : List PlainIr) (first : Option Told) (i : PlainIr) (code : List PlainIr) (j : ℕ)
-      → piece labels all first (i ∷ code) (suc j) ≡ piece labels all (tells_next p (facts_of labels all) first i code) code j
+      → piece labels all first (i ∷ code) (suc j) ≡ piece labels all
+      (tells_next k.core p home (facts_of (has_tables p.objects) labels all) first i code) code j
   piece_behind labels all first i code j =
-      ap (λ told. one told (told_from p first (wanted_bytes at (i ∷ code)) (numbers_left all (i ∷ code)) (i ∷ code) (suc (suc j))))
-      (told_behind labels all first i code j)
-      ∙ ap (one (told_from p (tells_next p at first i code) (wanted_bytes at code) (numbers_left all code) code j))
-      (told_behind labels all first i code (suc j))
+      ap (λ told. one told (told_in at all first (i ∷ code) (suc (suc j)))) (told_behind labels all first i code j)
+      ∙ ap (one (told_in at all (tells_next k.core p home at first i code) code j)) (told_behind labels all first i code (suc j))
     where
       at : Facts
-      at = facts_of labels all
+      at = facts_of (has_tables p.objects) labels all
 
       one : (told telling : Option Told) → List AsmItem
       one told telling =
@@ -175,16 +228,20 @@ module _ (p : PlainProgram) (home : Temp → Location) (k : Linkage) (routine_of
           (slice_index (wanted_bytes at code) j) (get_or (kept_rows k.slots at code) j []) (slice_get code j)
 
   pieces_are : (labels : ℕ → Need) (all : List PlainIr) (first : Option Told) (code : List PlainIr)
-      → chain (piece labels all first code) (length code) ≡ ops_code p home (routed k routine_of) (facts_of labels all) first code
+      → chain (piece labels all first code) (length code)
+      ≡ ops_code p home (routed k routine_of) (facts_of (has_tables p.objects) labels all) first code
   pieces_are labels all first [] = refl
   pieces_are labels all first (i ∷ code) =
-      let at = facts_of labels all in
-      let next = tells_next p at first i code in
+      let at = facts_of (has_tables p.objects) labels all in
+      let next = tells_next k.core p home at first i code in
       let behind =
       chain_same (λ j. piece labels all first (i ∷ code) (suc j)) (piece labels all next code) (length code)
       (λ j l. piece_behind labels all first i code j) in
       chain_front (piece labels all first (i ∷ code)) (length code)
       ∙ ap (λ l. piece labels all first (i ∷ code) 0 ++ l) (behind ∙ pieces_are labels all next code)
+      ∙ ap (λ telling. operation_at p home k first telling (at.known (i ∷ code)) (routine_of i)
+      (wanted_behind labels (needs at code) i) (kept_row k.slots (needs at code) i) (Some i)
+      ++ ops_code p home (routed k routine_of) at next code) (told_behind labels all first i code 0)
       ∙ ap (λ l. l ++ ops_code p home (routed k routine_of) at next code)
       (same_linked labels first next (right_number (known_at all (i ∷ code)) i) (needs at code) i)
 
@@ -203,7 +260,8 @@ pub one_more : (p : PlainProgram) (home : Temp → Location) (k : Linkage) (want
     (known : List (Option RightNumber)) (routines : List (Option ℕ)) (code : List PlainIr) (j : ℕ) (i : PlainIr)
     (told telling : Option Told) (number : Option RightNumber) (routine : Option ℕ) (row : List ℕ)
     (first before after : List AsmItem)
-    → slice_get code j ≡ Some i → told ≡ told_at p wanted known code j → telling ≡ told_at p wanted known code (suc j)
+    → slice_get code j ≡ Some i → told ≡ told_at k.core p home wanted kept known code j
+    → telling ≡ told_at k.core p home wanted kept known code (suc j)
     → get_or known j None ≡ number → get_or routines j None ≡ routine → get_or kept j [] ≡ row
     → before ≡ first ++ written_code p home k wanted kept known routines code j
     → after ≡ before ++ linked_code (routine_used number i routine) (λ l. called_code home l (slice_index wanted j) i)
@@ -211,12 +269,14 @@ pub one_more : (p : PlainProgram) (home : Temp → Location) (k : Linkage) (want
     → after ≡ first ++ written_code p home k wanted kept known routines code (j + 1)
 one_more p home k wanted kept known routines code j i told telling number routine row first before after is told_is telling_is number_is
     routine_is row_is start q =
-    let here : operation_at p home k (told_at p wanted known code j) (told_at p wanted known code (suc j)) (get_or known j None)
-    (get_or routines j None) (slice_index wanted j) (get_or kept j []) (slice_get code j)
+    let here : operation_at p home k (told_at k.core p home wanted kept known code j)
+    (told_at k.core p home wanted kept known code (suc j))
+    (get_or known j None) (get_or routines j None) (slice_index wanted j) (get_or kept j []) (slice_get code j)
     ≡ linked_code (routine_used number i routine) (λ l. called_code home l (slice_index wanted j) i)
     (operation_code p home k told telling number (slice_index wanted j) (need_in row) i) = rw
     (told_is, telling_is, is, row_is, number_is, routine_is) refl in
-    chain_more (λ j. operation_at p home k (told_at p wanted known code j) (told_at p wanted known code (suc j)) (get_or known j None)
+    chain_more (λ j. operation_at p home k (told_at k.core p home wanted kept known code j)
+    (told_at k.core p home wanted kept known code (suc j)) (get_or known j None)
     (get_or routines j None) (slice_index wanted j) (get_or kept j []) (slice_get code j)) j first before after start
     (q ∙ ap (λ l. before ++ l) (sym here))
 
@@ -228,9 +288,29 @@ item_there (z ∷ xs) zero x l q = (let g : x ≡ z = q in ap Some (sym g))
 item_there (z ∷ xs) (suc k) x l q = item_there xs k x (omega arith) q
 
 -- what an operation tells the one behind it
-pub tells_here : (x : PlainProgram) (code : List PlainIr) (wanted : List ℕ) (known : List (Option RightNumber)) (k : ℕ)
-    (told : Option Told) (i : PlainIr)
-    → slice_get code k ≡ Some i → told ≡ told_at x wanted known code k
-    → tells_any x (get_or known k None) told i (slice_get code (suc k)) (slice_get code (suc (suc k))) (slice_index wanted (suc k))
-    ≡ told_at x wanted known code (suc k)
-tells_here x code wanted known k told i p q = rw (p, q) refl
+pub tells_here : (core : Core) (x : PlainProgram) (home : Temp → Location) (code : List PlainIr) (wanted : List ℕ) (kept : List (List ℕ))
+    (known : List (Option RightNumber)) (k : ℕ) (told : Option Told) (i : PlainIr)
+    → slice_get code k ≡ Some i → told ≡ told_at core x home wanted kept known code k
+    → tells_any core x (get_or known k None) told i (slice_get code (suc k)) (slice_get code (suc (suc k))) (slice_index wanted (suc k))
+    (index_in (slice_get code (suc k)) (get_or kept (suc k) []))
+    (is_waiting x home told i (slice_get code (suc k)) (look 8 code wanted known (suc k)) (look 8 code wanted known (suc (suc k))))
+    ≡ told_at core x home wanted kept known code (suc k)
+tells_here core x home code wanted kept known k told i p q = rw (p, q) refl
+
+-- one of the operations more that come soon
+pub waits_more : (x : PlainProgram) (home : Temp → Location) (place offset n k : ℕ) (code : List PlainIr) (wanted : List ℕ)
+    (known : List (Option RightNumber)) (later result : Bool) (i : Option PlainIr) (w : ℕ) (number : Option RightNumber)
+    → n < 8 → i ≡ slice_get code (k + (7 - n)) → w ≡ slice_index wanted (k + (7 - n)) → number ≡ get_or known (k + (7 - n)) None
+    → later ≡ waits x home place offset (look n code wanted known (k + (8 - n)))
+    → result ≡ (is_store_by_z place offset w i || (leaves_z x home place offset number w i && later))
+    → result ≡ waits x home place offset (look (n + 1) code wanted known (k + (8 - (n + 1))))
+waits_more x home place offset n k code wanted known later result i w number l i_is w_is number_is later_is q =
+    let here : k + (8 - (n + 1)) ≡ k + (7 - n) = omega (arith, l) in
+    let next : k + (8 - n) ≡ suc (k + (7 - n)) = omega (arith, l) in
+    let more : n + 1 ≡ suc n = omega arith in
+    let later_so : later ≡ waits x home place offset (look n code wanted known (suc (k + (7 - n)))) =
+    later_is ∙ ap (λ j. waits x home place offset (look n code wanted known j)) next in
+    let result_so : result ≡ waits x home place offset (look (suc n) code wanted known (k + (7 - n))) =
+    q ∙ rw (i_is, w_is, number_is, later_so) refl in
+    result_so ∙ ap (λ j. waits x home place offset (look (suc n) code wanted known j)) (sym here)
+    ∙ ap (λ j. waits x home place offset (look j code wanted known (k + (8 - (n + 1))))) (sym more)

@@ -1,7 +1,7 @@
 -- The code of operations.
-use Rattle.std.specs.Prelude.{◌≤◌, ⊤, ℕ, suc, ◌+◌, ◌-◌, ◌*◌, ◌/◌, ◌%◌, ◌==◌, nat_le, Bool, true, false, ◌&&◌, ◌||◌, not}
+use Rattle.std.specs.Prelude.{◌≤◌, ⊤, ℕ, zero, suc, ◌+◌, ◌-◌, ◌*◌, ◌/◌, ◌%◌, ◌==◌, nat_le, Bool, true, false, ◌&&◌, ◌||◌, not}
 use Rattle.std.specs.Prelude.{if◌then◌else◌, ℤ, pos, int_lt, min, List, [], ◌∷◌, ◌++◌, Option, Some, None, option_map}
-use Rattle.std.specs.Prelude.{slice_get, slice_index}
+use Rattle.std.specs.Prelude.{slice_get, slice_index, get_or, nat_lt, max}
 use Rattle.ec_fx.specs.declared.numbers.Mode.{Mode}
 use Rattle.ec_fx.specs.Formats.{format_of}
 use Rattle.ec_space.specs.declared.Core.{Core}
@@ -12,7 +12,7 @@ use Rattle.ec_space.specs.declared.space.Home.{Home}
 use Rattle.ec_space.specs.declared.space.Home.TheVariants.{Flash as FlashHome, Far as FarHome, Data as DataHome}
 use Rattle.ec_space.specs.declared.space.SpaceId.{SpaceId}
 use Rattle.ec_space.specs.declared.space.SpaceId.TheVariants.{Flash, FarFlash, Data, Generic}
-use Rattle.ec_isa.specs.declared.instructions.Instr.TheVariants.{Andi, Mov, Movw, Ret}
+use Rattle.ec_isa.specs.declared.instructions.Instr.TheVariants.{Adc, Add, Andi, Eor, Mov, Movw, Ret}
 use Rattle.ec_asm.specs.declared.items.AsmItem.{AsmItem}
 use Rattle.ec_asm.specs.declared.items.AsmItem.TheVariants.{Plain, Label, JumpTo, CallTo, BranchTo, LoadObj}
 use Rattle.ec_asm.specs.Items.{chain}
@@ -22,8 +22,8 @@ use Rattle.ec_asm.specs.declared.pieces.Operator.{Operator}
 use Rattle.ec_asm.specs.declared.pieces.Operator.TheVariants.{Sum, Difference, BitAnd, BitOr, BitXor}
 use Rattle.ec_asm.specs.Pieces.{copy_byte, copy_code, operate_code, compare_code}
 use Rattle.ec_core.specs.declared.expressions.BinOp.{BinOp}
-use Rattle.ec_core.specs.declared.expressions.BinOp.TheVariants.{Add, Sub, Mul, Div, Rem, And, Or, Xor, Lt, Gt, Le, Ge}
-use Rattle.ec_core.specs.declared.expressions.BinOp.TheVariants.{Eq, Ne, Shl, Shr}
+use Rattle.ec_core.specs.declared.expressions.BinOp.TheVariants.{Add, Sub, And}
+use Rattle.ec_core.specs.declared.expressions.BinOp.TheVariants.{Shl, Shr}
 use Rattle.ec_core.specs.declared.expressions.UnOp.{UnOp}
 use Rattle.ec_core.specs.declared.expressions.UnOp.TheVariants.{Minus, Invert}
 use Rattle.ec_core.specs.Accesses.{element_size}
@@ -37,8 +37,8 @@ use Rattle.ec_ir.specs.Temporaries.{low_bytes}
 use Rattle.ec_select_bytes.specs.Values.{constant_code, test_code, extend_code}
 use Rattle.ec_select_bytes.specs.Complements.{complement_code, negation_code}
 use Rattle.ec_select_order.specs.declared.relations.Relation.{Relation}
-use Rattle.ec_select_order.specs.declared.relations.Relation.TheVariants.{Less, NotLess, Equal, NotEqual}
-use Rattle.ec_select_order.specs.Relations.{relation_code, unless_code}
+use Rattle.ec_select_order.specs.declared.relations.Relation.TheVariants.{Equal, NotEqual}
+use Rattle.ec_select_order.specs.Relations.{relation_in_code, unless_code}
 pub use Rattle.ec_select_bytes.specs.Operators.{reversed_code}
 use Rattle.ec_select_places.specs.Conversions.{embed_code}
 use Rattle.ec_select_places.specs.Distances.{elements_code}
@@ -46,38 +46,42 @@ use Rattle.ec_select_places.specs.Far.{advance_far_code}
 use Rattle.ec_select_places.specs.FarLaws.{extended}
 use Rattle.ec_select_places.specs.Indexes.{can_add, add_index_code}
 use Rattle.ec_select_places.specs.StepLaws.{index_of}
-use Rattle.ec_select_places.specs.Steps.{scale_index_code, advance_code, compared_bytes}
+use Rattle.ec_select_places.specs.Steps.{z_pair, scale_index_code, advance_code, compared_bytes}
 use Rattle.ec_select_pointers.specs.Accesses.{load_data_code, load_flash_code, load_any_code, load_table_code}
 use Rattle.ec_select_pointers.specs.Accesses.{point_code, store_data_code}
 use Rattle.ec_select_pointers.specs.Addresses.{address_code, field_code}
 use Rattle.ec_select_pointers.specs.Far.{load_far_code, load_far_table_code, load_any_far_code, far_address_code}
 use Rattle.ec_select_pointers.specs.Far.{field_far_code}
-use Rattle.ec_select_pointers.specs.Fetched.{fetch_code, load_member_code}
+use Rattle.ec_select_pointers.specs.Fetched.{fetch_code, load_member_code, load_further_code, load_tagged_code}
+use Rattle.ec_select_pointers.specs.Fetched.{store_member_code}
 use Rattle.ec_select_products.specs.Products.{product_code}
 use Rattle.ec_select_quotients.specs.Signs.{quotient_code}
 use Rattle.ec_select_shifts.specs.declared.shifts.Direction.{Direction}
 use Rattle.ec_select_shifts.specs.declared.shifts.Direction.TheVariants.{Left, Right}
 use Rattle.ec_select_shifts.specs.Shifts.{shift_code, counted_code as turned_by_code}
 use Rattle.ec_select_numbers.specs.declared.operators.ByNumber.TheVariants.{Subtract, Mask, Set}
-use Rattle.ec_select_numbers.specs.ByNumber.{changed_code, added_code, compared_code as compared_with_code}
+use Rattle.ec_select_numbers.specs.ByNumber.{put_code, changed_code, added_code}
 use Rattle.ec_select_operations.specs.declared.families.Family.{Family}
 use Rattle.ec_select_operations.specs.declared.families.Family.TheVariants.{Combined, Compared, Multiplied, Shifted}
 use Rattle.ec_select_operations.specs.declared.families.Family.TheVariants.{Divided}
 use Rattle.ec_select_operations.specs.declared.families.Told.{Told}
-use Rattle.ec_select_operations.specs.declared.families.Told.TheVariants.{Operands, InZ}
+use Rattle.ec_select_operations.specs.declared.families.Told.TheVariants.{Operands, InZ, Index}
+use Rattle.ec_select_operations.specs.Bounds.{bound_of, bounded_code, truth_by_code}
+pub use Rattle.ec_select_operations.specs.Bounds.{opposite}
 use Rattle.ec_select_operations.specs.declared.homes.Homes.{Homes}
 use Rattle.ec_select_operations.specs.Homes.{home, result_location}
 use Rattle.ec_fxcode_formats.specs.Brought.{can_bring, bring_code}
-use Rattle.ec_fxcode_limits.specs.Limits.{limited_code}
+use Rattle.ec_fxcode_limits.specs.Limits.{limited_code, opposite_code}
 use Rattle.ec_fxcode_placed.specs.Shifts.{placed_code}
 use Rattle.ec_fxcode_placed.specs.Counts.{placed_by_code}
 use Rattle.ec_select_fixed.specs.Codes.{fixed_binary_code, fixed_unary_code, fixed_conversion_code}
 use Rattle.ec_select_fixed.specs.Types.{format_in}
 use Rattle.ec_select_routines.specs.Codes.{call_with_one, call_with_two}
 use Rattle.ec_ir_known.specs.declared.known.RightNumber.{RightNumber}
-use Rattle.ec_select_operations.specs.Needs.{is_fixed, number_taken, compared_bytes as bytes_compared, number_known}
+use Rattle.ec_select_operations.specs.Needs.{is_fixed, is_whole, number_taken, compared_bytes as bytes_compared, number_known}
+use Rattle.ec_select_operations.specs.Needs.{is_number, is_sum_or_difference}
 use Rattle.ec_select_operations.specs.Needs.{Need, nothing, wanted, wanted_result, without_result, either}
-use Rattle.ec_select_operations.specs.Needs.{Facts, facts_of, needs, takes_count}
+use Rattle.ec_select_operations.specs.Needs.{Facts, facts_of, needs, takes_count, moves_pointer}
 pub use Rattle.ec_select_operations.specs.Needs.{has_one_format, takes_place, is_placed}
 pub use Rattle.ec_select_operations.specs.Needs.{family_of, is_as_exact, is_on_integers, is_apart}
 use Rattle.ec_select_operations.specs.Places.{object_location}
@@ -134,11 +138,20 @@ abbrev pub combined_code : Operator → (a b to : Location) → ℕ → List Asm
 combined_code op a b to n =
     if same_location b to then reversed_code op a to n else move_code a to n ++ operate_code op b to n
 
--- a truth value, which is an unsigned number of one byte in R30, where some of its bytes are needed
+-- the register in which a truth value is made: that of the result from R16 on, which LDI reaches, and else R30
+abbrev pub truth_register : Location → ℕ
+truth_register (InRegisters r) = if nat_le 16 r then r else 30
+truth_register (InMemory o k) = 30
+
+-- from there a truth value, which is an unsigned number of one byte, goes to its place
+abbrev pub truth_at_code : (to : Location) → (n : ℕ) → List AsmItem
+truth_at_code to n = conversion_code false (InRegisters (truth_register to)) to 1 n
+
+-- a truth value, where some of its bytes are needed
 abbrev pub compared_code : Relation → (signed : Bool) → (left right to : Location) → (bytes n : ℕ) → List AsmItem
 compared_code r signed left right to bytes n =
     if n == 0 then []
-    else relation_code r signed left right bytes ++ conversion_code false (InRegisters 30) to 1 n
+    else relation_in_code (truth_register to) r signed left right bytes ++ truth_at_code to n
 
 -- the product of two bytes
 abbrev pub multiplied_code : (left right : Bool) → (a b to : Location) → ℕ → List AsmItem
@@ -196,9 +209,13 @@ told_of (Compared r exchanged) signed = Some (Operands r signed)
 told_of f signed = None
 
 -- an operator apart leaves none
-abbrev pub told_by : (is_apart : Bool) → Family → (signed : Bool) → Option Told
+abbrev pub told_by : (is_untold : Bool) → Family → (signed : Bool) → Option Told
 told_by true f signed = None
 told_by false f signed = told_of f signed
+
+-- but for a comparison of two pointers
+abbrev pub is_untold : Family → Mode → (ty aty bty : PlainType) → Bool
+is_untold f mode ty aty bty = not (is_pointer aty && is_pointer bty) && is_apart f mode ty aty bty
 
 -- the next operation branches on the result, of which nothing is needed afterwards
 abbrev pub is_only_tested : (to : Temp) → (next : Option PlainIr) → (needed : ℕ) → Bool
@@ -210,6 +227,27 @@ abbrev pub compared_signed : (taken : Option RightNumber) → (signed : Bool) �
 compared_signed None signed = signed
 compared_signed (Some n) signed = if n.in_byte then false else signed
 
+-- what is compared where so many bytes of a first operand are, and a number is taken that is known, and whether with signs
+abbrev pub family_with : (number : Option ℤ) → Family → (signed : Bool) → (compared : ℕ) → Family
+family_with None f signed compared = f
+family_with (Some n) (Compared r exchanged) signed compared =
+    Compared (bound_of r exchanged signed compared (low_bytes 16 n)).relation false
+family_with (Some n) f signed compared = f
+
+abbrev pub signed_with : (number : Option ℤ) → Family → (signed : Bool) → (compared : ℕ) → Bool
+signed_with None f signed compared = signed
+signed_with (Some n) (Compared r exchanged) signed compared = (bound_of r exchanged signed compared (low_bytes 16 n)).signed
+signed_with (Some n) f signed compared = signed
+
+-- the same of a first operand of so many bytes, where so much is taken
+abbrev pub family_taking : (taken : Option RightNumber) → Family → (signed : Bool) → (bytes : ℕ) → Family
+family_taking taken f signed bytes =
+    family_with (number_known taken) f (compared_signed taken signed) (bytes_compared taken bytes)
+
+abbrev pub signed_taking : (taken : Option RightNumber) → Family → (signed : Bool) → (bytes : ℕ) → Bool
+signed_taking taken f signed bytes =
+    signed_with (number_known taken) f (compared_signed taken signed) (bytes_compared taken bytes)
+
 -- an AND with a known number below 255
 abbrev pub is_mask : Option ℤ → Bool
 is_mask None = false
@@ -220,23 +258,17 @@ is_masked None op = false
 is_masked (Some k) And = is_mask k.number
 is_masked (Some k) op = false
 
--- what an operator leaves that takes so much: an AND with such a number tells whether its result is not 0
-abbrev pub told_taking : (taken : Option RightNumber) → (is_apart : Bool) → BinOp → (signed : Bool) → Option Told
-told_taking taken apart op signed =
+-- what an operator on a first operand of so many bytes leaves that takes so much: an AND with such a number tells whether its
+-- result is not 0
+abbrev pub told_taking : (taken : Option RightNumber) → (is_untold : Bool) → BinOp → (signed : Bool) → (bytes : ℕ) → Option Told
+told_taking taken untold op signed bytes =
     if is_masked taken op then Some (Operands NotEqual false)
-    else told_by apart (family_of op) (compared_signed taken signed)
+    else told_by untold (family_taking taken (family_of op) signed bytes) (signed_taking taken (family_of op) signed bytes)
 
 -- the next operation is a jump, and the one behind it is the label of a branch that stands over it
 abbrev pub is_over_jump : (l : ℕ) → (next behind : Option PlainIr) → Bool
 is_over_jump l (Some (jump k)) (Some (label j)) = j == l
 is_over_jump l next behind = false
-
--- the relation that holds where another one does not
-abbrev pub opposite : Relation → Relation
-opposite Less = NotLess
-opposite NotLess = Less
-opposite Equal = NotEqual
-opposite NotEqual = Equal
 
 -- what a branch over a jump, which has been told so much or tests a number, tells the jump: like a branch, the jump is made
 -- where operands do not stand so
@@ -244,16 +276,31 @@ abbrev pub turned : Option Told → Told
 turned (Some (Operands r signed)) = Operands (opposite r) signed
 turned told = Operands Equal false
 
--- what an operation, whose second operand may be known to hold a number, and which has been told so much, tells the next one
--- by a flag: a comparison or an AND in place of its result, and a branch over a jump in place of the branch
-abbrev pub tells : (known : Option RightNumber) → (told : Option Told) → PlainIr → (next behind : Option PlainIr) → (needed : ℕ)
-    → Option Told
-tells known told (binary_op op ty mode to a aty b bty) next behind needed =
+-- the next operation moves a pointer by an integer of one or two bytes that is loaded to a temporary. Behind it so many
+-- bytes of the place of the integer are needed
+abbrev pub is_index_alone : Temp → (next : Option PlainIr) → (behind : ℕ) → Bool
+is_index_alone t (Some (binary_op op ty mode to a aty b bty)) behind =
+    (behind == 0 && nat_le b.bytes 2)
+    && ((b.at == t.at && b.bytes == t.bytes) && (not (b.at == a.at) && moves_pointer op aty bty))
+is_index_alone t next behind = false
+
+-- what an operation, whose second operand may be known to hold a number, and which has been told so much, tells the next
+-- one: by a flag a comparison or an AND in place of its result, and a branch over a jump in place of the branch; and a load of
+-- an index in place of its result, where behind the next one so many bytes of the place of its second operand are needed
+abbrev pub tells : (known : Option RightNumber) → (told : Option Told) → PlainIr → (next behind : Option PlainIr)
+    → (needed index : ℕ) → Option Told
+tells known told (binary_op op ty mode to a aty b bty) next behind needed index =
     if is_only_tested to next needed
-    then told_taking (number_taken known (is_apart (family_of op) mode ty aty bty) op) (is_apart (family_of op) mode ty aty bty) op
-    (is_signed aty) else None
-tells known told (branch_zero t l) next behind needed = if is_over_jump l next behind then Some (turned told) else None
-tells known told i next behind needed = None
+    then told_taking (number_taken known (is_apart (family_of op) mode ty aty bty) op) (is_untold (family_of op) mode ty aty bty) op
+    (is_signed aty) a.bytes else None
+tells known told (branch_zero t l) next behind needed index = if is_over_jump l next behind then Some (turned told) else None
+tells known told (load_object t o offset) next behind needed index = if is_index_alone t next index then Some Index else None
+tells known told i next behind needed index = None
+
+-- whether an index of so many bytes is told
+abbrev pub is_index : Option Told → (bytes : ℕ) → Bool
+is_index (Some Index) bytes = nat_le bytes 2
+is_index told bytes = false
 
 -- the comparison alone
 abbrev pub flag_code : Family → (a b : Location) → (bytes : ℕ) → List AsmItem
@@ -276,25 +323,51 @@ changed_by_code BitAnd to number n = changed_code Mask to number n
 changed_by_code BitOr to number n = changed_code Set to number n
 changed_by_code BitXor to number n = []
 
+-- AND with a number below 256 leaves 0 in all bytes but the lowest one, which alone is brought and masked
+abbrev pub masks_low : Operator → (number : ℕ) → Bool
+masks_low BitAnd number = nat_lt number 256
+masks_low op number = false
+
+abbrev pub low_mask_code : (a to : Location) → (number n : ℕ) → List AsmItem
+low_mask_code a to number n =
+    move_code a to (min n 1) ++ (changed_by_code BitAnd to number (min n 1) ++ extend_code false to 1 n)
+
+abbrev pub combined_by_code : Operator → (a to : Location) → (number n : ℕ) → List AsmItem
+combined_by_code op a to number n =
+    if masks_low op number then low_mask_code a to number n else move_code a to n ++ changed_by_code op to number n
+
 -- n bytes are brought to the result's place, and shifted there by so many bits
 abbrev pub counted_code : Direction → (a to : Location) → (n k : ℕ) → List AsmItem
 counted_code s a to n k = move_code a to n ++ turned_by_code s to n k
 
+-- one byte is needed of several in registers, of which only the highest bit is left, and no sign
+abbrev pub leaves_bit : (signed : Bool) → (to : Location) → (bytes n k : ℕ) → Bool
+leaves_bit signed (InRegisters r) bytes n k = nat_lt 1 bytes && (not signed && (n == 1 && k + 1 == 8 * bytes))
+leaves_bit signed (InMemory o j) bytes n k = false
+
+-- it comes by the carry to the lowest byte
+abbrev pub top_bit_code : (to : Location) → (bytes : ℕ) → List AsmItem
+top_bit_code (InRegisters r) bytes =
+    Plain (Add (r + (bytes - 1)) (r + (bytes - 1))) ∷ Plain (Eor r r) ∷ Plain (Adc r r) ∷ []
+top_bit_code (InMemory o j) bytes = []
+
 -- to the right so many bytes are, with a sign or without, and where more are needed these become 0
 abbrev pub counted_by_code : (left signed : Bool) → (a to : Location) → (bytes n k : ℕ) → List AsmItem
 counted_by_code true signed a to bytes n k = counted_code Left a to n k
-counted_by_code false signed a to bytes n k = counted_code (Right signed) a to bytes k ++ extend_code false to bytes n
+counted_by_code false signed a to bytes n k =
+    if leaves_bit signed to bytes n k then move_code a to bytes ++ top_bit_code to bytes
+    else counted_code (Right signed) a to bytes k ++ extend_code false to bytes n
 
--- the first operand is brought to the result's place, and changed or shifted there. So many of its bytes are compared, with
--- signs or without, before a truth value is told, for which no more bytes are compared; or so many are shifted to the right
-abbrev pub by_number_code : Family → (left signed : Bool) → (a b to : Location) → (compared number n : ℕ) → List AsmItem
-by_number_code (Combined op) left signed a b to compared number n =
-    move_code a to n ++ changed_by_code op to number n
-by_number_code (Compared r exchanged) left signed a b to compared number n =
-    if n == 0 then [] else compared_with_code a number compared ++ compared_code r signed a b to 0 n
-by_number_code (Shifted up) left signed a b to compared number n =
+-- the first operand is brought to the result's place, and changed or shifted there; or so many bytes are compared, or
+-- shifted to the right, with signs or without
+abbrev pub by_number_code : Family → (signed : Bool) → (a to : Location) → (compared number n : ℕ) → List AsmItem
+by_number_code (Combined op) signed a to compared number n = combined_by_code op a to number n
+by_number_code (Compared r exchanged) signed a to compared number n =
+    if n == 0 then []
+    else truth_by_code (truth_register to) (bound_of r exchanged signed compared number) a compared ++ truth_at_code to n
+by_number_code (Shifted up) signed a to compared number n =
     if n == 0 then [] else counted_by_code up signed a to compared n (number % 256)
-by_number_code f left signed a b to compared number n = []
+by_number_code f signed a to compared number n = []
 
 -- a byte and a number: where the byte stands if this is the result's place and an immediate reaches it, and else in R30
 abbrev pub masked_at : (here : Bool) → (r k : ℕ) → List AsmItem
@@ -305,34 +378,44 @@ abbrev pub masked_code : (a to : Location) → (k : ℕ) → List AsmItem
 masked_code (InRegisters r) to k = masked_at (nat_le 16 r && same_location (InRegisters r) to) r k
 masked_code (InMemory o j) to k = LoadObj 30 o j ∷ Plain (Andi 30 k) ∷ []
 
--- what leaves a flag alone: of AND the lowest byte, and else so many bytes of a comparison
-abbrev pub told_number_code : Family → (a to : Location) → (number compared : ℕ) → List AsmItem
-told_number_code (Combined op) a to number compared = masked_code a to (number % 256)
-told_number_code f a to number compared = compared_with_code a number compared
+-- what leaves a flag alone: of AND the lowest byte, and a comparison of so many bytes. There is no such code for other
+-- operators
+abbrev pub told_number_code : Family → (signed : Bool) → (a to : Location) → (number compared : ℕ) → List AsmItem
+told_number_code (Combined op) signed a to number compared = masked_code a to (number % 256)
+told_number_code (Compared r exchanged) signed a to number compared =
+    bounded_code (bound_of r exchanged signed compared number) a compared
+told_number_code f signed a to number compared = []
 
 -- so many low bytes of two numbers below 256 are compared, which have no signs. There is no such code for other operators
 abbrev pub low_code : (telling : Option Told) → Relation → (left right to : Location) → (bytes n : ℕ) → List AsmItem
 low_code None r left right to bytes n = compared_code r false left right to bytes n
 low_code (Some told) r left right to bytes n = compare_code right left bytes
 
+-- the first operand is brought to the result's place, and the lowest byte of the second one, which is below 256, is combined
+-- with it there
+abbrev pub joined_code : Operator → (a b to : Location) → ℕ → List AsmItem
+joined_code op a b to n = move_code a to n ++ operate_code op b to (min n 1)
+
 abbrev pub bytes_code : (telling : Option Told) → Family → (a b to : Location) → (bytes n : ℕ) → List AsmItem
 bytes_code telling (Compared r false) a b to bytes n = low_code telling r a b to bytes n
 bytes_code telling (Compared r true) a b to bytes n = low_code telling r b a to bytes n
+bytes_code telling (Combined op) a b to bytes n = joined_code op a b to n
 bytes_code telling f a b to bytes n = []
 
--- where a number, in two's complement of 16 bytes, is taken in place of the second operand, or so many bytes are compared
-abbrev pub known_code : (number : Option ℤ) → (telling : Option Told) → Family → (left signed : Bool) → (a b to : Location)
+-- where a number, in two's complement of 16 bytes, is taken in place of the second operand, or so many bytes are compared, or
+-- one is combined
+abbrev pub known_code : (number : Option ℤ) → (telling : Option Told) → Family → (signed : Bool) → (a b to : Location)
     → (compared n : ℕ) → List AsmItem
-known_code None telling f left signed a b to compared n = bytes_code telling f a b to compared n
-known_code (Some k) None f left signed a b to compared n = by_number_code f left signed a b to compared (low_bytes 16 k) n
-known_code (Some k) (Some told) f left signed a b to compared n = told_number_code f a to (low_bytes 16 k) compared
+known_code None telling f signed a b to compared n = bytes_code telling f a b to compared n
+known_code (Some k) None f signed a b to compared n = by_number_code f signed a to compared (low_bytes 16 k) n
+known_code (Some k) (Some told) f signed a b to compared n = told_number_code f signed a to (low_bytes 16 k) compared
 
 -- where what is known of the second operand is taken
 abbrev pub taking_code : (taken : Option RightNumber) → (telling : Option Told) → Family → (left right : Bool) → (a b to : Location)
     → (bytes n : ℕ) → List AsmItem
 taking_code None telling f left right a b to bytes n = operator_code telling f left right a b to bytes n
 taking_code (Some k) telling f left right a b to bytes n =
-    known_code k.number telling f left (compared_signed (Some k) left) a b to (bytes_compared (Some k) bytes) n
+    known_code k.number telling f (compared_signed (Some k) left) a b to (bytes_compared (Some k) bytes) n
 
 -- operands that are integers, of which something may be known
 abbrev pub integer_binary : (known : Option RightNumber) → (telling : Option Told) → BinOp → (left right : Bool) → (a b to : Location)
@@ -482,10 +565,17 @@ aside_location = InRegisters 8
 
 -- the operand, of so many bytes, is put aside, and taken from 0 in the result's place; the result is stopped at the ends
 -- of its range
-abbrev pub negated_code : (signed : Bool) → (a to : Location) → (bytes : ℕ) → List AsmItem
-negated_code signed a to bytes =
+abbrev pub from_zero_code : (signed : Bool) → (a to : Location) → (bytes : ℕ) → List AsmItem
+from_zero_code signed a to bytes =
     copy_code a aside_location bytes
     ++ (constant_code to 0 bytes ++ limited_code true signed aside_location to (bytes - 1))
+
+-- one byte with a sign is brought to the register of the result, and turned there
+abbrev pub negated_code : (signed : Bool) → (a to : Location) → (bytes : ℕ) → List AsmItem
+negated_code signed a (InRegisters r) bytes =
+    if signed && bytes == 1 then move_code a (InRegisters r) 1 ++ opposite_code r
+    else from_zero_code signed a (InRegisters r) bytes
+negated_code signed a (InMemory o k) bytes = from_zero_code signed a (InMemory o k) bytes
 
 abbrev pub negated_unary : (signed : Bool) → (a to : Location) → (bytes n : ℕ) → List AsmItem
 negated_unary signed a to bytes n = if n == 0 then [] else negated_code signed a to bytes
@@ -570,9 +660,29 @@ banked_code core FarHome objects o offset to n =
     by_core core (load_table_code o offset to n) (load_far_table_code o offset to n)
 banked_code core DataHome objects o offset to n = copy_code (object_location objects o offset) to n
 
+-- n bytes of such an object are brought to R30 and R31: at once from the data bank, and else by R26 and R27
+abbrev pub load_index_code : Core → Home → List PlainObject → (o offset : ℕ) → ℕ → List AsmItem
+load_index_code core DataHome objects o offset n = copy_code (object_location objects o offset) z_pair n
+load_index_code core kept objects o offset n =
+    banked_code core kept objects o offset (InRegisters 26) n ++ copy_code (InRegisters 26) z_pair n
+
 -- ---- a pointer that stays in Z for a load
 
--- a load through a pointer into a space is one from the data bank, wherever it points
+-- an address of flash has two bytes
+abbrev pub is_small : Core → Bool
+is_small Small = true
+is_small Large = false
+
+-- a load through a pointer into a space can go by Z: from the data bank, from flash by an address of two bytes, and from the
+-- bank that a third byte tells which stands in R0. On the core `large` a pointer of three bytes stays in no Z, but where all
+-- objects stand in the data bank
+abbrev pub goes_by_z : Core → (tables tagged : Bool) → SpaceId → Bool
+goes_by_z core tables tagged Data = true
+goes_by_z core tables tagged Flash = true
+goes_by_z core tables tagged FarFlash = is_small core
+goes_by_z core tables tagged Generic = not tables || (tagged && is_small core)
+
+-- and one into a space is from the data bank, wherever it points
 abbrev pub is_from_data : (tables : Bool) → SpaceId → Bool
 is_from_data tables Data = true
 is_from_data tables Generic = not tables
@@ -582,42 +692,140 @@ is_from_data tables space = false
 abbrev pub is_in_reach : (offset bytes : ℕ) → Bool
 is_in_reach offset bytes = nat_le (offset + bytes) 64
 
--- the next operation loads from the data bank what stands at an offset from the pointer at a place, and puts it there
-abbrev pub is_load_by_z : (tables : Bool) → (place offset : ℕ) → (next : Option PlainIr) → Bool
-is_load_by_z tables place offset (Some (load_at to ptr space)) =
-    ptr.at == place && (to.at == place && (is_from_data tables space && is_in_reach offset to.bytes))
-is_load_by_z tables place offset next = false
+-- the next operation loads by Z what stands at an offset from the pointer at a place, and puts it there
+abbrev pub is_load_by_z : Core → (tables tagged : Bool) → (place offset : ℕ) → (next : Option PlainIr) → Bool
+is_load_by_z core tables tagged place offset (Some (load_at to ptr space)) =
+    ptr.at == place && (to.at == place && (goes_by_z core tables tagged space && is_in_reach offset to.bytes))
+is_load_by_z core tables tagged place offset next = false
 
 -- or the one behind it loads a member so
-abbrev pub is_used_by_z : (tables : Bool) → (place : ℕ) → (next behind : Option PlainIr) → Bool
-is_used_by_z tables place (Some (field ptr space offset)) behind = ptr.at == place && is_load_by_z tables place offset behind
-is_used_by_z tables place next behind = is_load_by_z tables place 0 next
+abbrev pub is_used_by_z : Core → (tables : Bool) → (place : ℕ) → (next behind : Option PlainIr) → Bool
+is_used_by_z core tables place (Some (field ptr space offset)) behind =
+    ptr.at == place && is_load_by_z core tables true place offset behind
+is_used_by_z core tables place next behind = is_load_by_z core tables true place 0 next
 
 -- how far what is meant stands from Z, in bytes
 abbrev pub told_offset : Option Told → ℕ
 told_offset (Some (InZ offset)) = offset
 told_offset told = 0
 
--- what an operation that has been told so much leaves in Z in place of its result: a pointer of the data bank that the next
--- operations alone use
-abbrev pub tells_in_z : PlainProgram → (told : Option Told) → PlainIr → (next behind : Option PlainIr) → Option Told
-tells_in_z p told (load_object t o offset) next behind =
-    if not (is_table (kept_in p o)) && (nat_le 2 t.bytes && is_used_by_z (has_tables p.objects) t.at next behind)
-    then Some (InZ 0) else None
-tells_in_z p told (field ptr space offset) next behind =
-    if is_load_by_z (has_tables p.objects) ptr.at (told_offset told + offset) next
+-- ---- a pointer that waits in Z for a store
+
+-- an operation that comes soon: what is needed behind it, of its result or of the pointer by which it stores, and what is
+-- known of its second operand
+pub record Ahead : Type 0 where
+  pub operation : Option PlainIr
+  pub wanted : ℕ
+  pub known : Option RightNumber
+
+-- so many of them, from one on
+abbrev pub look : (count : ℕ) → List PlainIr → (wanted : List ℕ) → (known : List (Option RightNumber)) → ℕ → List Ahead
+look zero code bytes known j = []
+look (suc n) code bytes known j =
+    record { operation = slice_get code j; wanted = slice_index bytes j; known = get_or known j None }
+    ∷ look n code bytes known (suc j)
+
+-- a known number is added or subtracted
+abbrev pub adds_number : (known : Option RightNumber) → BinOp → Bool
+adds_number None op = false
+adds_number (Some n) op = is_number n.number && is_sum_or_difference op
+
+-- registers that an immediate reaches
+abbrev pub is_in_high : Location → Bool
+is_in_high (InRegisters r) = nat_le 16 r
+is_in_high (InMemory o k) = false
+
+-- The code of an operation leaves Z and a place alone: that of a load of an object of the data bank, or of one through the
+-- pointer of this place, so far from Z; of a constant that nobody reads; of a conversion of an integer that adds no bytes; and
+-- of a sum or a difference of an integer and a known number in registers that an immediate reaches
+abbrev pub leaves_z : PlainProgram → (Temp → Location) → (place offset : ℕ) → (known : Option RightNumber) → (wanted : ℕ)
+    → Option PlainIr → Bool
+leaves_z p home place offset known bytes (Some (load_object t o k)) =
+    not (t.at == place) && not (is_table (kept_in p o))
+leaves_z p home place offset known bytes (Some (load_at to ptr space)) =
+    (ptr.at == place && not (to.at == place)) && (is_from_data (has_tables p.objects) space && is_in_reach offset to.bytes)
+leaves_z p home place offset known bytes (Some (constant t n)) = not (t.at == place) && bytes == 0
+leaves_z p home place offset known bytes (Some (conversion to ty mode a aty)) =
+    (not (to.at == place) && not (a.at == place)) && (not (is_whole ty || is_whole aty) && nat_le bytes a.bytes)
+leaves_z p home place offset known bytes (Some (binary_op op ty mode to a aty b bty)) =
+    (not (to.at == place) && not (a.at == place))
+    && (not (is_whole aty || is_whole bty) && (adds_number known op && is_in_high (home to)))
+leaves_z p home place offset known bytes i = false
+
+-- An operation stores another temporary through the pointer of a place, of which nothing is needed behind it
+abbrev pub is_store_by_z : (place offset wanted : ℕ) → Option PlainIr → Bool
+is_store_by_z place offset bytes (Some (store_at ptr space from)) =
+    (ptr.at == place && not (from.at == place)) && (bytes == 0 && is_in_reach offset from.bytes)
+is_store_by_z place offset bytes i = false
+
+-- of some operations one does so, and those before it leave Z and the place alone
+abbrev pub waits : PlainProgram → (Temp → Location) → (place offset : ℕ) → List Ahead → Bool
+waits p home place offset [] = false
+waits p home place offset (x ∷ xs) =
+    is_store_by_z place offset x.wanted x.operation
+    || (leaves_z p home place offset x.known x.wanted x.operation && waits p home place offset xs)
+
+-- the same, where the first one may move the pointer to a member
+abbrev pub waits_for : PlainProgram → (Temp → Location) → (place : ℕ) → (next : Option PlainIr) → (here behind : List Ahead) → Bool
+waits_for p home place (Some (field ptr space offset)) here behind =
+    ptr.at == place && (is_in_reach offset 0 && waits p home place offset behind)
+waits_for p home place next here behind = waits p home place 0 here
+
+-- the pointer that an operation has read or moved waits in Z, where these operations come from the next one on, and those
+-- from the one behind it
+abbrev pub is_waiting : PlainProgram → (Temp → Location) → (told : Option Told) → PlainIr → (next : Option PlainIr)
+    → (here behind : List Ahead) → Bool
+is_waiting p home told (load_object t o offset) next here behind = waits_for p home t.at next here behind
+is_waiting p home told (field ptr space offset) next here behind = waits p home ptr.at (told_offset told + offset) here
+is_waiting p home told i next here behind = false
+
+-- a pointer that waits goes on to wait, and else so much is told
+abbrev pub goes_on : (told otherwise : Option Told) → Option Told
+goes_on (Some (InZ offset)) otherwise = Some (InZ offset)
+goes_on told otherwise = otherwise
+
+-- but where it is loaded over
+abbrev pub goes_on_past : (told : Option Told) → (over : Bool) → Option Told
+goes_on_past (Some (InZ offset)) over = if over then None else Some (InZ offset)
+goes_on_past told over = None
+
+-- whether a pointer is in Z, and its third byte in R0
+abbrev pub is_in_z : Option Told → Bool
+is_in_z (Some (InZ offset)) = true
+is_in_z told = false
+
+-- what an operation that has been told so much leaves in Z in place of its result: a pointer that the next operations alone
+-- use, or one that waits there. One that is read from an object leaves its third byte in R0
+abbrev pub tells_in_z : Core → PlainProgram → (told : Option Told) → PlainIr → (next behind : Option PlainIr) → (waiting : Bool)
+    → Option Told
+tells_in_z core p told (load_object t o offset) next behind waiting =
+    goes_on told (if not (is_table (kept_in p o))
+    && (nat_le 2 t.bytes && (is_used_by_z core (has_tables p.objects) t.at next behind || waiting))
+    then Some (InZ 0) else None)
+tells_in_z core p told (field ptr space offset) next behind waiting =
+    if is_load_by_z core (has_tables p.objects) (is_in_z told) ptr.at (told_offset told + offset) next
+    || (is_in_reach (told_offset told + offset) 0 && waiting)
     then Some (InZ (told_offset told + offset)) else None
-tells_in_z p told i next behind = None
+tells_in_z core p told (load_at to ptr space) next behind waiting = goes_on_past told (to.at == ptr.at)
+tells_in_z core p told (constant t n) next behind waiting = goes_on told None
+tells_in_z core p told (conversion to ty mode a aty) next behind waiting = goes_on told None
+tells_in_z core p told (binary_op op ty mode to a aty b bty) next behind waiting = goes_on told None
+tells_in_z core p told i next behind waiting = None
 
 -- what an operation tells by Z, or else by a flag
 abbrev pub told_first : (in_z by_flag : Option Told) → Option Told
 told_first None by_flag = by_flag
 told_first (Some told) by_flag = Some told
 
-abbrev pub tells_any : PlainProgram → (known : Option RightNumber) → (told : Option Told) → PlainIr → (next behind : Option PlainIr)
-    → (needed : ℕ) → Option Told
-tells_any p known told i next behind needed =
-    told_first (tells_in_z p told i next behind) (tells known told i next behind needed)
+abbrev pub tells_any : Core → PlainProgram → (known : Option RightNumber) → (told : Option Told) → PlainIr
+    → (next behind : Option PlainIr) → (needed index : ℕ) → (waiting : Bool) → Option Told
+tells_any core p known told i next behind needed index waiting =
+    told_first (tells_in_z core p told i next behind waiting) (tells known told i next behind needed index)
+
+-- what an operation tells in place of its own result: none does over which a pointer waits
+abbrev pub own_telling : (told telling : Option Told) → Option Told
+own_telling (Some (InZ offset)) telling = None
+own_telling told telling = telling
 
 -- a pointer of so many bytes to a member: one in Z stays as it is, and one whose member is loaded next is brought there
 abbrev pub further_code : (told telling : Option Told) → Core → (bytes : ℕ) → Location → (offset : ℕ) → List AsmItem
@@ -630,9 +838,22 @@ abbrev pub displacement : (told : Option Told) → (bytes : ℕ) → Option ℕ
 displacement (Some (InZ offset)) bytes = if is_in_reach offset bytes then Some offset else None
 displacement told bytes = None
 
+-- n bytes of what a pointer into a space points to, at an offset from Z
+abbrev pub from_z_code : (tables : Bool) → SpaceId → (offset : ℕ) → (to : Location) → ℕ → List AsmItem
+from_z_code tables Data offset to n = load_member_code offset to n
+from_z_code tables Flash offset to n = load_further_code offset to n
+from_z_code tables FarFlash offset to n = load_further_code offset to n
+from_z_code true Generic offset to n = load_tagged_code offset to n
+from_z_code false Generic offset to n = load_member_code offset to n
+
 abbrev pub loaded_code : (from_z : Option ℕ) → Core → (tables : Bool) → SpaceId → (p to : Location) → ℕ → List AsmItem
 loaded_code None core tables space p to n = load_code core tables space p to n
-loaded_code (Some offset) core tables space p to n = load_member_code offset to n
+loaded_code (Some offset) core tables space p to n = from_z_code tables space offset to n
+
+-- n bytes are stored through a pointer, which may stay in Z
+abbrev pub stored_code : (from_z : Option ℕ) → (p to : Location) → ℕ → List AsmItem
+stored_code None p to n = store_data_code p to n
+stored_code (Some offset) p to n = store_member_code offset p n
 
 -- n bytes of an object with a home, from an offset on: those of a pointer that stays in Z are brought there
 abbrev pub object_code : (telling : Option Told) → Core → Home → List PlainObject → (o offset : ℕ) → (to : Location) → ℕ
@@ -641,7 +862,6 @@ object_code None core kept objects o offset to n = banked_code core kept objects
 object_code (Some told) core kept objects o offset to n = fetch_code (object_location objects o offset) n
 
 -- ---- pointers that are moved
-
 -- a pointer of so many bytes is moved by the bytes in R31:R30, further or back
 abbrev pub moved_code : Core → (bytes : ℕ) → (minus : Bool) → Location → List AsmItem
 moved_code core bytes minus to = if is_far core bytes then advance_far_code minus to else advance_code minus to
@@ -708,25 +928,31 @@ abbrev pub related_bytes : Core → Relation → (bytes : ℕ) → ℕ
 related_bytes Small r bytes = compared_bytes r bytes
 related_bytes Large r bytes = bytes
 
--- two pointers of so many bytes
-abbrev pub pointers_code : Core → Family → (a b to : Location) → (bytes size n : ℕ) → List AsmItem
-pointers_code core (Combined op) a b to bytes size n = difference_code a b to size n
-pointers_code core (Compared r false) a b to bytes size n =
-    compared_code r false a b to (related_bytes core r bytes) n
-pointers_code core (Compared r true) a b to bytes size n =
-    compared_code r false b a to (related_bytes core r bytes) n
-pointers_code core f a b to bytes size n = []
+-- a truth value, or where it is told by a flag, the comparison alone
+abbrev pub ordered_code : (telling : Option Told) → Relation → (left right to : Location) → (bytes n : ℕ) → List AsmItem
+ordered_code None r left right to bytes n = compared_code r false left right to bytes n
+ordered_code (Some told) r left right to bytes n = if n == 0 then [] else compare_code right left bytes
 
--- two pointers, or a pointer and a number of elements, in either order. The second operand may be known to hold a number
-abbrev pub pointer_binary : (known : Option RightNumber) → Core → (left right : Bool) → PlainProgram → BinOp → (aty bty : PlainType)
-    → (a b to : Location) → (bytes index_bytes n : ℕ) → List AsmItem
-pointer_binary known core true true p op aty bty a b to m k n =
-    pointers_code core (family_of op) a b to m (element_size p aty) n
-pointer_binary known core true false p op aty bty a b to m k n =
-    offset_by (number_known known) core (is_difference op) (is_signed bty) a b to m k (element_size p aty) n
-pointer_binary known core false true p op aty bty a b to m k n =
-    offset_code core false (is_signed aty) b a to k m (element_size p bty) n
-pointer_binary known core false false p op aty bty a b to m k n = []
+-- two pointers of so many bytes
+abbrev pub pointers_code : (telling : Option Told) → Core → Family → (a b to : Location) → (bytes size n : ℕ) → List AsmItem
+pointers_code telling core (Combined op) a b to bytes size n = difference_code a b to size n
+pointers_code telling core (Compared r false) a b to bytes size n =
+    ordered_code telling r a b to (related_bytes core r bytes) n
+pointers_code telling core (Compared r true) a b to bytes size n =
+    ordered_code telling r b a to (related_bytes core r bytes) n
+pointers_code telling core f a b to bytes size n = []
+
+-- two pointers, or a pointer and a number of elements, in either order, of which only the bytes are moved that are needed.
+-- The second operand may be known to hold a number
+abbrev pub pointer_binary : (known : Option RightNumber) → (telling : Option Told) → Core → (left right : Bool) → PlainProgram → BinOp
+    → (aty bty : PlainType) → (a b to : Location) → (bytes index_bytes n : ℕ) → List AsmItem
+pointer_binary known telling core true true p op aty bty a b to m k n =
+    pointers_code telling core (family_of op) a b to m (element_size p aty) n
+pointer_binary known telling core true false p op aty bty a b to m k n =
+    offset_by (number_known known) core (is_difference op) (is_signed bty) a b to (max 2 n) k (element_size p aty) n
+pointer_binary known telling core false true p op aty bty a b to m k n =
+    offset_code core false (is_signed aty) b a to (max 2 n) m (element_size p bty) n
+pointer_binary known telling core false false p op aty bty a b to m k n = []
 
 -- a pointer of m bytes is brought to the result's place, and there one of two bytes gets a third one, which tells its bank,
 -- where it is needed
@@ -741,27 +967,31 @@ pointer_conversion aty from to m n =
 -- complement of 16 bytes, since no temporary has more
 abbrev pub operation_code : PlainProgram → (Temp → Location) → Linkage → (told telling : Option Told) → Option RightNumber → ℕ
     → Need → PlainIr → List AsmItem
-operation_code p home k told telling known bytes kept (constant t n) = constant_code (home t) (low_bytes 16 n) bytes
+operation_code p home k told telling known bytes kept (constant t n) = put_code (home t) (low_bytes 16 n) bytes
 operation_code p home k told telling known bytes kept (copy to from) = move_code (home from) (home to) bytes
 operation_code p home k told telling known bytes kept (address t o offset) =
-    addressed_code k.core p o offset (home t) t.bytes bytes
+    addressed_code k.core p o offset (home t) (max 2 bytes) bytes
 operation_code p home k told telling known bytes kept (field ptr space offset) =
     further_code told telling k.core ptr.bytes (home ptr) offset
 operation_code p home k told telling known bytes kept (load_at to ptr space) =
     loaded_code (displacement told to.bytes) k.core (has_tables p.objects) space (home ptr) (home to) to.bytes
 operation_code p home k told telling known bytes kept (store_at ptr space from) =
-    store_data_code (home from) (home ptr) from.bytes
+    stored_code (displacement told from.bytes) (home from) (home ptr) from.bytes
 operation_code p home k told telling known bytes kept (load_object t o offset) =
-    object_code telling k.core (kept_in p o) p.objects o offset (home t) t.bytes
+    by_kind (is_index telling t.bytes) (load_index_code k.core (kept_in p o) p.objects o offset t.bytes)
+    (object_code (own_telling told telling) k.core (kept_in p o) p.objects o offset (home t) t.bytes)
 operation_code p home k told telling known bytes kept (store_object o offset t) =
     copy_code (home t) (object_location p.objects o offset) t.bytes
 operation_code p home k told telling known bytes kept (binary_op op ty mode to a aty b bty) =
-    by_kind (is_fixed aty || is_fixed bty)
-    (fixed_binary known telling op ty aty bty mode (home a) (home b) (home to) a.bytes bytes)
-    (by_kind (is_pointer aty || is_pointer bty)
-    (pointer_binary known k.core (is_pointer aty) (is_pointer bty) p op aty bty (home a) (home b) (home to) a.bytes b.bytes
+    by_kind (is_index told b.bytes && moves_pointer op aty bty)
+    (offset_code k.core (is_difference op) (is_signed bty) (home a) z_pair (home to) (max 2 bytes) b.bytes (element_size p aty)
     bytes)
-    (integer_binary known telling op (is_signed aty) (is_signed bty) (home a) (home b) (home to) a.bytes bytes))
+    (by_kind (is_fixed aty || is_fixed bty)
+    (fixed_binary known (own_telling told telling) op ty aty bty mode (home a) (home b) (home to) a.bytes bytes)
+    (by_kind (is_pointer aty || is_pointer bty)
+    (pointer_binary known (own_telling told telling) k.core (is_pointer aty) (is_pointer bty) p op aty bty (home a) (home b) (home to)
+    a.bytes b.bytes bytes)
+    (integer_binary known (own_telling told telling) op (is_signed aty) (is_signed bty) (home a) (home b) (home to) a.bytes bytes)))
 operation_code p home k told telling known bytes kept (unary_op op ty mode to a) =
     by_kind (is_fixed ty) (fixed_unary op ty mode (home a) (home to) bytes) (unary_code op (home a) (home to) bytes)
 operation_code p home k told telling known bytes kept (conversion to ty mode a aty) =
@@ -800,14 +1030,26 @@ result_wanted need (port_in to port index width) = wanted need to
 result_wanted need (cell_port true to cell offset index width) = wanted need to
 result_wanted need i = 0
 
--- the bytes that are needed behind an operation: of its result, or of what a branch has tested
+-- the bytes that are needed behind an operation: of its result, of what a branch has tested, or of the pointer by which a
+-- store has stored
 abbrev pub wanted_behind : (ℕ → Need) → Need → PlainIr → ℕ
 wanted_behind at need (branch_zero t l) = wanted (either need (at l)) t
+wanted_behind at need (store_at ptr space from) = wanted need ptr
 wanted_behind at need i = result_wanted need i
 
 abbrev pub wanted_bytes : Facts → List PlainIr → List ℕ
 wanted_bytes at [] = []
 wanted_bytes at (i ∷ code) = wanted_behind at.needed (needs at code) i ∷ wanted_bytes at code
+
+-- a row that tells what is needed behind an operation that moves a pointer of the place of its index
+abbrev pub index_row : Need → PlainIr → List ℕ
+index_row need (binary_op op ty mode to a aty b bty) = if moves_pointer op aty bty then need b.at ∷ [] else []
+index_row need i = []
+
+-- behind the first one of some operations
+abbrev pub index_behind : Facts → List PlainIr → ℕ
+index_behind at [] = 0
+index_behind at (i ∷ code) = get_or (index_row (needs at code) i) 0 0
 
 -- what a call keeps
 abbrev pub kept_need : Need → PlainIr → Need
@@ -844,19 +1086,30 @@ op_code p home k told telling known need i =
     linked_code (routine_used known i (k.routine_of i)) (λ l. called_code home l (result_wanted need i) i)
     (own_code p home k told telling known need i)
 
+-- what is known of the second operand of each of the operations that are left
+abbrev pub known_left : Facts → List PlainIr → List (Option RightNumber)
+known_left at [] = []
+known_left at (i ∷ code) = at.known (i ∷ code) ∷ known_left at code
+
+-- those of them that come soon, from one on
+abbrev pub soon : Facts → List PlainIr → ℕ → List Ahead
+soon at code j = look 8 code (wanted_bytes at code) (known_left at code) j
+
 -- what an operation that has been told so much tells those behind it
-abbrev pub tells_next : PlainProgram → Facts → (told : Option Told) → PlainIr → List PlainIr → Option Told
-tells_next p at told i code =
-    tells_any p (at.known (i ∷ code)) told i (slice_get code 0) (slice_get code 1) (slice_index (wanted_bytes at code) 0)
+abbrev pub tells_next : Core → PlainProgram → (Temp → Location) → Facts → (told : Option Told) → PlainIr → List PlainIr
+    → Option Told
+tells_next core p home at told i code =
+    tells_any core p (at.known (i ∷ code)) told i (slice_get code 0) (slice_get code 1) (slice_index (wanted_bytes at code) 0)
+    (index_behind at code) (is_waiting p home told i (slice_get code 0) (soon at code 0) (soon at code 1))
 
 abbrev pub ops_code : PlainProgram → (Temp → Location) → Linkage → Facts → (told : Option Told)
     → List PlainIr → List AsmItem
 ops_code p home k at told [] = []
 ops_code p home k at told (i ∷ code) =
-    op_code p home k told (tells_next p at told i code) (at.known (i ∷ code)) (needs at code) i
-    ++ ops_code p home k at (tells_next p at told i code) code
+    op_code p home k told (tells_next k.core p home at told i code) (at.known (i ∷ code)) (needs at code) i
+    ++ ops_code p home k at (tells_next k.core p home at told i code) code
 
 -- the code of a function, which begins with its label, where a table tells what is needed at its own labels
 abbrev pub function_code : PlainProgram → Linkage → (f : ℕ) → (ℕ → Need) → List PlainIr → List AsmItem
 function_code p k f labels code =
-    Label (k.entry_of f) ∷ ops_code p (home k.homes) k (facts_of labels code) None code
+    Label (k.entry_of f) ∷ ops_code p (home k.homes) k (facts_of (has_tables p.objects) labels code) None code

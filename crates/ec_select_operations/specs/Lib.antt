@@ -3,6 +3,7 @@ pub mod Needs
 pub mod Places
 pub mod Pointers
 pub mod Ports
+pub mod Bounds
 pub mod Code
 pub mod Emitted
 pub mod Routines

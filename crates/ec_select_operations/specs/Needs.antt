@@ -1,8 +1,10 @@
 -- How many low bytes of what each place of temporaries holds are still needed. Code computes only these bytes.
 use Rattle.std.specs.Prelude.{ℕ, zero, suc, ◌≤◌, ◌==◌, ⊤, Bool, true, false, ◌||◌, ◌&&◌, not, if◌then◌else◌, min, max, List, []}
 use Rattle.std.specs.Prelude.{◌∷◌}
-use Rattle.std.specs.Prelude.{Option, Some, None, ℤ}
+use Rattle.std.specs.Prelude.{Option, Some, None, ℤ, nat_lt}
 use Rattle.ec_fx.specs.declared.numbers.Mode.{Mode}
+use Rattle.ec_space.specs.declared.space.SpaceId.{SpaceId}
+use Rattle.ec_space.specs.declared.space.SpaceId.TheVariants.{Generic}
 use Rattle.ec_core.specs.declared.expressions.BinOp.{BinOp}
 use Rattle.ec_asm.specs.declared.pieces.Operator.TheVariants.{Sum, Difference, BitAnd, BitOr, BitXor}
 use Rattle.ec_core.specs.declared.expressions.BinOp.TheVariants.{Add, Sub, Mul, Div, Rem, And, Or, Xor, Lt, Gt, Le, Ge}
@@ -14,8 +16,9 @@ use Rattle.ec_ir.specs.declared.operations.Temp.{Temp}
 use Rattle.ec_ir.specs.Operations.{PlainIr, constant, copy, address, field, load_at, store_at, load_object}
 use Rattle.ec_ir.specs.Operations.{store_object, binary_op, unary_op, conversion, label, jump, branch_zero}
 use Rattle.ec_ir.specs.Operations.{call_function, return_from, port_in, port_out, load_cell, store_cell, cell_port}
+use Rattle.ec_ir.specs.Temporaries.{low_bytes}
 use Rattle.ec_ir_known.specs.declared.known.RightNumber.{RightNumber}
-use Rattle.ec_ir_known.specs.Known.{known_at, right_number}
+use Rattle.ec_ir_known.specs.Known.{changes_byte, known_at, right_number}
 use Rattle.ec_select_order.specs.declared.relations.Relation.TheVariants.{Less, NotLess, Equal, NotEqual}
 use Rattle.ec_select_operations.specs.declared.families.Family.{Family}
 use Rattle.ec_select_operations.specs.declared.families.Family.TheVariants.{Combined, Compared, Multiplied, Shifted}
@@ -158,6 +161,8 @@ takes_number Sub = true
 takes_number And = true
 takes_number Or = true
 takes_number Lt = true
+takes_number Gt = true
+takes_number Le = true
 takes_number Ge = true
 takes_number Eq = true
 takes_number Ne = true
@@ -174,15 +179,17 @@ abbrev pub is_number : Option ℤ → Bool
 is_number None = false
 is_number (Some n) = true
 
--- operators of integers take a known number, and where only both operands are known to be below 256, comparisons take this
-abbrev pub takes_known : (number : Option ℤ) → BinOp → Bool
-takes_known None op = is_comparison op
-takes_known (Some n) op = takes_number op
+-- operators of integers take a known number; where only both operands are known to be below 256, comparisons take this, and
+-- where the second one is alone, OR and exclusive OR
+abbrev pub takes_known : (number : Option ℤ) → (in_byte : Bool) → BinOp → Bool
+takes_known None true op = is_comparison op
+takes_known None false op = changes_byte op
+takes_known (Some n) in_byte op = takes_number op
 
 -- what an operator on integers takes of what is known of its second operand: nothing where it is apart
 abbrev pub number_taken : (known : Option RightNumber) → (apart : Bool) → BinOp → Option RightNumber
 number_taken None apart op = None
-number_taken (Some n) apart op = if not apart && takes_known n.number op then Some n else None
+number_taken (Some n) apart op = if not apart && takes_known n.number n.in_byte op then Some n else None
 
 -- a pointer plus or less a number of elements
 abbrev pub is_sum_or_difference : BinOp → Bool
@@ -193,11 +200,37 @@ is_sum_or_difference op = false
 abbrev pub moves_pointer : BinOp → (aty bty : PlainType) → Bool
 moves_pointer op aty bty = is_pointer aty && (not (is_whole bty) && is_sum_or_difference op)
 
+-- as many bytes of a pointer are made as are needed, but at least the two of an address
+abbrev pub pointer_wanted : (n : ℕ) → ℕ
+pointer_wanted zero = 0
+pointer_wanted (suc n) = max 2 (suc n)
+
+-- so many bytes of a pointer that is moved take as many of it as it was, and others take more
+abbrev pub moved_wanted : (moved : Bool) → (n others : ℕ) → ℕ
+moved_wanted true n others = pointer_wanted n
+moved_wanted false n others = others
+
 -- how many bytes of an operand, which has so many, are compared or shifted to the right: one where both operands are below
 -- 256
 abbrev pub compared_bytes : (taken : Option RightNumber) → (bytes : ℕ) → ℕ
 compared_bytes None bytes = bytes
 compared_bytes (Some n) bytes = if n.in_byte then min 1 bytes else bytes
+
+-- AND with a known number below 256 gives one byte
+abbrev pub is_low_mask : (number : Option ℤ) → BinOp → Bool
+is_low_mask None op = false
+is_low_mask (Some n) And = nat_lt (low_bytes 16 n) 256
+is_low_mask (Some n) op = false
+
+-- how many bytes of the result tell what is needed of the first operand: one of those that are masked so
+abbrev pub masked_bytes : (taken : Option RightNumber) → BinOp → (n : ℕ) → ℕ
+masked_bytes None op n = n
+masked_bytes (Some k) op n = if is_low_mask k.number op then min n 1 else n
+
+-- how many bytes of the result tell what is needed of the second operand: one where it alone is below 256
+abbrev pub joined_bytes : (taken : Option RightNumber) → (n : ℕ) → ℕ
+joined_bytes None n = n
+joined_bytes (Some k) n = if is_number k.number || k.in_byte then n else min n 1
 
 -- an operator whose result has the format of the first operand, and is computed in its place: a sum or a difference in the
 -- one format of both operands that saturates, a shift to the left that does not, and any shift to the right
@@ -257,18 +290,22 @@ abbrev pub before : (ℕ → Need) → Option RightNumber → PlainIr → Need �
 before at n (constant t k) need = without t.at need
 before at n (copy to from) need = at_least from.at (wanted need to) (without to.at need)
 before at n (address t o offset) need = without t.at need
-before at n (field ptr space offset) need = at_least ptr.at ptr.bytes need
+before at n (field ptr space offset) need = at_least ptr.at 2 need
 before at n (load_at to ptr space) need = at_least ptr.at ptr.bytes (without to.at need)
-before at n (store_at ptr space from) need = at_least from.at from.bytes (at_least ptr.at ptr.bytes need)
+before at n (store_at ptr space from) need = at_least from.at from.bytes (at_least ptr.at 2 need)
 before at n (load_object t o offset) need = without t.at need
 before at n (store_object o offset t) need = at_least t.at t.bytes need
 before at n (binary_op op ty mode to a aty b bty) need =
     at_least a.at
+    (moved_wanted (moves_pointer op aty bty) (wanted need to)
     (first_wanted (is_apart (family_of op) mode ty aty bty) op
-    (compared_bytes (number_taken n (is_apart (family_of op) mode ty aty bty) op) a.bytes) (wanted need to))
+    (compared_bytes (number_taken n (is_apart (family_of op) mode ty aty bty) op) a.bytes)
+    (masked_bytes (number_taken n (is_apart (family_of op) mode ty aty bty) op) op (wanted need to))))
     (right_needed (right_taken n (takes_whole op mode ty aty bty to b) (is_apart (family_of op) mode ty aty bty) op) b.at
+    (moved_wanted (moves_pointer op bty aty) (wanted need to)
     (second_wanted (is_apart (family_of op) mode ty aty bty) op
-    (compared_bytes (number_taken n (is_apart (family_of op) mode ty aty bty) op) b.bytes) (wanted need to)) (without to.at need))
+    (compared_bytes (number_taken n (is_apart (family_of op) mode ty aty bty) op) b.bytes)
+    (joined_bytes (number_taken n (is_apart (family_of op) mode ty aty bty) op) (wanted need to)))) (without to.at need))
 before at n (unary_op op ty mode to a) need =
     at_least a.at (only_wanted (is_whole ty) a.bytes (wanted need to)) (without to.at need)
 before at n (conversion to ty mode a aty) need =
@@ -285,11 +322,24 @@ before at n (store_cell cell from) need = at_least from.at from.bytes need
 before at n (cell_port true to cell offset index width) need = index_needed index (without to.at need)
 before at n (cell_port false from cell offset index width) need = at_least from.at width (index_needed index need)
 
+-- a load takes all bytes of its pointer, but where no object is kept in flash, of one into the unnamed space the two of an
+-- address
+abbrev pub loaded_bytes : SpaceId → (in_flash : Bool) → (bytes : ℕ) → ℕ
+loaded_bytes Generic false bytes = 2
+loaded_bytes space in_flash bytes = bytes
+
+-- an operation that takes so much of its pointer
+abbrev pub narrowed : PlainIr → (in_flash : Bool) → PlainIr
+narrowed (load_at to ptr space) in_flash =
+    load_at to (record { at = ptr.at; bytes = loaded_bytes space in_flash ptr.bytes }) space
+narrowed i in_flash = i
+
 -- ---- the code of a function
 
--- what is needed at each label of a function, and the number, if any, that the second operand of the first one of the
--- operations that are left is known to hold
+-- whether some object is kept in flash, what is needed at each label of a function, and the number, if any, that the second
+-- operand of the first one of the operations that are left is known to hold
 pub record Facts : Type 0 where
+  pub in_flash : Bool
   pub needed : ℕ → Need
   pub known : List PlainIr → Option RightNumber
 
@@ -299,12 +349,12 @@ known_right code [] = None
 known_right code (i ∷ rest) = right_number (known_at code (i ∷ rest)) i
 
 -- where a table tells what is needed at the labels
-abbrev pub facts_of : (ℕ → Need) → List PlainIr → Facts
-facts_of labels code = record { needed = labels; known = known_right code }
+abbrev pub facts_of : (in_flash : Bool) → (ℕ → Need) → List PlainIr → Facts
+facts_of in_flash labels code = record { in_flash = in_flash; needed = labels; known = known_right code }
 
 abbrev pub needs : Facts → List PlainIr → Need
 needs at [] place = 0
-needs at (i ∷ code) place = before at.needed (at.known (i ∷ code)) i (needs at code) place
+needs at (i ∷ code) place = before at.needed (at.known (i ∷ code)) (narrowed i at.in_flash) (needs at code) place
 
 -- at the labels of operations at least what the code after each needs is needed
 abbrev pub IsLiveBy : Facts → List PlainIr → Type 0
@@ -313,5 +363,5 @@ IsLiveBy at (label l ∷ code) = ((place : ℕ) → needs at code place ≤ at.n
 IsLiveBy at (i ∷ code) = IsLiveBy at code
 
 -- the table of labels tells at least what the code after each label needs
-abbrev pub IsLive : (ℕ → Need) → List PlainIr → Type 0
-IsLive labels code = IsLiveBy (facts_of labels code) code
+abbrev pub IsLive : (in_flash : Bool) → (ℕ → Need) → List PlainIr → Type 0
+IsLive in_flash labels code = IsLiveBy (facts_of in_flash labels code) code

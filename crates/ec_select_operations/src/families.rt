@@ -7,16 +7,17 @@ ghost use Rattle.ec_select_operations.specs.Code.{combined_code, conversion_code
 ghost use Rattle.ec_select_operations.specs.Code.{shift_of, turned_code, counted_code, shifted_code, long_code, divided_code};
 ghost use Rattle.ec_select_operations.specs.Emitted.{BinaryHasBytes};
 ghost use Rattle.ec_select_operations.specs.Code.{told_by, branch_code, told_of, flag_code, operator_code, tested_code};
-ghost use Rattle.ec_select_operations.specs.Code.{opposite, turned, jump_code};
+ghost use Rattle.ec_select_operations.specs.Code.{turned, jump_code, is_index, truth_register, truth_at_code};
 ghost use Rattle.ec_select_operations.specs.Homes.{home};
 
+use crate::bounds::opposite;
 use crate::homes::{Homes, home};
 use crate::transfers::transfer;
 use ec_asm::{AsmItem, Location, Operator, compare, operate};
 use ec_core::{BinOp, UnOp};
 use ec_ir::Temp;
 use ec_select_bytes::{combine_before, complement, extend, jump, negate, test};
-use ec_select_order::{Relation, branch_unless, relate};
+use ec_select_order::{Relation, branch_unless, relate_in};
 use ec_select_products::{Factor, multiply};
 use ec_select_quotients::{Division, quotient};
 use ec_select_shifts::{Direction, shift, shift_by};
@@ -146,6 +147,35 @@ pub fn convert(
     extend(out, signed, to, bytes, wanted)
 }
 
+/// The register in which a truth value is made: that of the result from R16 on, which LDI reaches, and else R30.
+pub(crate) fn truth_register(to: Location) -> u8
+    ensures { result ≡ truth_register to }
+{
+    match to {
+        Location::InRegisters(register) if register >= 16 => register,
+        _ => 30,
+    }
+}
+
+/// Appends code that brings a truth value from there to its place, where so many bytes of it are wanted. Where memory runs
+/// out, a part of the code is appended.
+#[tactic(auto, using(crate::proofs::Emits::truth_there))]
+pub(crate) fn put_truth(out: &mut Seq<AsmItem>, to: Location, wanted: u8) -> Result<(), NoMemory>
+    requires to { HasBytes to wanted }
+    requires some { 1 ≤ wanted }
+    ensures ok { OnOk result (out.new.items ≡ out.old.items ++ truth_at_code to wanted) }
+    ensures err { OnErr result (BeginWith out.old.items out.new.items) }
+{
+    convert(
+        out,
+        false,
+        Location::InRegisters(truth_register(to)),
+        to,
+        1,
+        wanted,
+    )
+}
+
 /// Two numbers of so many bytes.
 #[derive(Clone, Copy)]
 pub struct Operands {
@@ -174,15 +204,16 @@ pub fn tell(
     if wanted == 0 {
         return Ok(());
     }
-    relate(
+    relate_in(
         out,
+        truth_register(to),
         relation,
         operands.signed,
         operands.left,
         operands.right,
         operands.bytes,
     )?;
-    convert(out, false, Location::InRegisters(30), to, 1, wanted)
+    put_truth(out, to, wanted)
 }
 
 /// Appends code that puts so many bytes of the product of two bytes to `to`. Where memory runs out, a part of the code
@@ -455,8 +486,11 @@ pub fn branch(out: &mut Seq<AsmItem>, at: Location, bytes: u8, label: u64) -> Re
 pub enum Told {
     /// By a flag: how the operands of a comparison stand, in two's complement or without signs.
     Operands { relation: Relation, signed: bool },
-    /// The address in a pointer: it is so far from Z, in bytes. The place of the pointer does not hold it.
+    /// The address in a pointer: it is so far from Z, in bytes. The place of the pointer does not hold it. A third byte that
+    /// was read with it stands in R0.
     InZ { offset: u16 },
+    /// The index of one or two bytes that is loaded: it stands in R30, or in R31:R30.
+    Index,
 }
 
 /// What an operator tells by a flag, where it is a comparison.
@@ -469,11 +503,21 @@ fn told_of(family: Family, signed: bool) -> Option<Told>
     }
 }
 
-/// The same, but of an operator apart, whose operands are fixed-point numbers or pointers: it tells nothing.
-pub(crate) fn told_by(is_apart: bool, family: Family, signed: bool) -> Option<Told>
-    ensures { result ≡ told_by is_apart family signed }
+/// Whether an index of so many bytes is told.
+pub(crate) fn is_index(told: Option<Told>, bytes: u8) -> bool
+    ensures { result ≡ is_index told bytes }
 {
-    if is_apart {
+    match told {
+        Some(Told::Index) => bytes <= 2,
+        _ => false,
+    }
+}
+
+/// The same, but of an operator that may tell nothing.
+pub(crate) fn told_by(is_untold: bool, family: Family, signed: bool) -> Option<Told>
+    ensures { result ≡ told_by is_untold family signed }
+{
+    if is_untold {
         None
     } else {
         told_of(family, signed)
@@ -523,18 +567,6 @@ pub fn operator(
     match telling {
         None => binary(out, homes, op, of, wanted),
         Some(_) => compare_only(out, homes, op, of, wanted),
-    }
-}
-
-/// The relation that holds where another one does not.
-fn opposite(relation: Relation) -> Relation
-    ensures { result ≡ opposite relation }
-{
-    match relation {
-        Relation::Less => Relation::NotLess,
-        Relation::NotLess => Relation::Less,
-        Relation::Equal => Relation::NotEqual,
-        Relation::NotEqual => Relation::Equal,
     }
 }
 

@@ -18,7 +18,8 @@ ghost use Rattle.ec_select_operations.specs.Code.{move_code, placed_binary};
 ghost use Rattle.ec_select_operations.specs.Emitted.{second_bytes};
 ghost use Rattle.ec_select_operations.specs.Code.{work_location, answer_location, fixed_binary, fixed_unary};
 ghost use Rattle.ec_select_operations.specs.Code.{fixed_conversion, keeps_number, family_of, is_as_exact, is_on_integers, is_apart};
-ghost use Rattle.ec_select_operations.specs.Code.{brought_code, aside_location, negated_code, negated_unary};
+ghost use Rattle.ec_select_operations.specs.Code.{is_untold};
+ghost use Rattle.ec_select_operations.specs.Code.{brought_code, aside_location, from_zero_code, negated_code, negated_unary};
 ghost use Rattle.ec_select_operations.specs.Emitted.{FixedHasBytes, FixedOperandHasBytes, FixedConversionHasBytes};
 ghost use Rattle.ec_select_operations.specs.Homes.{home};
 
@@ -28,12 +29,12 @@ use crate::families::{
 use crate::homes::{Homes, home};
 use crate::numbers::{bits_of, integer_binary, number_known};
 use crate::pointers::is_difference;
-use crate::types::{has_one_format, has_one_fraction, is_fixed, is_signed, is_whole};
+use crate::types::{has_one_format, has_one_fraction, is_fixed, is_pointer, is_signed, is_whole};
 use ec_asm::{AsmItem, Location, Operator, copy, operate};
 use ec_core::{BinOp, CType, UnOp};
 use ec_fx::Mode;
 use ec_fxcode_formats::{Digits, bring, can_bring};
-use ec_fxcode_limits::limit;
+use ec_fxcode_limits::{limit, negate_byte};
 use ec_fxcode_placed::{shift_in_place, shift_in_place_by};
 use ec_ir::{Ir, Temp, scalar_size};
 use ec_ir_known::RightNumber;
@@ -87,6 +88,13 @@ pub fn is_apart(family: Family, mode: Mode, ty: &CType, aty: &CType, bty: &CType
     ensures { result ≡ is_apart family mode (plain_type ty.now) (plain_type aty.now) (plain_type bty.now) }
 {
     (is_whole(aty) || is_whole(bty)) && !is_on_integers(family, mode, ty, aty, bty)
+}
+
+/// Whether an operator apart leaves nothing in a flag: any but a comparison of two pointers.
+pub(crate) fn is_untold(family: Family, mode: Mode, ty: &CType, aty: &CType, bty: &CType) -> bool
+    ensures { result ≡ is_untold family mode (plain_type ty.now) (plain_type aty.now) (plain_type bty.now) }
+{
+    !(is_pointer(aty) && is_pointer(bty)) && is_apart(family, mode, ty, aty, bty)
 }
 
 /// Whether an operator computes its result, which is of the format of its first operand, in its place.
@@ -436,6 +444,32 @@ fn aside_location() -> Location
 
 /// Appends code that puts a number aside, and takes it from 0 at another place, stopped at the ends of its range.
 #[tactic(auto, using(crate::proofs::Emits::fewer_bytes))]
+fn from_zero(
+    out: &mut Seq<AsmItem>,
+    signed: bool,
+    from: Location,
+    to: Location,
+    bytes: u8,
+) -> Result<(), NoMemory>
+    requires from { HasBytes from bytes }
+    requires to { HasBytes to bytes }
+    requires some { 1 ≤ bytes }
+    requires few { bytes ≤ 6 }
+    ensures ok { OnOk result (out.new.items ≡ out.old.items ++ from_zero_code signed from to bytes) }
+    ensures err { OnErr result (BeginWith out.old.items out.new.items) }
+{
+    let right = aside_location();
+    copy(out, from, right, bytes)?;
+    constant(out, 0, to, bytes)?;
+    let of = Operands {
+        signed,
+        left: from,
+        right,
+    };
+    limited(out, true, of, to, bytes - 1)
+}
+
+/// Appends code that negates a number, stopped at the ends of its range: one byte with a sign in the register of the result.
 fn negated(
     out: &mut Seq<AsmItem>,
     signed: bool,
@@ -450,15 +484,13 @@ fn negated(
     ensures ok { OnOk result (out.new.items ≡ out.old.items ++ negated_code signed from to bytes) }
     ensures err { OnErr result (BeginWith out.old.items out.new.items) }
 {
-    let right = aside_location();
-    copy(out, from, right, bytes)?;
-    constant(out, 0, to, bytes)?;
-    let of = Operands {
-        signed,
-        left: from,
-        right,
-    };
-    limited(out, true, of, to, bytes - 1)
+    match to {
+        Location::InRegisters(register) if signed && bytes == 1 => {
+            move_number(out, from, to, 1)?;
+            negate_byte(out, register)
+        }
+        _ => from_zero(out, signed, from, to, bytes),
+    }
 }
 
 /// The same where so many bytes of the result are wanted.

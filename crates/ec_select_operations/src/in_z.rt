@@ -1,4 +1,4 @@
-//! Pointers that stay in Z for a load.
+//! Pointers that stay in Z for a load or a store.
 ghost use Rattle.std.specs.Prelude.{◌≡◌, ◌≤◌, ◌<◌, ◌+◌, ◌^◌, ◌++◌, true, OnOk, OnErr, IfSome, map, option_map};
 ghost use Rattle.std.specs.Option.{option_copied};
 ghost use Rattle.ec_runs.specs.Behaviours.{BeginWith};
@@ -6,8 +6,10 @@ ghost use Rattle.ec_asm.specs.Pieces.{HasBytes};
 ghost use Rattle.ec_space.specs.Spaces.{width};
 ghost use Rattle.ec_core.specs.Plain.{plain_object};
 ghost use Rattle.ec_ir.specs.Operations.{plain_ir};
-ghost use Rattle.ec_select_operations.specs.Code.{is_from_data, is_in_reach, is_load_by_z, is_used_by_z, told_offset};
-ghost use Rattle.ec_select_operations.specs.Code.{tells_in_z, further_code, displacement, loaded_code, object_code};
+ghost use Rattle.ec_select_operations.specs.Code.{is_small, goes_by_z, is_from_data, is_in_reach, is_load_by_z, is_used_by_z};
+ghost use Rattle.ec_select_operations.specs.Code.{told_offset, is_in_z, tells_in_z, further_code, displacement};
+ghost use Rattle.ec_select_operations.specs.Code.{from_z_code, loaded_code, object_code, goes_on, goes_on_past};
+ghost use Rattle.ec_select_operations.specs.Code.{own_telling, stored_code};
 ghost use Rattle.ec_select_operations.specs.Emitted.{declarations};
 ghost use Rattle.ec_select_operations.specs.Places.{object_location};
 ghost use Rattle.ec_select_operations.specs.Pointers.{kept_in, has_tables};
@@ -18,11 +20,23 @@ use crate::pointers::{
 };
 use ec_asm::{AsmItem, Location};
 use ec_ir::{Ir, IrProgram};
-use ec_select_pointers::{fetch, load_member, point};
+use ec_select_pointers::{
+    fetch, load_further, load_member, load_tagged, point, store_data, store_member,
+};
 use ec_space::{Core, NoMemory, Seq, SpaceId};
 
+/// Whether an address of flash has two bytes.
+fn is_small(core: Core) -> bool
+    ensures { result ≡ is_small core }
+{
+    match core {
+        Core::Small => true,
+        Core::Large => false,
+    }
+}
+
 /// Whether a load through a pointer into a space is one from the data bank, wherever it points.
-fn is_from_data(program: &IrProgram, space: SpaceId) -> bool
+pub(crate) fn is_from_data(program: &IrProgram, space: SpaceId) -> bool
     ensures { result ≡ is_from_data (has_tables (declarations program.now).objects) space }
 {
     match space {
@@ -32,8 +46,19 @@ fn is_from_data(program: &IrProgram, space: SpaceId) -> bool
     }
 }
 
+/// Whether a load through a pointer into a space, whose third byte may be a tag that stands in R0, can go by Z.
+fn goes_by_z(core: Core, program: &IrProgram, tagged: bool, space: SpaceId) -> bool
+    ensures { result ≡ goes_by_z core (has_tables (declarations program.now).objects) tagged space }
+{
+    match space {
+        SpaceId::Data | SpaceId::Flash => true,
+        SpaceId::FarFlash => is_small(core),
+        SpaceId::Generic => !has_tables(program) || (tagged && is_small(core)),
+    }
+}
+
 /// Whether a displacement reaches so many bytes at an offset.
-fn is_in_reach(offset: u64, bytes: u8) -> bool
+pub(crate) fn is_in_reach(offset: u64, bytes: u8) -> bool
     requires { offset < 2 ^ 60 }
     ensures value { result ≡ is_in_reach offset bytes }
     ensures reach { result ≡ true → offset + bytes ≤ 64 }
@@ -41,11 +66,17 @@ fn is_in_reach(offset: u64, bytes: u8) -> bool
     offset + u64::from(bytes) <= 64
 }
 
-/// Whether the next operation loads from the data bank what stands at an offset from the pointer at a place, and puts it
-/// there.
-fn is_load_by_z(program: &IrProgram, place: u16, offset: u64, next: Option<&Ir>) -> bool
+/// Whether the next operation loads by Z what stands at an offset from the pointer at a place, and puts it there.
+fn is_load_by_z(
+    core: Core,
+    program: &IrProgram,
+    tagged: bool,
+    place: u16,
+    offset: u64,
+    next: Option<&Ir>,
+) -> bool
     requires { offset < 2 ^ 60 }
-    ensures value { result ≡ is_load_by_z (has_tables (declarations program.now).objects) place offset
+    ensures value { result ≡ is_load_by_z core (has_tables (declarations program.now).objects) tagged place offset
         (option_map plain_ir (option_copied next.entry)) }
     ensures reach { result ≡ true → offset ≤ 64 }
 {
@@ -53,7 +84,7 @@ fn is_load_by_z(program: &IrProgram, place: u16, offset: u64, next: Option<&Ir>)
         Some(Ir::Load { to, ptr, space }) => {
             ptr.at == place
                 && to.at == place
-                && is_from_data(program, *space)
+                && goes_by_z(core, program, tagged, *space)
                 && is_in_reach(offset, to.bytes)
         }
         _ => false,
@@ -61,20 +92,26 @@ fn is_load_by_z(program: &IrProgram, place: u16, offset: u64, next: Option<&Ir>)
 }
 
 /// Whether it does so, or the one behind it loads a member so.
-fn is_used_by_z(program: &IrProgram, place: u16, next: Option<&Ir>, behind: Option<&Ir>) -> bool
-    ensures { result ≡ is_used_by_z (has_tables (declarations program.now).objects) place
+fn is_used_by_z(
+    core: Core,
+    program: &IrProgram,
+    place: u16,
+    next: Option<&Ir>,
+    behind: Option<&Ir>,
+) -> bool
+    ensures { result ≡ is_used_by_z core (has_tables (declarations program.now).objects) place
         (option_map plain_ir (option_copied next.entry)) (option_map plain_ir (option_copied behind.entry)) }
 {
     match next {
         Some(Ir::Field { ptr, offset, .. }) => {
-            ptr.at == place && is_load_by_z(program, place, u64::from(*offset), behind)
+            ptr.at == place && is_load_by_z(core, program, true, place, u64::from(*offset), behind)
         }
-        _ => is_load_by_z(program, place, 0, next),
+        _ => is_load_by_z(core, program, true, place, 0, next),
     }
 }
 
 /// How far what is meant stands from Z, in bytes.
-fn told_offset(told: Option<Told>) -> u16
+pub(crate) fn told_offset(told: Option<Told>) -> u16
     ensures { result ≡ told_offset told }
 {
     match told {
@@ -83,32 +120,79 @@ fn told_offset(told: Option<Told>) -> u16
     }
 }
 
-/// What an operation that has been told so much leaves in Z in place of its result: a pointer of the data bank that the
-/// next operations alone use.
+/// Whether a pointer is in Z, and its third byte in R0.
+fn is_in_z(told: Option<Told>) -> bool
+    ensures { result ≡ is_in_z told }
+{
+    match told {
+        Some(Told::InZ { .. }) => true,
+        _ => false,
+    }
+}
+
+/// A pointer that waits in Z goes on to wait, and else so much is told.
+fn goes_on(told: Option<Told>, otherwise: Option<Told>) -> Option<Told>
+    ensures { result ≡ goes_on told otherwise }
+{
+    match told {
+        Some(Told::InZ { offset }) => Some(Told::InZ { offset }),
+        _ => otherwise,
+    }
+}
+
+/// It goes on to wait where it is not loaded over.
+fn goes_on_past(told: Option<Told>, over: bool) -> Option<Told>
+    ensures { result ≡ goes_on_past told over }
+{
+    match told {
+        Some(Told::InZ { offset }) => {
+            if over {
+                None
+            } else {
+                Some(Told::InZ { offset })
+            }
+        }
+        _ => None,
+    }
+}
+
+/// What an operation tells in place of its own result: none does over which a pointer waits.
+pub(crate) fn own_telling(told: Option<Told>, telling: Option<Told>) -> Option<Told>
+    ensures { result ≡ own_telling told telling }
+{
+    match told {
+        Some(Told::InZ { .. }) => None,
+        _ => telling,
+    }
+}
+
+/// What an operation that has been told so much leaves in Z in place of its result: a pointer that the next operations alone
+/// use, or one that waits there. One that is read from an object leaves its third byte in R0.
 pub(crate) fn tells_in_z(
+    core: Core,
     program: &IrProgram,
     told: Option<Told>,
     i: &Ir,
     next: Option<&Ir>,
     behind: Option<&Ir>,
+    waiting: bool,
 ) -> Option<Told>
-    ensures { result ≡ tells_in_z (declarations program.now) told (plain_ir i.now)
-        (option_map plain_ir (option_copied next.entry)) (option_map plain_ir (option_copied behind.entry)) }
+    ensures { result ≡ tells_in_z core (declarations program.now) told (plain_ir i.now)
+        (option_map plain_ir (option_copied next.entry)) (option_map plain_ir (option_copied behind.entry)) waiting }
 {
     match i {
         Ir::LoadObj(t, o, _) => {
-            if !is_table(kept_in(program, *o))
-                && t.bytes >= 2
-                && is_used_by_z(program, t.at, next, behind)
-            {
-                Some(Told::InZ { offset: 0 })
+            let used = is_used_by_z(core, program, t.at, next, behind) || waiting;
+            if !is_table(kept_in(program, *o)) && t.bytes >= 2 && used {
+                goes_on(told, Some(Told::InZ { offset: 0 }))
             } else {
-                None
+                goes_on(told, None)
             }
         }
         Ir::Field { ptr, offset, .. } => {
             let further = u64::from(told_offset(told)) + u64::from(*offset);
-            if is_load_by_z(program, ptr.at, further, next) {
+            let waits = is_in_reach(further, 0) && waiting;
+            if is_load_by_z(core, program, is_in_z(told), ptr.at, further, next) || waits {
                 Some(Told::InZ {
                     offset: further as u16,
                 })
@@ -116,6 +200,8 @@ pub(crate) fn tells_in_z(
                 None
             }
         }
+        Ir::Load { to, ptr, .. } => goes_on_past(told, to.at == ptr.at),
+        Ir::Const(..) | Ir::Conv { .. } | Ir::Bin { .. } => goes_on(told, None),
         _ => None,
     }
 }
@@ -162,6 +248,35 @@ fn displacement(told: Option<Told>, bytes: u8) -> Option<u8>
     }
 }
 
+/// Appends code that loads a number of so many bytes of what a pointer into a space points to, at an offset from Z. Where
+/// memory runs out, a part of the code is appended.
+fn load_from_z(
+    out: &mut Seq<AsmItem>,
+    program: &IrProgram,
+    space: SpaceId,
+    offset: u8,
+    to: Location,
+    bytes: u8,
+) -> Result<(), NoMemory>
+    requires to { HasBytes to bytes }
+    requires reach { offset + bytes ≤ 64 }
+    ensures ok { OnOk result (out.new.items ≡ out.old.items
+        ++ from_z_code (has_tables (declarations program.now).objects) space offset to bytes) }
+    ensures err { OnErr result (BeginWith out.old.items out.new.items) }
+{
+    match space {
+        SpaceId::Data => load_member(out, offset, to, bytes),
+        SpaceId::Flash | SpaceId::FarFlash => load_further(out, offset, to, bytes),
+        SpaceId::Generic => {
+            if has_tables(program) {
+                load_tagged(out, offset, to, bytes)
+            } else {
+                load_member(out, offset, to, bytes)
+            }
+        }
+    }
+}
+
 /// Appends code that loads a number of so many bytes through a pointer into a space, which may stay in Z. Where memory
 /// runs out, a part of the code is appended.
 pub fn load_by(
@@ -183,7 +298,27 @@ pub fn load_by(
 {
     match displacement(told, bytes) {
         None => load_through(out, core, program, space, pointer, to, bytes),
-        Some(offset) => load_member(out, offset, to, bytes),
+        Some(offset) => load_from_z(out, program, space, offset, to, bytes),
+    }
+}
+
+/// Appends code that stores a number of so many bytes through a pointer, which may stay in Z. Where memory runs out, a part
+/// of the code is appended.
+pub fn store_by(
+    out: &mut Seq<AsmItem>,
+    told: Option<Told>,
+    from: Location,
+    pointer: Location,
+    bytes: u8,
+) -> Result<(), NoMemory>
+    requires from { HasBytes from bytes }
+    requires pointer { HasBytes pointer 2 }
+    ensures ok { OnOk result (out.new.items ≡ out.old.items ++ stored_code (displacement told bytes) from pointer bytes) }
+    ensures err { OnErr result (BeginWith out.old.items out.new.items) }
+{
+    match displacement(told, bytes) {
+        None => store_data(out, from, pointer, bytes),
+        Some(offset) => store_member(out, offset, from, bytes),
     }
 }
 

@@ -10,6 +10,7 @@
 //! addresses, which code loads through, moves and compares as such, and far objects are loaded by them.
 #![tactic(auto)]
 
+mod bounds;
 mod calls;
 mod families;
 mod fixed;
@@ -22,6 +23,7 @@ mod pointers;
 mod routines;
 mod transfers;
 mod types;
+mod waiting;
 
 pub use calls::{Linking, call, finish};
 pub use ec_select_bytes::{
@@ -35,15 +37,16 @@ pub use families::{
 };
 pub use fixed::{fixed_binary, fixed_conversion, fixed_unary, is_apart, is_counted, takes_count};
 pub use homes::{Homes, home, index_place};
-pub use in_z::{go_to_member, load_by, load_or_fetch};
+pub use in_z::{go_to_member, load_by, load_or_fetch, store_by};
 pub use laws::{needed_code_is_written, needed_functions_are_written, one_shape_has_one_routine};
 pub use numbers::{
-    compared_bytes, integer_binary, number_at, number_taken, right_taken, takes_whole,
+    compared_bytes, integer_binary, joined_bytes, masked_bytes, moves_pointer, number_at,
+    number_taken, right_taken, takes_whole,
 };
 pub use operations::{Flags, all_operations, function, operation};
 pub use pointers::{
-    Offset, Pointers, combine_pointers, load_object, load_through, move_pointer, move_to_member,
-    pointer_binary, pointer_conversion, put_address,
+    Offset, Pointers, combine_pointers, has_tables, load_index, load_object, load_through,
+    move_by_told, move_pointer, move_to_member, pointer_binary, pointer_conversion, put_address,
 };
 pub use routines::{called, routine};
 pub use types::{is_fixed, is_pointer, is_whole};

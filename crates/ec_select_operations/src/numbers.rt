@@ -6,28 +6,32 @@ ghost use Rattle.ec_core.specs.Plain.{plain_type};
 ghost use Rattle.ec_ir.specs.Temporaries.{low_bytes};
 ghost use Rattle.ec_select_operations.specs.Code.{family_of, changed_by_code, counted_by_code, by_number_code, integer_binary};
 ghost use Rattle.ec_select_operations.specs.Code.{compared_signed, is_mask, is_masked, told_taking, masked_code};
-ghost use Rattle.ec_select_operations.specs.Code.{told_number_code, low_code, bytes_code, known_code};
+ghost use Rattle.ec_select_operations.specs.Code.{told_number_code, low_code, joined_code, bytes_code, known_code, family_with};
+ghost use Rattle.ec_select_operations.specs.Code.{leaves_bit, top_bit_code};
+ghost use Rattle.ec_select_operations.specs.Code.{signed_with, family_taking, signed_taking, masks_low, low_mask_code, combined_by_code};
 ghost use Rattle.ec_select_operations.specs.Emitted.{BinaryHasBytes, TakesNumbers};
 ghost use Rattle.ec_select_operations.specs.Homes.{home};
 ghost use Rattle.ec_ir_known.specs.declared.known.RightNumber.{RightNumber};
 ghost use Rattle.ec_select_operations.specs.Needs.{takes_number, number_taken, right_taken, compared_bytes};
 ghost use Rattle.ec_select_operations.specs.Needs.{moves_pointer, takes_whole, number_known, takes_known, numbered};
+ghost use Rattle.ec_select_operations.specs.Needs.{is_low_mask, masked_bytes, joined_bytes};
 
+use crate::bounds::{bound_of, bounded, truth_by};
 use crate::families::{
-    BinaryOperation, Family, Operands, Told, family_of, is_same, move_number, operator, shift_of,
-    tell, told_by, turn_by_number,
+    BinaryOperation, Family, Operands, Told, family_of, is_same, move_number, operator, put_truth,
+    shift_of, tell, told_by, truth_register, turn_by_number,
 };
 use crate::fixed::is_counted;
 use crate::homes::{Homes, home};
 use crate::types::{is_pointer, is_whole};
-use ec_asm::{AsmItem, Location, Operator, compare};
+use ec_asm::{AsmItem, Location, Operator, compare, operate};
 use ec_core::{BinOp, CType, is_comparison};
 use ec_fx::Mode;
 use ec_ir::Temp;
 use ec_ir_known::RightNumber;
 use ec_isa::Instr;
 use ec_select_bytes::extend;
-use ec_select_numbers::{ByNumber, add_number, change_by, compare_with};
+use ec_select_numbers::{ByNumber, add_number, change_by};
 use ec_select_order::Relation;
 use ec_space::{NoMemory, Seq};
 
@@ -50,6 +54,8 @@ fn takes_number(op: BinOp) -> bool
             | BinOp::And
             | BinOp::Or
             | BinOp::Lt
+            | BinOp::Gt
+            | BinOp::Le
             | BinOp::Ge
             | BinOp::Eq
             | BinOp::Ne
@@ -68,23 +74,25 @@ pub(crate) fn number_known(known: Option<RightNumber>) -> Option<i128>
     }
 }
 
-/// Whether an operator of integers takes a known number, or where there is none, that both operands are below 256.
-fn takes_known(number: Option<i128>, op: BinOp) -> bool
-    ensures { result ≡ takes_known number op }
+/// Whether an operator of integers takes a known number, or where there is none, that both operands are below 256, or the
+/// second one alone.
+fn takes_known(number: Option<i128>, in_byte: bool, op: BinOp) -> bool
+    ensures { result ≡ takes_known number in_byte op }
 {
     match number {
         Some(_) => takes_number(op),
-        None => is_comparison(op),
+        None if in_byte => is_comparison(op),
+        None => matches!(op, BinOp::Or | BinOp::Xor),
     }
 }
 
 /// What an operator on integers takes of what is known of its second operand: nothing where it is apart.
 pub fn number_taken(known: Option<RightNumber>, apart: bool, op: BinOp) -> Option<RightNumber>
     ensures value { result ≡ number_taken known apart op }
-    ensures taken { (n : RightNumber) → result ≡ Some n → takes_known n.number op ≡ true }
+    ensures taken { (n : RightNumber) → result ≡ Some n → takes_known n.number n.in_byte op ≡ true }
 {
     match known {
-        Some(n) if !apart && takes_known(n.number, op) => Some(n),
+        Some(n) if !apart && takes_known(n.number, n.in_byte, op) => Some(n),
         _ => None,
     }
 }
@@ -100,7 +108,7 @@ fn numbered(known: Option<RightNumber>) -> Option<RightNumber>
 }
 
 /// Whether an operator moves a pointer by a number of elements.
-fn moves_pointer(op: BinOp, aty: &CType, bty: &CType) -> bool
+pub fn moves_pointer(op: BinOp, aty: &CType, bty: &CType) -> bool
     ensures { result ≡ moves_pointer op (plain_type aty.now) (plain_type bty.now) }
 {
     is_pointer(aty) && !is_whole(bty) && matches!(op, BinOp::Add | BinOp::Sub)
@@ -151,6 +159,38 @@ pub fn compared_bytes(taken: Option<RightNumber>, bytes: u8) -> u8
     }
 }
 
+/// Whether an operator with a known number is AND with one below 256, which gives one byte.
+fn is_low_mask(number: Option<i128>, op: BinOp) -> bool
+    ensures { result ≡ is_low_mask number op }
+{
+    match (number, op) {
+        (Some(n), BinOp::And) => bits_of(n) < 256,
+        _ => false,
+    }
+}
+
+/// How many bytes of a result, of which so many are wanted, tell what is needed of the first operand: one of those that are
+/// masked by a number below 256.
+pub fn masked_bytes(taken: Option<RightNumber>, op: BinOp, wanted: u8) -> u8
+    ensures { result ≡ masked_bytes taken op wanted }
+{
+    match taken {
+        Some(k) if is_low_mask(k.number, op) => wanted.min(1),
+        _ => wanted,
+    }
+}
+
+/// How many bytes of a result, of which so many are wanted, tell what is needed of the second operand: one where it alone
+/// is below 256.
+pub fn joined_bytes(taken: Option<RightNumber>, wanted: u8) -> u8
+    ensures { result ≡ joined_bytes taken wanted }
+{
+    match taken {
+        Some(k) if k.number.is_none() && !k.in_byte => wanted.min(1),
+        _ => wanted,
+    }
+}
+
 /// Whether a comparison minds signs: bytes have none.
 pub(crate) fn compared_signed(taken: Option<RightNumber>, signed: bool) -> bool
     ensures { result ≡ compared_signed taken signed }
@@ -159,6 +199,65 @@ pub(crate) fn compared_signed(taken: Option<RightNumber>, signed: bool) -> bool
         Some(k) if k.in_byte => false,
         _ => signed,
     }
+}
+
+/// What is compared where so many bytes of a first operand are, and a number is taken that is known.
+fn family_with(number: Option<i128>, family: Family, signed: bool, compared: u8) -> Family
+    ensures { result ≡ family_with number family signed compared }
+{
+    match (number, family) {
+        (
+            Some(n),
+            Family::Compared {
+                relation,
+                exchanged,
+            },
+        ) => Family::Compared {
+            relation: bound_of(relation, exchanged, signed, compared, bits_of(n)).relation,
+            exchanged: false,
+        },
+        _ => family,
+    }
+}
+
+/// Whether it is compared with signs.
+fn signed_with(number: Option<i128>, family: Family, signed: bool, compared: u8) -> bool
+    ensures { result ≡ signed_with number family signed compared }
+{
+    match (number, family) {
+        (
+            Some(n),
+            Family::Compared {
+                relation,
+                exchanged,
+            },
+        ) => bound_of(relation, exchanged, signed, compared, bits_of(n)).signed,
+        _ => signed,
+    }
+}
+
+/// What is compared of a first operand of so many bytes, where so much is taken.
+fn family_taking(taken: Option<RightNumber>, family: Family, signed: bool, bytes: u8) -> Family
+    ensures { result ≡ family_taking taken family signed bytes }
+{
+    family_with(
+        number_known(taken),
+        family,
+        compared_signed(taken, signed),
+        compared_bytes(taken, bytes),
+    )
+}
+
+/// Whether it is compared with signs.
+fn signed_taking(taken: Option<RightNumber>, family: Family, signed: bool, bytes: u8) -> bool
+    ensures { result ≡ signed_taking taken family signed bytes }
+{
+    signed_with(
+        number_known(taken),
+        family,
+        compared_signed(taken, signed),
+        compared_bytes(taken, bytes),
+    )
 }
 
 /// Whether a number is known, and below 255.
@@ -181,14 +280,16 @@ fn is_masked(taken: Option<RightNumber>, op: BinOp) -> bool
     }
 }
 
-/// What an operator leaves in a flag that takes so much: an AND with such a number tells whether its result is not 0.
+/// What an operator on a first operand of so many bytes leaves in a flag that takes so much: an AND with such a number
+/// tells whether its result is not 0.
 pub(crate) fn told_taking(
     taken: Option<RightNumber>,
-    apart: bool,
+    untold: bool,
     op: BinOp,
     signed: bool,
+    bytes: u8,
 ) -> Option<Told>
-    ensures { result ≡ told_taking taken apart op signed }
+    ensures { result ≡ told_taking taken untold op signed bytes }
 {
     if is_masked(taken, op) {
         Some(Told::Operands {
@@ -196,7 +297,12 @@ pub(crate) fn told_taking(
             signed: false,
         })
     } else {
-        told_by(apart, family_of(op), compared_signed(taken, signed))
+        let family = family_of(op);
+        told_by(
+            untold,
+            family_taking(taken, family, signed, bytes),
+            signed_taking(taken, family, signed, bytes),
+        )
     }
 }
 
@@ -233,6 +339,93 @@ fn change(
     }
 }
 
+/// Whether an operator leaves one byte of a number alone.
+fn masks_low(op: Operator, number: u128) -> bool
+    ensures { result ≡ masks_low op number }
+{
+    match op {
+        Operator::BitAnd => number < 256,
+        _ => false,
+    }
+}
+
+/// Appends code that brings the lowest byte of a number to another place, and leaves there so many bytes of what a number
+/// below 256 masks of it. Where memory runs out, a part of the code is appended.
+#[tactic(auto, using(crate::proofs::Emits::fewer_bytes))]
+fn mask_low(
+    out: &mut Seq<AsmItem>,
+    from: Location,
+    to: Location,
+    number: u128,
+    wanted: u8,
+) -> Result<(), NoMemory>
+    requires from { HasBytes from wanted }
+    requires to { HasBytes to wanted }
+    ensures ok { OnOk result (out.new.items ≡ out.old.items ++ low_mask_code from to number wanted) }
+    ensures err { OnErr result (BeginWith out.old.items out.new.items) }
+{
+    let bytes = wanted.min(1);
+    move_number(out, from, to, bytes)?;
+    change(out, Operator::BitAnd, to, number, bytes)?;
+    extend(out, false, to, 1, wanted)
+}
+
+/// Appends code that brings a number to another place, and combines it there with a known number. Where memory runs out, a
+/// part of the code is appended.
+fn combine_by(
+    out: &mut Seq<AsmItem>,
+    op: Operator,
+    from: Location,
+    to: Location,
+    number: u128,
+    wanted: u8,
+) -> Result<(), NoMemory>
+    requires from { HasBytes from wanted }
+    requires to { HasBytes to wanted }
+    requires most { wanted ≤ 16 }
+    ensures ok { OnOk result (out.new.items ≡ out.old.items ++ combined_by_code op from to number wanted) }
+    ensures err { OnErr result (BeginWith out.old.items out.new.items) }
+{
+    if masks_low(op, number) {
+        return mask_low(out, from, to, number, wanted);
+    }
+    move_number(out, from, to, wanted)?;
+    change(out, op, to, number, wanted)
+}
+
+/// Whether one byte is wanted of several in registers, of which a shift to the right leaves the highest bit alone, and no sign.
+fn leaves_bit(signed: bool, to: Location, bytes: u8, wanted: u8, count: u8) -> bool
+    ensures { result ≡ leaves_bit signed to bytes wanted count }
+{
+    match to {
+        Location::InRegisters(_) => {
+            1 < bytes && !signed && wanted == 1 && u16::from(count) + 1 == 8 * u16::from(bytes)
+        }
+        Location::InMemory { .. } => false,
+    }
+}
+
+/// Appends code that brings the highest bit of so many bytes to the lowest one, which it leaves as a number. Where memory runs
+/// out, nothing is appended.
+fn top_bit(out: &mut Seq<AsmItem>, to: Location, bytes: u8) -> Result<(), NoMemory>
+    requires to { HasBytes to bytes }
+    requires some { 1 ≤ bytes }
+    ensures ok { OnOk result (out.new.items ≡ out.old.items ++ top_bit_code to bytes) }
+    ensures err { OnErr result (out.new.items ≡ out.old.items) }
+{
+    match to {
+        Location::InRegisters(r) => {
+            let top = r + (bytes - 1);
+            out.extend_from_slice(&[
+                AsmItem::Plain(Instr::Add { d: top, r: top }),
+                AsmItem::Plain(Instr::Eor { d: r, r }),
+                AsmItem::Plain(Instr::Adc { d: r, r }),
+            ])
+        }
+        Location::InMemory { .. } => Ok(()),
+    }
+}
+
 /// Appends code that shifts a number by a known count, at another place: to the right so many bytes of it, with a sign or
 /// without, and where more are wanted these become 0. Where memory runs out, a part of the code is appended.
 #[tactic(auto, using(crate::proofs::Emits::fewer_bytes))]
@@ -256,6 +449,9 @@ fn counted(
     let by = shift_of(left, signed);
     if left {
         turn_by_number(out, by, from, to, wanted, count)
+    } else if leaves_bit(signed, to, bytes, wanted, count) {
+        move_number(out, from, to, bytes)?;
+        top_bit(out, to, bytes)
     } else {
         turn_by_number(out, by, from, to, bytes, count)?;
         extend(out, false, to, bytes, wanted)
@@ -263,7 +459,8 @@ fn counted(
 }
 
 /// Appends code for an operator with a known number: so many bytes of the result stand at the result's place. So many
-/// bytes of the operands are compared, or shifted to the right. Where memory runs out, a part of the code is appended.
+/// bytes of the first operand are compared, or shifted to the right. Where memory runs out, a part of the code is
+/// appended.
 #[tactic(auto, using(crate::proofs::Emits::fewer_bytes))]
 fn by_number(
     out: &mut Seq<AsmItem>,
@@ -280,29 +477,22 @@ fn by_number(
     requires few { compared ≤ of.a.bytes }
     requires some { 1 ≤ of.a.bytes → 1 ≤ compared }
     ensures ok { OnOk result (out.new.items ≡ out.old.items
-        ++ by_number_code (family_of op) of.left_signed signed (home homes of.a) (home homes of.b) (home homes of.to)
-        compared number wanted) }
+        ++ by_number_code (family_of op) signed (home homes of.a) (home homes of.to) compared number wanted) }
     ensures err { OnErr result (BeginWith out.old.items out.new.items) }
 {
     let to = home(homes, of.to);
     match family_of(op) {
-        Family::Combined(op) => {
-            move_number(out, home(homes, of.a), to, wanted)?;
-            change(out, op, to, number, wanted)
-        }
-        Family::Compared { relation, .. } => {
+        Family::Combined(op) => combine_by(out, op, home(homes, of.a), to, number, wanted),
+        Family::Compared {
+            relation,
+            exchanged,
+        } => {
             if wanted == 0 {
                 return Ok(());
             }
-            // The flags are those of the number, so no more bytes are compared.
-            let operands = Operands {
-                signed,
-                bytes: 0,
-                left: home(homes, of.a),
-                right: home(homes, of.b),
-            };
-            compare_with(out, operands.left, number, compared)?;
-            tell(out, relation, operands, to, wanted)
+            let bound = bound_of(relation, exchanged, signed, compared, number);
+            truth_by(out, truth_register(to), bound, home(homes, of.a), compared)?;
+            put_truth(out, to, wanted)
         }
         Family::Shifted { left } => {
             if wanted == 0 {
@@ -354,6 +544,7 @@ fn mask(out: &mut Seq<AsmItem>, from: Location, to: Location, k: u8) -> Result<(
 fn tell_by_number(
     out: &mut Seq<AsmItem>,
     op: BinOp,
+    signed: bool,
     from: Location,
     to: Location,
     number: u128,
@@ -362,12 +553,19 @@ fn tell_by_number(
     requires from { HasBytes from compared }
     requires most { compared ≤ 16 }
     ensures ok { OnOk result (out.new.items
-        ≡ out.old.items ++ told_number_code (family_of op) from to number compared) }
+        ≡ out.old.items ++ told_number_code (family_of op) signed from to number compared) }
     ensures err { OnErr result (BeginWith out.old.items out.new.items) }
 {
     match family_of(op) {
         Family::Combined(_) => mask(out, from, to, (number % 256) as u8),
-        _ => compare_with(out, from, number, compared),
+        Family::Compared {
+            relation,
+            exchanged,
+        } => {
+            let bound = bound_of(relation, exchanged, signed, compared, number);
+            bounded(out, bound, from, compared)
+        }
+        _ => Ok(()),
     }
 }
 
@@ -395,7 +593,29 @@ fn compare_low(
     }
 }
 
-/// The same, where the operator is a comparison.
+/// Appends code that brings a number to another place, and combines it there with the lowest byte of a number below 256.
+/// Where memory runs out, a part of the code is appended.
+#[tactic(auto, using(crate::proofs::Emits::fewer_bytes))]
+fn join(
+    out: &mut Seq<AsmItem>,
+    op: Operator,
+    a: Location,
+    b: Location,
+    to: Location,
+    wanted: u8,
+) -> Result<(), NoMemory>
+    requires a { HasBytes a wanted }
+    requires b { HasBytes b wanted }
+    requires to { HasBytes to wanted }
+    ensures ok { OnOk result (out.new.items ≡ out.old.items ++ joined_code op a b to wanted) }
+    ensures err { OnErr result (BeginWith out.old.items out.new.items) }
+{
+    move_number(out, a, to, wanted)?;
+    operate(out, op, b, to, wanted.min(1))
+}
+
+/// Where both operands are below 256, appends the code of a comparison of so many bytes, and where the second one is alone,
+/// that of another operator.
 #[tactic(auto, using(crate::proofs::Emits::fewer_bytes))]
 fn by_bytes(
     out: &mut Seq<AsmItem>,
@@ -427,6 +647,7 @@ fn by_bytes(
             };
             compare_low(out, telling, relation, operands, to, wanted)
         }
+        Family::Combined(op) => join(out, op, a, b, to, wanted),
         _ => Ok(()),
     }
 }
@@ -445,22 +666,20 @@ fn by_known(
 ) -> Result<(), NoMemory>
     requires bytes { BinaryHasBytes (family_of op) wanted of.to of.a of.b }
     requires numbers { TakesNumbers op of.a of.b }
-    requires taken { takes_known known.number op ≡ true }
+    requires taken { takes_known known.number known.in_byte op ≡ true }
     ensures ok { OnOk result (out.new.items ≡ out.old.items
-        ++ known_code known.number telling (family_of op) of.left_signed (compared_signed (Some known) of.left_signed)
+        ++ known_code known.number telling (family_of op) (compared_signed (Some known) of.left_signed)
         (home homes of.a) (home homes of.b) (home homes of.to) (compared_bytes (Some known) of.a.bytes) wanted) }
     ensures err { OnErr result (BeginWith out.old.items out.new.items) }
 {
     let bytes = compared_bytes(Some(known), of.a.bytes);
+    let signed = compared_signed(Some(known), of.left_signed);
     match (known.number, telling) {
         (None, _) => by_bytes(out, homes, telling, op, of, bytes, wanted),
-        (Some(n), None) => {
-            let signed = compared_signed(Some(known), of.left_signed);
-            by_number(out, homes, op, of, signed, bytes, bits_of(n), wanted)
-        }
+        (Some(n), None) => by_number(out, homes, op, of, signed, bytes, bits_of(n), wanted),
         (Some(n), Some(_)) => {
             let (from, to) = (home(homes, of.a), home(homes, of.to));
-            tell_by_number(out, op, from, to, bits_of(n), bytes)
+            tell_by_number(out, op, signed, from, to, bits_of(n), bytes)
         }
     }
 }

@@ -1,38 +1,42 @@
 //! The code of operations, one after another.
 ghost use Rattle.std.specs.Prelude.{◌≡◌, ◌≤◌, ◌++◌, ◌+◌, ◌^◌, ◌<◌, suc, OnOk, OnErr, map, length, option_map};
-ghost use Rattle.std.specs.Prelude.{slice_get, slice_index};
+ghost use Rattle.std.specs.Prelude.{slice_get, slice_index, get_or, []};
 ghost use Rattle.std.specs.Option.{option_copied};
 ghost use Rattle.ec_runs.specs.Behaviours.{BeginWith};
 ghost use Rattle.ec_ir.specs.Operations.{plain_ir};
 ghost use Rattle.ec_select_operations.specs.Code.{operation_code, is_only_tested, is_over_jump, tells, called_code};
-ghost use Rattle.ec_select_operations.specs.Code.{linked_code, routine_used, tells_any};
+ghost use Rattle.ec_select_operations.specs.Code.{linked_code, routine_used, tells_any, is_waiting, look, is_index_alone};
 ghost use Rattle.ec_select_operations.specs.Emitted.{declarations, linkage, IsLabel, CanBeEmitted, CanBeLinked};
 ghost use Rattle.ec_select_operations.specs.Homes.{home};
-ghost use Rattle.ec_select_operations.specs.Written.{need_in, CanBeWritten, told_at, written_code};
+ghost use Rattle.ec_select_operations.specs.Written.{need_in, CanBeWritten, index_in, told_at, written_code};
 ghost use Rattle.ec_select_operations.specs.Written.{written_function};
 
 use crate::calls::{Linking, call, finish};
 use crate::families::{
-    BinaryOperation, Told, branch_on, convert, family_of, jump_on, move_number, turned, unary,
+    BinaryOperation, Told, branch_on, convert, family_of, is_index, jump_on, move_number, turned,
+    unary,
 };
-use crate::fixed::{fixed_binary, fixed_conversion, fixed_unary, is_apart, takes_count};
-use crate::homes::{home, index_place};
-use crate::in_z::{go_to_member, load_by, load_or_fetch, tells_in_z};
+use crate::fixed::{fixed_binary, fixed_conversion, fixed_unary, is_apart, is_untold, takes_count};
+use crate::homes::{Homes, home, index_place};
+use crate::in_z::{go_to_member, load_by, load_or_fetch, own_telling, store_by, tells_in_z};
 use crate::numbers::{
-    bits_of, compared_bytes, integer_binary, number_at, number_taken, told_taking,
+    bits_of, compared_bytes, integer_binary, moves_pointer, number_at, number_taken, told_taking,
 };
-use crate::pointers::{object_location, pointer_binary, pointer_conversion, put_address};
+use crate::pointers::{
+    load_index, move_by_told, object_location, pointer_binary, pointer_conversion, put_address,
+};
 use crate::routines::called;
 use crate::types::{is_fixed, is_pointer, is_signed};
+use crate::waiting::is_waiting;
 use ec_asm::{AsmItem, Location, copy};
 use ec_ir::{Ir, IrProgram, Temp};
 use ec_ir_known::RightNumber;
 use ec_select_bytes::{
-    CellAccess, PortAccess, constant, load_cell, read_cell_port, read_port, store_cell,
-    write_cell_port, write_port,
+    CellAccess, PortAccess, load_cell, read_cell_port, read_port, store_cell, write_cell_port,
+    write_port,
 };
-use ec_select_pointers::store_data;
-use ec_space::{NoMemory, Seq};
+use ec_select_numbers::put_number;
+use ec_space::{Core, NoMemory, Seq};
 
 /// What an operation has been told by the one before it, and what it tells the next one.
 #[derive(Clone, Copy)]
@@ -62,8 +66,34 @@ fn is_over_jump(label: u64, next: Option<&Ir>, behind: Option<&Ir>) -> bool
     }
 }
 
+/// Whether the next operation moves a pointer by an integer of one or two bytes that is loaded. Behind it so many bytes of
+/// the place of the integer are needed.
+fn is_index_alone(t: Temp, next: Option<&Ir>, behind: u8) -> bool
+    ensures { result ≡ is_index_alone t (option_map plain_ir (option_copied next.entry)) behind }
+{
+    match next {
+        Some(
+            Ir::Bin {
+                op,
+                a,
+                aty,
+                b,
+                bty,
+                ..
+            },
+        ) => {
+            let is_free = behind == 0 && b.bytes <= 2;
+            let is_loaded = b.at == t.at && b.bytes == t.bytes;
+            is_free && is_loaded && b.at != a.at && moves_pointer(*op, aty, bty)
+        }
+        _ => false,
+    }
+}
+
 /// What an operation, whose second operand may be known to hold a number, and which has been told so much, tells the next
-/// one by a flag: a comparison or an AND in place of its result, and a branch over a jump in place of the branch.
+/// one: by a flag a comparison or an AND in place of its result, and a branch over a jump in place of the branch; and a load
+/// of an index in place of its result, where behind the next one so many bytes of the place of its second operand are
+/// needed.
 fn tells(
     known: Option<RightNumber>,
     told: Option<Told>,
@@ -71,9 +101,10 @@ fn tells(
     next: Option<&Ir>,
     behind: Option<&Ir>,
     needed: u8,
+    index: u8,
 ) -> Option<Told>
     ensures { result ≡ tells known told (plain_ir i.now) (option_map plain_ir (option_copied next.entry))
-        (option_map plain_ir (option_copied behind.entry)) needed }
+        (option_map plain_ir (option_copied behind.entry)) needed index }
 {
     match i {
         Ir::Bin {
@@ -81,25 +112,29 @@ fn tells(
             ty,
             mode,
             to,
+            a,
             aty,
             bty,
             ..
         } => {
             if is_only_tested(*to, next, needed) {
-                let apart = is_apart(family_of(*op), *mode, ty, aty, bty);
-                let taken = number_taken(known, apart, *op);
-                told_taking(taken, apart, *op, is_signed(aty))
+                let family = family_of(*op);
+                let taken = number_taken(known, is_apart(family, *mode, ty, aty, bty), *op);
+                let untold = is_untold(family, *mode, ty, aty, bty);
+                told_taking(taken, untold, *op, is_signed(aty), a.bytes)
             } else {
                 None
             }
         }
         Ir::BranchZero(_, l) if is_over_jump(*l, next, behind) => Some(turned(told)),
+        Ir::LoadObj(t, _, _) if is_index_alone(*t, next, index) => Some(Told::Index),
         _ => None,
     }
 }
 
 /// What an operation tells the next one by Z, or else by a flag.
 fn tells_any(
+    core: Core,
     program: &IrProgram,
     known: Option<RightNumber>,
     told: Option<Told>,
@@ -107,32 +142,35 @@ fn tells_any(
     next: Option<&Ir>,
     behind: Option<&Ir>,
     needed: u8,
+    index: u8,
+    waiting: bool,
 ) -> Option<Told>
-    ensures { result ≡ tells_any (declarations program.now) known told (plain_ir i.now)
-        (option_map plain_ir (option_copied next.entry)) (option_map plain_ir (option_copied behind.entry)) needed }
+    ensures { result ≡ tells_any core (declarations program.now) known told (plain_ir i.now)
+        (option_map plain_ir (option_copied next.entry)) (option_map plain_ir (option_copied behind.entry)) needed index
+        waiting }
 {
-    match tells_in_z(program, told, i, next, behind) {
-        None => tells(known, told, i, next, behind, needed),
+    match tells_in_z(core, program, told, i, next, behind, waiting) {
+        None => tells(known, told, i, next, behind, needed, index),
         in_z => in_z,
     }
 }
 
 /// The item at a place.
-fn at<T>(items: &[T], k: usize) -> Option<&T>
+pub(crate) fn at<T>(items: &[T], k: usize) -> Option<&T>
     ensures { option_copied result ≡ slice_get items.now k }
 {
     items.get(k)
 }
 
 /// The operation at a place.
-fn operation_at(code: &[Ir], k: usize) -> Option<&Ir>
+pub(crate) fn operation_at(code: &[Ir], k: usize) -> Option<&Ir>
     ensures { option_map plain_ir (option_copied result) ≡ slice_get (map plain_ir code.now) k }
 {
     at(code, k)
 }
 
 /// The number of bytes that are wanted at a place.
-fn wanted_at(wanted: &[u8], k: usize) -> u8
+pub(crate) fn wanted_at(wanted: &[u8], k: usize) -> u8
     ensures { result ≡ slice_index wanted.now k }
 {
     match wanted.get(k) {
@@ -141,27 +179,61 @@ fn wanted_at(wanted: &[u8], k: usize) -> u8
     }
 }
 
+/// The first number of the row at a place.
+fn first_at(kept: &[Vec<u8>], k: usize) -> u8
+    ensures { result ≡ get_or (get_or (map (λ row. row.items) kept.now) k []) 0 0 }
+{
+    match kept.get(k) {
+        Some(row) => match row.get(0) {
+            Some(n) => *n,
+            None => 0,
+        },
+        None => 0,
+    }
+}
+
+/// What the row at a place tells of the place of an index.
+fn index_at(kept: &[Vec<u8>], i: Option<&Ir>, k: usize) -> u8
+    ensures { result ≡ index_in (option_map plain_ir (option_copied i.entry)) (get_or (map (λ row. row.items) kept.now) k []) }
+{
+    match i {
+        Some(Ir::Call(..)) => 0,
+        _ => first_at(kept, k),
+    }
+}
+
 /// What the operation at a place, which has been told so much, tells the next one.
 fn told_behind(
+    core: Core,
     program: &IrProgram,
+    homes: Homes,
     wanted: &[u8],
+    kept: &[Vec<u8>],
     known: &[Option<RightNumber>],
     code: &[Ir],
     told: Option<Told>,
     k: usize,
 ) -> Option<Told>
     requires inside { k < length code.now }
-    requires told { told ≡ told_at (declarations program.now) wanted.now known.now (map plain_ir code.now) k }
-    ensures { result ≡ told_at (declarations program.now) wanted.now known.now (map plain_ir code.now) (suc k) }
+    requires told { told ≡ told_at core (declarations program.now) (home homes) wanted.now (map (λ row. row.items) kept.now)
+        known.now (map plain_ir code.now) k }
+    ensures { result ≡ told_at core (declarations program.now) (home homes) wanted.now (map (λ row. row.items) kept.now)
+        known.now (map plain_ir code.now) (suc k) }
 {
+    let i = &code[k];
+    let next = operation_at(code, k + 1);
+    let waiting = is_waiting(program, homes, wanted, known, code, told, i, k + 1);
     tells_any(
+        core,
         program,
         number_at(known, k),
         told,
-        &code[k],
-        operation_at(code, k + 1),
+        i,
+        next,
         operation_at(code, k + 2),
         wanted_at(wanted, k + 1),
+        index_at(kept, next, k + 1),
+        waiting,
     )
 }
 
@@ -188,7 +260,7 @@ pub fn operation(
 {
     let (core, homes) = (of.core, of.homes);
     match i {
-        Ir::Const(t, n) => constant(out, bits_of(*n), home(homes, *t), wanted),
+        Ir::Const(t, n) => put_number(out, bits_of(*n), home(homes, *t), wanted),
         Ir::Copy(to, from) => move_number(out, home(homes, *from), home(homes, *to), wanted),
         Ir::Addr(t, o, offset) => {
             put_address(
@@ -198,7 +270,7 @@ pub fn operation(
                 *o,
                 *offset,
                 home(homes, *t),
-                t.bytes,
+                wanted.max(2),
                 wanted,
             )
         }
@@ -227,13 +299,22 @@ pub fn operation(
             )
         }
         Ir::Store { ptr, from, .. } => {
-            store_data(out, home(homes, *from), home(homes, *ptr), from.bytes)
+            store_by(
+                out,
+                flags.told,
+                home(homes, *from),
+                home(homes, *ptr),
+                from.bytes,
+            )
         }
         Ir::LoadObj(t, o, offset) => {
+            if is_index(flags.telling, t.bytes) {
+                return load_index(out, core, program, *o, *offset, t.bytes);
+            }
             load_or_fetch(
                 out,
                 core,
-                flags.telling,
+                own_telling(flags.told, flags.telling),
                 program,
                 *o,
                 *offset,
@@ -257,15 +338,33 @@ pub fn operation(
             b,
             bty,
         } => {
+            if is_index(flags.told, b.bytes) && moves_pointer(*op, aty, bty) {
+                return move_by_told(
+                    out, core, homes, program, *op, ty, *to, *a, aty, *b, bty, wanted,
+                );
+            }
             if is_fixed(aty) || is_fixed(bty) {
-                let telling = flags.telling;
+                let telling = own_telling(flags.told, flags.telling);
                 return fixed_binary(
                     out, homes, known, telling, *op, ty, *mode, *to, *a, aty, *b, bty, wanted,
                 );
             }
             if is_pointer(aty) || is_pointer(bty) {
                 return pointer_binary(
-                    out, known, core, homes, program, *op, ty, *to, *a, aty, *b, bty, wanted,
+                    out,
+                    known,
+                    own_telling(flags.told, flags.telling),
+                    core,
+                    homes,
+                    program,
+                    *op,
+                    ty,
+                    *to,
+                    *a,
+                    aty,
+                    *b,
+                    bty,
+                    wanted,
                 );
             }
             let binary_operation = BinaryOperation {
@@ -279,7 +378,7 @@ pub fn operation(
                 out,
                 homes,
                 known,
-                flags.telling,
+                own_telling(flags.told, flags.telling),
                 *op,
                 binary_operation,
                 wanted,
@@ -448,7 +547,9 @@ pub fn all_operations(
 {
     let mut told = None;
     for k in 0..code.len() {
-        let telling = told_behind(program, wanted, known, code, told, k);
+        let telling = told_behind(
+            of.core, program, of.homes, wanted, kept, known, code, told, k,
+        );
         let flags = Flags { told, telling };
         let number = number_at(known, k);
         linked_operation(

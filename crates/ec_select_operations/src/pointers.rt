@@ -1,5 +1,5 @@
 //! The code of operations with pointers, and of accesses to objects by the bank where they are kept.
-ghost use Rattle.std.specs.Prelude.{◌≡◌, ◌<◌, ◌≤◌, ◌++◌, true, false, OnOk, OnErr, map};
+ghost use Rattle.std.specs.Prelude.{◌≡◌, ◌<◌, ◌≤◌, ◌++◌, true, false, OnOk, OnErr, map, max};
 ghost use Rattle.std.specs.List.{list_any};
 ghost use Rattle.ec_runs.specs.Behaviours.{BeginWith};
 ghost use Rattle.ec_asm.specs.Pieces.{HasBytes};
@@ -8,26 +8,27 @@ ghost use Rattle.ec_core.specs.Accesses.{element_size};
 ghost use Rattle.ec_core.specs.Layout.{AreStructs};
 ghost use Rattle.ec_core.specs.Plain.{plain_object, plain_type};
 ghost use Rattle.ec_core.specs.Valid.{IsExprType};
-ghost use Rattle.ec_select_places.specs.Steps.{compared_bytes};
+ghost use Rattle.ec_select_places.specs.Steps.{compared_bytes, z_pair};
 ghost use Rattle.ec_select_pointers.specs.Accesses.{load_flash_code, load_table_code};
 ghost use Rattle.ec_select_pointers.specs.Far.{load_far_code, load_far_table_code};
 ghost use Rattle.ec_select_operations.specs.Code.{family_of, is_signed, by_core, is_far, is_whole_address};
 ghost use Rattle.ec_select_operations.specs.Code.{addressed_code, member_code, load_either_code, load_code, banked_code};
-ghost use Rattle.ec_select_operations.specs.Code.{moved_code, takes_index, indexed_code, scaled_code};
-ghost use Rattle.ec_select_operations.specs.Code.{offset_code, is_difference, related_bytes};
+ghost use Rattle.ec_select_operations.specs.Code.{moved_code, takes_index, indexed_code, scaled_code, offset_code};
+ghost use Rattle.ec_select_operations.specs.Code.{is_difference, related_bytes, load_index_code};
 ghost use Rattle.ec_select_operations.specs.Code.{known_index, known_bytes, known_offset, known_offset_code, offset_by};
-ghost use Rattle.ec_select_operations.specs.Code.{difference_code, pointers_code, pointer_binary, pointer_conversion};
+ghost use Rattle.ec_select_operations.specs.Code.{difference_code, ordered_code, pointers_code, pointer_binary, pointer_conversion};
 ghost use Rattle.ec_select_operations.specs.Emitted.{declarations, PointersHaveBytes, PointerHasBytes};
 ghost use Rattle.ec_select_operations.specs.Homes.{home};
+ghost use Rattle.ec_select_operations.specs.Needs.{moves_pointer};
 ghost use Rattle.ec_select_operations.specs.Places.{object_location};
 ghost use Rattle.ec_select_operations.specs.Pointers.{is_pointer, home_of, kept_in, is_table, has_tables, tag_of, tag_in};
 ghost use Rattle.ec_select_operations.specs.Pointers.{IsPointerSize};
 
-use crate::families::{Family, Operands, family_of, move_number, tell};
+use crate::families::{Family, Operands, Told, family_of, move_number, tell};
 use crate::homes::{Homes, home};
 use crate::numbers::{bits_of, number_known};
 use crate::types::{is_into_data, is_pointer, is_signed};
-use ec_asm::{AsmItem, Location, copy};
+use ec_asm::{AsmItem, Location, compare, copy};
 use ec_core::{BinOp, CType, Obj, Storage, size_of};
 use ec_ir::{IrProgram, Temp};
 use ec_ir_known::RightNumber;
@@ -184,9 +185,9 @@ fn include_table(objects: &[Obj]) -> bool
     objects.iter().any(|d| is_table(d.home))
 }
 
-/// Whether some object of a program stands in the flash bank.
+/// Whether some object of a program is kept in the flash bank.
 #[tactic(auto, using(crate::proofs::Emits::tables_are))]
-pub(crate) fn has_tables(program: &IrProgram) -> bool
+pub fn has_tables(program: &IrProgram) -> bool
     ensures { result ≡ has_tables (declarations program.now).objects }
 {
     include_table(program.objs.as_slice())
@@ -301,6 +302,37 @@ pub fn load_object(
         Home::Data => {
             let from = object_location(program.objs.as_slice(), o, offset, bytes);
             copy(out, from, to, bytes)
+        }
+    }
+}
+
+/// Appends code that loads one or two bytes of an object with a home to R30 and R31: at once from the data bank, and else
+/// by R26 and R27. Where memory runs out, a part of the code is appended.
+pub fn load_index(
+    out: &mut Seq<AsmItem>,
+    core: Core,
+    program: &IrProgram,
+    o: u16,
+    offset: u32,
+    bytes: u8,
+) -> Result<(), NoMemory>
+    requires from { HasBytes (object_location (map plain_object program.now.objs.items) o offset) bytes }
+    requires few { bytes ≤ 2 }
+    ensures ok { OnOk result (out.new.items ≡ out.old.items
+        ++ load_index_code core (kept_in (declarations program.now) o) (map plain_object program.now.objs.items) o offset
+        bytes) }
+    ensures err { OnErr result (BeginWith out.old.items out.new.items) }
+{
+    let index = Location::InRegisters(30);
+    match kept_in(program, o) {
+        Home::Data => {
+            let from = object_location(program.objs.as_slice(), o, offset, bytes);
+            copy(out, from, index, bytes)
+        }
+        _ => {
+            let by = Location::InRegisters(26);
+            load_object(out, core, program, o, offset, by, bytes)?;
+            copy(out, by, index, bytes)
         }
     }
 }
@@ -595,11 +627,38 @@ fn operands_of(core: Core, relation: Relation, exchanged: bool, of: Pointers) ->
     }
 }
 
-/// Appends the code of an operator on two pointers: their difference in elements, or a comparison. Where memory runs
-/// out, a part of the code is appended.
+/// Appends code that tells how operands stand, or where this is told by a flag, compares them alone. Where memory runs out,
+/// a part of the code is appended.
+#[tactic(auto, using(crate::proofs::Emits::fewer_bytes))]
+fn order(
+    out: &mut Seq<AsmItem>,
+    telling: Option<Told>,
+    relation: Relation,
+    of: Operands,
+    to: Location,
+    wanted: u8,
+) -> Result<(), NoMemory>
+    requires left { HasBytes of.left of.bytes }
+    requires right { HasBytes of.right of.bytes }
+    requires to { HasBytes to wanted }
+    requires signed { of.signed ≡ false }
+    ensures ok { OnOk result (out.new.items ≡ out.old.items
+        ++ ordered_code telling relation of.left of.right to of.bytes wanted) }
+    ensures err { OnErr result (BeginWith out.old.items out.new.items) }
+{
+    match telling {
+        None => tell(out, relation, of, to, wanted),
+        Some(_) if wanted == 0 => Ok(()),
+        Some(_) => compare(out, of.right, of.left, of.bytes),
+    }
+}
+
+/// Appends the code of an operator on two pointers: their difference in elements, or a comparison, which may be told by a
+/// flag. Where memory runs out, a part of the code is appended.
 #[tactic(auto, using(crate::proofs::Emits::fewer_bytes, crate::proofs::Emits::fewer_related))]
 pub fn combine_pointers(
     out: &mut Seq<AsmItem>,
+    telling: Option<Told>,
     core: Core,
     family: Family,
     of: Pointers,
@@ -612,7 +671,7 @@ pub fn combine_pointers(
     requires to { HasBytes to 2 }
     requires most { wanted ≤ 2 }
     ensures ok { OnOk result (out.new.items ≡ out.old.items
-        ++ pointers_code core family of.left of.right to of.bytes of.size wanted) }
+        ++ pointers_code telling core family of.left of.right to of.bytes of.size wanted) }
     ensures err { OnErr result (BeginWith out.old.items out.new.items) }
 {
     match family {
@@ -620,13 +679,10 @@ pub fn combine_pointers(
         Family::Compared {
             relation,
             exchanged,
-        } => tell(
-            out,
-            relation,
-            operands_of(core, relation, exchanged, of),
-            to,
-            wanted,
-        ),
+        } => {
+            let operands = operands_of(core, relation, exchanged, of);
+            order(out, telling, relation, operands, to, wanted)
+        }
         _ => Ok(()),
     }
 }
@@ -641,6 +697,7 @@ pub(crate) fn is_difference(op: BinOp) -> bool
 #[tactic(auto, using(crate::proofs::Emits::fewer_bytes))]
 fn two_pointers(
     out: &mut Seq<AsmItem>,
+    telling: Option<Told>,
     core: Core,
     homes: Homes,
     program: &IrProgram,
@@ -658,7 +715,7 @@ fn two_pointers(
     requires result { to.bytes ≡ 2 }
     requires most { wanted ≤ to.bytes }
     ensures ok { OnOk result (out.new.items ≡ out.old.items
-        ++ pointers_code core (family_of op) (home homes a) (home homes b) (home homes to) a.bytes
+        ++ pointers_code telling core (family_of op) (home homes a) (home homes b) (home homes to) a.bytes
         (element_size (declarations program.now) (plain_type aty.now)) wanted) }
     ensures err { OnErr result (BeginWith out.old.items out.new.items) }
 {
@@ -668,7 +725,8 @@ fn two_pointers(
         bytes: a.bytes,
         size: element_size(program, aty),
     };
-    combine_pointers(out, core, family_of(op), of, home(homes, to), wanted)
+    let to = home(homes, to);
+    combine_pointers(out, telling, core, family_of(op), of, to, wanted)
 }
 
 /// Appends the code of a pointer in a temporary plus a number of elements in another one, or less it, where their number may
@@ -693,15 +751,16 @@ fn pointer_and_number(
     requires two { 2 ≤ pointer.bytes }
     requires some { 1 ≤ number.bytes }
     requires result { to.bytes ≡ pointer.bytes }
+    requires most { wanted ≤ to.bytes }
     ensures ok { OnOk result (out.new.items ≡ out.old.items
         ++ offset_by known core minus (is_signed (plain_type nty.now)) (home homes pointer) (home homes number) (home homes to)
-        pointer.bytes number.bytes (element_size (declarations program.now) (plain_type pty.now)) wanted) }
+        (max 2 wanted) number.bytes (element_size (declarations program.now) (plain_type pty.now)) wanted) }
     ensures err { OnErr result (BeginWith out.old.items out.new.items) }
 {
     let of = Offset {
         minus,
         from: home(homes, pointer),
-        bytes: pointer.bytes,
+        bytes: wanted.max(2),
         signed: is_signed(nty),
         index: home(homes, number),
         index_bytes: number.bytes,
@@ -710,11 +769,50 @@ fn pointer_and_number(
     move_by(out, known, core, of, home(homes, to), size, wanted)
 }
 
+/// Appends the code of a pointer in a temporary moved by an index that stands in R30, or in R31:R30. Where memory runs out,
+/// a part of the code is appended.
+pub fn move_by_told(
+    out: &mut Seq<AsmItem>,
+    core: Core,
+    homes: Homes,
+    program: &IrProgram,
+    op: BinOp,
+    ty: &CType,
+    to: Temp,
+    a: Temp,
+    aty: &CType,
+    b: Temp,
+    bty: &CType,
+    wanted: u8,
+) -> Result<(), NoMemory>
+    requires bytes { PointersHaveBytes (declarations program.now) op wanted to a b (plain_type ty.now) (plain_type aty.now)
+        (plain_type bty.now) }
+    requires few { b.bytes ≤ 2 }
+    requires moves { moves_pointer op (plain_type aty.now) (plain_type bty.now) ≡ true }
+    ensures ok { OnOk result (out.new.items ≡ out.old.items
+        ++ offset_code core (is_difference op) (is_signed (plain_type bty.now)) (home homes a) z_pair (home homes to)
+        (max 2 wanted) b.bytes (element_size (declarations program.now) (plain_type aty.now)) wanted) }
+    ensures err { OnErr result (BeginWith out.old.items out.new.items) }
+{
+    let of = Offset {
+        minus: is_difference(op),
+        from: home(homes, a),
+        bytes: wanted.max(2),
+        signed: is_signed(bty),
+        index: Location::InRegisters(30),
+        index_bytes: b.bytes,
+    };
+    let size = element_size(program, aty);
+    move_pointer(out, core, of, home(homes, to), size, wanted)
+}
+
 /// Appends the code of a binary operator on operands of which one is a pointer at least, of whose result so many bytes
-/// are wanted. The second operand may be known to hold a number. Where memory runs out, a part of the code is appended.
+/// are wanted, or where it tells something by a flag, of the comparison alone. The second operand may be known to hold a
+/// number. Where memory runs out, a part of the code is appended.
 pub fn pointer_binary(
     out: &mut Seq<AsmItem>,
     known: Option<RightNumber>,
+    telling: Option<Told>,
     core: Core,
     homes: Homes,
     program: &IrProgram,
@@ -730,13 +828,15 @@ pub fn pointer_binary(
     requires { PointersHaveBytes (declarations program.now) op wanted to a b (plain_type ty.now) (plain_type aty.now)
         (plain_type bty.now) }
     ensures ok { OnOk result (out.new.items ≡ out.old.items
-        ++ pointer_binary known core (is_pointer (plain_type aty.now)) (is_pointer (plain_type bty.now))
+        ++ pointer_binary known telling core (is_pointer (plain_type aty.now)) (is_pointer (plain_type bty.now))
         (declarations program.now) op (plain_type aty.now) (plain_type bty.now) (home homes a) (home homes b) (home homes to)
         a.bytes b.bytes wanted) }
     ensures err { OnErr result (BeginWith out.old.items out.new.items) }
 {
     match (is_pointer(aty), is_pointer(bty)) {
-        (true, true) => two_pointers(out, core, homes, program, op, to, a, aty, b, wanted),
+        (true, true) => two_pointers(
+            out, telling, core, homes, program, op, to, a, aty, b, wanted,
+        ),
         (true, false) => {
             let (known, minus) = (number_known(known), is_difference(op));
             pointer_and_number(

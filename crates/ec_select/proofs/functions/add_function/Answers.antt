@@ -1,5 +1,5 @@
-use Rattle.std.proofs.Common.{◌≡◌, ◌+◌, ◌^◌, ◌<◌, ℕ, List, map, length, sym, ◌∙◌, ap, subst, arith, ◌++◌, refl, Vec}
-use Rattle.std.proofs.Common.{Global, Option}
+use Rattle.std.proofs.Common.{◌≡◌, ◌+◌, ◌^◌, ◌<◌, ℕ, List, map, length, sym, ◌∙◌, ap, subst, arith, ◌++◌, Vec}
+use Rattle.std.proofs.Common.{Global, Option, Bool}
 use Rattle.std.proofs.lemmas.List.{length-map}
 use Rattle.ec_asm.specs.declared.items.AsmItem.{AsmItem}
 use Rattle.ec_ir.specs.declared.operations.Ir.{Ir}
@@ -8,6 +8,7 @@ use Rattle.ec_select_live.specs.Tables.{needs_of}
 use Rattle.ec_select_operations.specs.declared.calls.Linking.{Linking}
 use Rattle.ec_select_operations.specs.Code.{wanted_bytes}
 use Rattle.ec_select_operations.specs.Needs.{facts_of}
+use Rattle.ec_select_operations.specs.Pointers.{has_tables}
 use Rattle.ec_select_operations.specs.Emitted.{linkage}
 use Rattle.ec_select_operations.specs.Written.{CanBeWritten, kept_rows, written_function}
 use Rattle.ec_select.specs.Labels.{label_count}
@@ -60,7 +61,7 @@ function-requires-clause-known c =
 pub function-requires-clause-numbers : goal.function-requires-clause-numbers
 function-requires-clause-numbers c =
     let code = c.args.g.now.code.items in
-    let at = facts_of (needs_of c.args.table.now) (map plain_ir code) in
+    let at = facts_of c.has_tables-in_flash.result (needs_of c.args.table.now) (map plain_ir code) in
     let bytes : c.in_ok-bytes.bytes.items ≡ wanted_bytes at (map plain_ir code) = c.in_ok-bytes.ensures in
     ap length c.as_slice-code.ensures
     ∙ sym (ap length c.deref.ensures.value ∙ ap length bytes ∙ wanted_length at (map plain_ir code) ∙ length-map code plain_ir)
@@ -68,7 +69,7 @@ function-requires-clause-numbers c =
 pub function-requires-clause-rows : goal.function-requires-clause-rows
 function-requires-clause-rows c =
     let code = c.args.g.now.code.items in
-    let at = facts_of (needs_of c.args.table.now) (map plain_ir code) in
+    let at = facts_of c.has_tables-in_flash.result (needs_of c.args.table.now) (map plain_ir code) in
     let rows : map (λ row. row.items) c.in_ok-keeps.keeps.items ≡ kept_rows c.args.g.now.slots at (map plain_ir code) =
     c.in_ok-keeps.ensures in
     ap length c.as_slice-code.ensures
@@ -80,7 +81,7 @@ function-requires-clause-each c =
     let p = plain_ir_program c.args.ir.now in
     let g = plain_ir_function c.args.g.now in
     let k = c.linking-of.result in
-    let at = facts_of (needs_of c.args.table.now) g.code in
+    let at = facts_of c.has_tables-in_flash.result (needs_of c.args.table.now) g.code in
     let routines = routine_among c.args.routines (map plain_row c.args.rows.now) in
     let first : k.first_label ≡ c.args.first = ap (λ (x : Linking). x.first_label) c.linking-of.ensures in
     let entries : k.first_entry ≡ 1 = ap (λ (x : Linking). x.first_entry) c.linking-of.ensures in
@@ -104,10 +105,13 @@ returns c =
     let g = plain_ir_function c.args.g.now in
     let k = c.linking-of.result in
     let labels = needs_of c.args.table.now in
-    let at = facts_of labels g.code in
+    let at = facts_of (has_tables (data_of p).objects) labels g.code in
+    let told = c.has_tables-in_flash.ensures in
     let routines = routine_among c.args.routines (map plain_row c.args.rows.now) in
-    let bytes : c.deref.result.now ≡ wanted_bytes at g.code = c.deref.ensures.value ∙ c.in_ok-bytes.ensures in
-    let kept : map (λ row. row.items) c.in_ok-keeps.keeps.items ≡ kept_rows g.slots at g.code = c.in_ok-keeps.ensures in
+    let bytes : c.deref.result.now ≡ wanted_bytes at g.code =
+    c.deref.ensures.value ∙ c.in_ok-bytes.ensures ∙ ap (λ (x : Bool). wanted_bytes (facts_of x labels g.code) g.code) told in
+    let kept : map (λ row. row.items) c.in_ok-keeps.keeps.items ≡ kept_rows g.slots at g.code =
+    c.in_ok-keeps.ensures ∙ ap (λ (x : Bool). kept_rows g.slots (facts_of x labels g.code) g.code) told in
     let rows : map (λ row. row.items) c.deref-2.result.now ≡ kept_rows g.slots at g.code =
     subst (λ (x : List (Vec ℕ Global)). map (λ row. row.items) x ≡ kept_rows g.slots at g.code) (sym c.deref-2.ensures.value) kept in
     let code : map plain_ir c.as_slice-code.result.now ≡ g.code = ap (λ (x : List Ir). map plain_ir x) c.as_slice-code.ensures in

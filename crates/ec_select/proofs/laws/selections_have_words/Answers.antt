@@ -21,6 +21,7 @@ returns c = selections_have_words (record {
     conversions = c.places_are_short.ensures.conversions;
     elements = c.elements_are_formed.ensures.short;
     numbers = c.numbers_are_operands.ensures.straight;
+    puts = c.numbers_are_operands.ensures.put_straight;
   };
   routines = record {
     binary = c.routines_have_words.ensures.binary;

@@ -1,5 +1,9 @@
-use Rattle.std.proofs.Common.{◌∙◌}
+use Rattle.std.proofs.Common.{◌∙◌, Bool, subst}
+use Rattle.std.specs.Prelude.{IfOk}
 use Rattle.ec_ir.specs.Operations.{plain_ir_function, plain_ir_program}
+use Rattle.ec_select_operations.specs.Needs.{IsLive}
+use Rattle.ec_select_live.specs.Least.{IsLeast}
+use Rattle.ec_select_live.specs.Tables.{needs_of}
 use Rattle.ec_select.proofs.Added.{results_placed}
 use Rattle.ec_select.proofs.Setting.{function_valid}
 use Rattle.ec_select.proofs.tables.table_of.Goals as goal
@@ -22,3 +26,15 @@ right_numbers-requires c =
 
 pub live-requires-clause-numbers : goal.live-requires-clause-numbers
 live-requires-clause-numbers c = c.deref-numbers.ensures.value ∙ c.in_ok-known.ensures
+
+-- the tables are those for a program with or without objects in flash
+pub returns-clause-live : goal.returns-clause-live
+returns-clause-live c =
+    let code = (plain_ir_function c.args.g.now).code in
+    subst (λ (x : Bool). IfOk c.live.result (λ table. IsLive x (needs_of table) code)) c.has_tables-in_flash.ensures c.live.ensures.live
+
+pub returns-clause-least : goal.returns-clause-least
+returns-clause-least c =
+    let code = (plain_ir_function c.args.g.now).code in
+    subst (λ (x : Bool). IfOk c.live.result (λ table. IsLeast x c.args.g.now.slots (needs_of table) code))
+    c.has_tables-in_flash.ensures c.live.ensures.least

@@ -26,6 +26,8 @@ returns c =
         from_flash = c.loads_are_right.ensures.from_flash;
         from_data_by_tag = c.loads_by_tag_are_right.ensures.from_data;
         from_flash_by_tag = c.loads_by_tag_are_right.ensures.from_flash;
+        data_from_z = c.loads_from_z_by_tag_are_right.ensures.from_data;
+        flash_from_z = c.loads_from_z_by_tag_are_right.ensures.from_flash;
         from_tables = c.tables_are_loaded.ensures;
         stored = c.stores_are_right.ensures;
         straight = c.pointers_are_straight.ensures.straight;
@@ -39,6 +41,8 @@ returns c =
         elements = c.elements_are_right.ensures;
         elements_short = c.elements_are_formed.ensures.short;
         compared = c.pointers_are_compared.ensures;
+        same = c.places_are_numbers.ensures.equal;
+        low = c.places_are_numbers.ensures.order;
         embedded = c.pointers_are_converted.ensures.embedded;
         embeddings_short = c.places_are_short.ensures.conversions;
         far = record {
@@ -54,6 +58,8 @@ returns c =
           steps_short = c.far_places_are_formed.ensures.steps;
           elements = c.far_elements_are_right.ensures;
           compared = c.far_pointers_are_compared.ensures;
+          same = c.far_places_are_numbers.ensures.equal;
+          ordered = c.far_places_are_numbers.ensures.order;
         };
       };
       numbers = record {
@@ -62,6 +68,8 @@ returns c =
         bits = c.numbers_are_operands.ensures.bits;
         compared = c.numbers_are_operands.ensures.compared;
         straight = c.numbers_are_operands.ensures.straight;
+        put = c.numbers_are_operands.ensures.put;
+        put_straight = c.numbers_are_operands.ensures.put_straight;
       };
       known = c.known_numbers_are_held.ensures;
     })

@@ -18,6 +18,9 @@ has_places c =
     c.requires.places in
     subst (λ (s : ℕ). HasPlaces s (plain_ir c.index-code-k.result)) e p.0
 
+pub kept_row-requires : goal.kept_row-requires
+kept_row-requires c = has_places (goal.at.kept_row-requires c).After-index-code-k
+
 pub before-requires : goal.before-requires
 before-requires c = has_places (goal.at.before-requires c).After-index-code-k
 
@@ -28,7 +31,7 @@ loop-k-preserved c =
     let rest = drop c.loop-k.k (map plain_ir c.args.code.now) in
     let code = drop (c.loop-k.k - 1) (map plain_ir c.args.code.now) in
     let labels = needs_of c.args.table.now in
-    let at = facts_of labels (map plain_ir c.args.code.now) in
+    let at = facts_of c.args.in_flash labels (map plain_ir c.args.code.now) in
     let number = number_is c.args.numbers.now (map plain_ir c.args.code.now) (c.loop-k.k - 1)
     (plain_ir c.index-code-k.result) rest c.number_at-number.result c.requires.numbers is c.number_at-number.ensures in
     let k = c.loop-k.k in
@@ -36,7 +39,7 @@ loop-k-preserved c =
     omega (arith, length-map c.loop-k.rows (λ row. row.items), c.loop-k.auto.rows, c.loop-k.auto.k, c.requires.lengths) in
     record {
       need = subst (λ (s : ℕ). AreSame s (need_of c.before-in-loop-k.new.need) (needs at code)) (sym c.before-in-loop-k.auto.need)
-          (need_more (length c.loop-k.need) labels (map plain_ir c.args.code.now) code rest c.number_at-number.result
+          (need_more (length c.loop-k.need) c.args.in_flash labels (map plain_ir c.args.code.now) code rest c.number_at-number.result
           (plain_ir c.index-code-k.result) c.loop-k.need c.before-in-loop-k.new.need number p is c.loop-k.invariant.need
           c.before-in-loop-k.ensures);
       written =
@@ -44,7 +47,6 @@ loop-k-preserved c =
           (sym c.before-in-loop-k.auto.need)
           (ap (drop (k - 1)) (map-set (λ row. row.items) c.loop-k.rows (k - 1) c.in_ok-rows.field-0)
           ∙ rows_more (length c.loop-k.need) at code rest (plain_ir c.index-code-k.result) c.loop-k.need
-          (map
-          (λ row. row.items) c.loop-k.rows) k c.in_ok-rows.field-0.items is c.loop-k.invariant.need c.in_ok-rows.ensures c.loop-k-test.true
-          few c.loop-k.invariant.written);
+          (map (λ row. row.items) c.loop-k.rows) k c.in_ok-rows.field-0.items p is c.loop-k.invariant.need c.in_ok-rows.ensures
+          c.loop-k-test.true few c.loop-k.invariant.written);
     }

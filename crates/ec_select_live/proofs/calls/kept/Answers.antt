@@ -19,5 +19,6 @@ returns c =
     ap length (c.deref_mut.ensures.value ∙ c.in_ok-need.ensures) ∙ length-replicate c.from.result 0 ∙ c.from.ensures in
     let labels = needs_of c.args.table.now in
     ap (λ (xs : List (Vec ℕ Global)). map (λ row. row.items) xs) seam ∙ c.in_ok-keep_all.ensures
-    ∙ ap (λ (s : ℕ). kept_rows s (facts_of labels (map plain_ir c.as_slice.result.now)) (map plain_ir c.as_slice.result.now)) places
-    ∙ ap (λ (xs : List Ir). kept_rows c.args.slots (facts_of labels (map plain_ir xs)) (map plain_ir xs)) c.as_slice.ensures
+    ∙ ap (λ (s : ℕ). kept_rows s (facts_of c.args.in_flash labels (map plain_ir c.as_slice.result.now))
+    (map plain_ir c.as_slice.result.now)) places
+    ∙ ap (λ (xs : List Ir). kept_rows c.args.slots (facts_of c.args.in_flash labels (map plain_ir xs)) (map plain_ir xs)) c.as_slice.ensures

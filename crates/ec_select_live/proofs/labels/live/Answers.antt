@@ -18,11 +18,14 @@ returns-clause-least c =
     c.in_ok-table.ensures ∙ ap (λ (s : ℕ). replicate c.in_ok-labels.labels (replicate s 0)) p in
     let n : length c.deref_mut.result.now ≡ c.args.slots =
     ap length (c.deref_mut.ensures.value ∙ c.in_ok-need.ensures) ∙ length-replicate c.from-places.result 0 ∙ p in
-    let q = subst (λ (xs : List Ir). IsNoMore (length c.deref_mut.result.now) (map plain_ir xs) c.in_ok-table.table c.settle.new.table) b
+    let q = subst (λ (xs : List Ir). IsNoMore c.args.in_flash (length c.deref_mut.result.now)
+    (map plain_ir xs) c.in_ok-table.table c.settle.new.table) b
     c.settle.ensures.least in
-    least_table c.args.slots (map plain_ir c.args.code.now.items) c.in_ok-labels.labels c.in_ok-table.table c.settle.new.table h t
-    (subst (λ (s : ℕ). IsNoMore s (map plain_ir c.args.code.now.items) c.in_ok-table.table c.settle.new.table) n q)
+    least_table c.args.in_flash c.args.slots (map plain_ir c.args.code.now.items) c.in_ok-labels.labels c.in_ok-table.table
+    c.settle.new.table h t
+    (subst (λ (s : ℕ). IsNoMore c.args.in_flash s (map plain_ir c.args.code.now.items) c.in_ok-table.table c.settle.new.table) n q)
 
 pub returns-clause-live : goal.returns-clause-live
 returns-clause-live c =
-    subst (λ (xs : List Ir). IsLive (needs_of c.settle.new.table) (map plain_ir xs)) c.as_slice-2.ensures c.settle.ensures.live
+    subst (λ (xs : List Ir). IsLive c.args.in_flash (needs_of c.settle.new.table) (map plain_ir xs)) c.as_slice-2.ensures
+    c.settle.ensures.live

@@ -28,7 +28,7 @@ number c =
 
 more : (c : After-before-in-loop-k) (all : Bool) → ((all ≡ false) → (c.loop-k.grown ≡ false) × (c.join_label-more.result ≡ false))
     → ((all ≡ true) → (c.loop-k.grown ≡ true) ⊎ (c.join_label-more.result ≡ true))
-    → Passed (length c.before-in-loop-k.new.need)
+    → Passed (length c.before-in-loop-k.new.need) c.args.in_flash
     (map plain_ir c.args.code.now) c.args.table.now c.join_label-more.new.table c.before-in-loop-k.new.need
     (drop (c.loop-k.k - 1) (map plain_ir c.args.code.now)) all
 more c all none some =
@@ -46,9 +46,10 @@ more c all none some =
       is =
           c.join_label-more.ensures.joined;
     } in
-    subst (λ (s : ℕ). Passed s (map plain_ir c.args.code.now) c.args.table.now c.join_label-more.new.table c.before-in-loop-k.new.need
+    subst (λ (s : ℕ). Passed s c.args.in_flash (map plain_ir c.args.code.now) c.args.table.now c.join_label-more.new.table
+    c.before-in-loop-k.new.need
     (drop (c.loop-k.k - 1) (map plain_ir c.args.code.now)) all) (sym c.before-in-loop-k.auto.need)
-    (passed_more (length c.loop-k.need)
+    (passed_more (length c.loop-k.need) c.args.in_flash
     (map plain_ir c.args.code.now) c.args.table.now c.loop-k.table c.join_label-more.new.table c.loop-k.need
     c.before-in-loop-k.new.need (drop c.loop-k.k (map plain_ir c.args.code.now)) (drop (c.loop-k.k - 1) (map plain_ir c.args.code.now))
     c.number_at-number.result (plain_ir c.index-code-k.result) c.loop-k.grown c.join_label-more.result all
@@ -57,7 +58,7 @@ more c all none some =
     some c.loop-k.invariant.passed j c.before-in-loop-k.ensures)
 
 least : (c : After-before-in-loop-k)
-    → NoMore (length c.before-in-loop-k.new.need)
+    → NoMore (length c.before-in-loop-k.new.need) c.args.in_flash
     (map plain_ir c.args.code.now) c.args.table.now c.join_label-more.new.table c.before-in-loop-k.new.need
     (drop (c.loop-k.k - 1) (map plain_ir c.args.code.now))
 least c =
@@ -66,9 +67,10 @@ least c =
     (length c.args.need.now) c.args.code.now c.loop-k.k c.index-code-k.result c.loop-k-test.true c.loop-k.auto.k c.index-code-k.is
     c.requires.places in
     let q = subst (λ (s : ℕ). HasPlaces s (plain_ir c.index-code-k.result)) e p.0 in
-    subst (λ (s : ℕ). NoMore s (map plain_ir c.args.code.now) c.args.table.now c.join_label-more.new.table c.before-in-loop-k.new.need
+    subst (λ (s : ℕ). NoMore s c.args.in_flash (map plain_ir c.args.code.now) c.args.table.now c.join_label-more.new.table
+    c.before-in-loop-k.new.need
     (drop (c.loop-k.k - 1) (map plain_ir c.args.code.now))) (sym c.before-in-loop-k.auto.need)
-    (no_more (length c.loop-k.need)
+    (no_more (length c.loop-k.need) c.args.in_flash
     (map plain_ir c.args.code.now) c.args.table.now c.loop-k.table c.join_label-more.new.table c.loop-k.need
     c.before-in-loop-k.new.need (drop c.loop-k.k (map plain_ir c.args.code.now)) c.number_at-number.result
     (plain_ir c.index-code-k.result) (c.loop-k.k - 1) (number c) q
@@ -87,5 +89,5 @@ loop-k-preserved-then-grown c =
 
 pub returns-clause-least : goal.returns-clause-least
 returns-clause-least c =
-    subst (λ (s : ℕ). IsNoMore s (map plain_ir c.args.code.now) c.args.table.now c.loop-k.table)
+    subst (λ (s : ℕ). IsNoMore c.args.in_flash s (map plain_ir c.args.code.now) c.args.table.now c.loop-k.table)
     (c.loop-k.auto.need ∙ c.clear.auto.need) c.loop-k.invariant.least.at_labels

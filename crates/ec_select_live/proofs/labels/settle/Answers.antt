@@ -16,11 +16,12 @@ loop-grown-preserved c = record {
   kept = subst (λ (s : ℕ). IsTable s (needs_of c.pass-grown.new.table)) (sym c.pass-grown.auto.need) c.pass-grown.ensures.kept;
   live = c.pass-grown.ensures.live;
   least =
-      subst (λ (s : ℕ). IsNoMore s (map plain_ir c.args.code.now) c.args.table.now c.pass-grown.new.table) (sym c.pass-grown.auto.need)
+      subst (λ (s : ℕ). IsNoMore c.args.in_flash s (map plain_ir c.args.code.now) c.args.table.now c.pass-grown.new.table)
+      (sym c.pass-grown.auto.need)
       (λ labels other h v q. c.pass-grown.ensures.least labels other h v (c.loop-grown.invariant.least labels other h v q));
 }
 
 pub returns-clause-least : goal.returns-clause-least
 returns-clause-least c =
-    subst (λ (s : ℕ). IsNoMore s (map plain_ir c.args.code.now) c.args.table.now c.loop-grown.table) c.loop-grown.auto.need
+    subst (λ (s : ℕ). IsNoMore c.args.in_flash s (map plain_ir c.args.code.now) c.args.table.now c.loop-grown.table) c.loop-grown.auto.need
     c.loop-grown.invariant.least

@@ -8,8 +8,8 @@ use Rattle.ec_select_live.proofs.labels.settle.Given as goal
 abbrev pub invariant-loop-grown : goal.invariant-loop-grown
 invariant-loop-grown l = record {
   kept : IsTable (length l.need) (needs_of l.table);
-  live : l.grown ≡ false → IsLive (needs_of l.table) (map plain_ir l.code);
-  least : (labels : ℕ) (other : ℕ → Need) → HaveLabels labels (map plain_ir l.code) → IsLive other (map plain_ir l.code)
+  live : l.grown ≡ false → IsLive l.in_flash (needs_of l.table) (map plain_ir l.code);
+  least : (labels : ℕ) (other : ℕ → Need) → HaveLabels labels (map plain_ir l.code) → IsLive l.in_flash other (map plain_ir l.code)
       → TellNoMore labels (length l.need) (needs_of l.fn.table) other
       → TellNoMore labels (length l.need) (needs_of l.table) other;
 }

@@ -32,12 +32,12 @@ loop-k-preserved c =
     let number = number_is c.args.numbers.now (map plain_ir c.args.code.now) (c.loop-k.k - 1)
     (plain_ir c.index-code-k.result) rest c.number_at-number.result c.requires.numbers is c.number_at-number.ensures in
     record {
-      need = subst (λ (s : ℕ). AreSame s (need_of c.before-in-loop-k.new.need) (needs (facts_of labels all) code))
+      need = subst (λ (s : ℕ). AreSame s (need_of c.before-in-loop-k.new.need) (needs (facts_of c.args.in_flash labels all) code))
           (sym c.before-in-loop-k.auto.need)
-          (need_more (length c.loop-k.need) labels all code rest c.number_at-number.result
+          (need_more (length c.loop-k.need) c.args.in_flash labels all code rest c.number_at-number.result
           (plain_ir c.index-code-k.result) c.loop-k.need c.before-in-loop-k.new.need number p is c.loop-k.invariant.need
           c.before-in-loop-k.ensures);
-      written = wanted_more (length c.loop-k.need) labels all code rest
+      written = wanted_more (length c.loop-k.need) c.args.in_flash labels all code rest
           (plain_ir c.index-code-k.result) c.loop-k.need c.loop-k.wanted c.loop-k.k c.wanted_behind.result p is c.loop-k.invariant.need
           c.wanted_behind.ensures c.loop-k-test.true (omega arith) c.loop-k.invariant.written;
     }

@@ -7,7 +7,8 @@ use Rattle.ec_select_live.proofs.labels.want.Given as goal
 
 abbrev pub invariant-loop-k : goal.invariant-loop-k
 invariant-loop-k l = record {
-  need : AreSame (length l.need) (need_of l.need) (needs (facts_of (needs_of l.table) (map plain_ir l.code))
+  need : AreSame (length l.need) (need_of l.need) (needs (facts_of l.in_flash (needs_of l.table) (map plain_ir l.code))
       (drop l.k (map plain_ir l.code)));
-  written : drop l.k l.wanted ≡ wanted_bytes (facts_of (needs_of l.table) (map plain_ir l.code)) (drop l.k (map plain_ir l.code));
+  written : drop l.k l.wanted ≡ wanted_bytes (facts_of l.in_flash (needs_of l.table) (map plain_ir l.code))
+      (drop l.k (map plain_ir l.code));
 }

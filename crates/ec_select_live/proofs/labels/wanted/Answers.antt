@@ -15,4 +15,5 @@ returns c =
     let seam : take c.in_ok-bytes.bytes.len (w ++ rest) ≡ w =
     subst (λ (k : ℕ). take k (w ++ rest) ≡ w) n (take-append_seam w rest) in
     seam ∙ c.want.ensures
-    ∙ ap (λ (xs : List Ir). wanted_bytes (facts_of (needs_of c.args.table.now) (map plain_ir xs)) (map plain_ir xs)) c.as_slice.ensures
+    ∙ ap (λ (xs : List Ir). wanted_bytes (facts_of c.args.in_flash (needs_of c.args.table.now) (map plain_ir xs)) (map plain_ir xs))
+    c.as_slice.ensures

@@ -17,7 +17,8 @@ loop-k-preserved c =
     ∙ ap (λ r. r.items) (sym c.index-kept-k.is) ∙ sym c.as_slice.ensures.value in
     record {
       told = c.told_behind-telling.ensures
-          ∙ ap (told_at (declarations c.args.program.now) c.args.wanted.now c.args.known.now (map plain_ir c.args.code.now))
+          ∙ ap (told_at c.args.of.core (declarations c.args.program.now) (home c.args.of.homes) c.args.wanted.now
+          (map (λ r. r.items) c.args.kept.now) c.args.known.now (map plain_ir c.args.code.now))
           (let e : suc c.loop-k.k ≡ c.loop-k.k + 1 = omega arith in e);
       written = one_more (declarations c.args.program.now) (home c.args.of.homes) (linkage c.args.of) c.args.wanted.now
           (map (λ r. r.items) c.args.kept.now) c.args.known.now c.args.routines.now (map plain_ir c.args.code.now) c.loop-k.k

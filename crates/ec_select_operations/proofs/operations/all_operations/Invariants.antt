@@ -7,7 +7,8 @@ use Rattle.ec_select_operations.proofs.operations.all_operations.Given as goal
 
 abbrev pub invariant-loop-k : goal.invariant-loop-k
 invariant-loop-k l = record {
-  told : l.told ≡ told_at (declarations l.fn.program) l.fn.wanted l.fn.known (map plain_ir l.fn.code) l.k;
+  told : l.told ≡ told_at l.fn.of.core (declarations l.fn.program) (home l.fn.of.homes) l.fn.wanted (map (λ row. row.items) l.fn.kept)
+      l.fn.known (map plain_ir l.fn.code) l.k;
   written : l.out.items ≡ l.fn.out.items ++ written_code (declarations l.fn.program) (home l.fn.of.homes) (linkage l.fn.of) l.fn.wanted
       (map (λ row. row.items) l.fn.kept) l.fn.known l.fn.routines (map plain_ir l.fn.code) l.k;
 }
