@@ -34,8 +34,8 @@ use Rattle.ec_fxcode_limits.specs.Limits.{fill_words, top_words, byte_words}
 use Rattle.ec_fxcode_limits.specs.LimitLaws.{added, LimitedSumsAreRight, LimitsHave}
 use Rattle.ec_fxcode_limits.proofs.Numbers.{ComesOut, sum_out, plain_sum_out, difference_out, plain_difference_out}
 use Rattle.ec_fxcode_limits.proofs.Flags.{sum_is, difference_is}
-use Rattle.ec_fxcode_limits.proofs.Ends.{end_straight, end_has, end_takes, end_far, fill_of, top_of, Ends, ends, signed_top, signed_bottom}
-use Rattle.ec_fxcode_limits.proofs.Ends.{plain_top, plain_bottom}
+use Rattle.ec_fxcode_limits.proofs.Ends.{each_end, end_straight, end_has, end_takes, end_far, fill_of, top_of, Ends, ends, signed_top}
+use Rattle.ec_fxcode_limits.proofs.Ends.{signed_bottom, plain_top, plain_bottom}
 
 -- ---- a number as a value of a format
 
@@ -202,7 +202,9 @@ pub record Leaves (e : Env) (most pc : ℕ) (w : View) (end b n : ℕ) (Holds : 
 
 ends_held : (v w : View) (b n byte top : ℕ) → HoldsNumbers v → byte < 256 → top < 256 → Ends v w b n byte top → HoldsNumbers w
 ends_held v w b n byte top held l t h k two =
-    ⊎_elim (λ (q : k ≡ 31). rw (q, h.work) t)
+    ⊎_elim
+    (λ (q : k ≡ 31). rw q (⊎_elim (λ (x : w.at 31 ≡ top). omega (arith, x, t))
+    (λ (x : w.at 31 ≡ v.at 31). let m = held 31 (omega arith) in omega (arith, x, m)) h.work))
     (λ (q : k ≢ 31).
     ⊎_elim (λ (x : k < b). rw (h.same k (omega arith) (omega arith) q (λ y. absurd (omega arith))) (held k two))
     (λ (x : b ≤ k).
@@ -397,7 +399,7 @@ fill_few minus signed q n =
     let b : top_words signed ≤ 1 = one signed in
     let c : byte_words q ≤ 2 = byte q in
     let d = mul-le (byte_words q) n 2 n c (omega arith) in
-    omega (arith, a, b, c, d)
+    each_end (λ code words. words ≤ 5 + 2 * n) minus signed q n (λ r is reach. omega (arith, a, b, c, d)) (omega (arith, a, b, c, d))
   where
     few : (minus signed : Bool) → fill_words minus signed ≤ 2
     few false true = omega arith

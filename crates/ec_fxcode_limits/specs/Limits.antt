@@ -1,7 +1,8 @@
 -- Code that stops a sum or a difference at the ends of its range. It stands right behind the addition or subtraction of
 -- the bytes, whose flags tell whether the result is out of range: V in two's complement, and C without a sign. There
--- the nearer end of the range takes the place of the result, through R31.
-use Rattle.std.specs.Prelude.{ℕ, suc, ◌+◌, ◌*◌, Bool, true, false, pos, List, [], ◌∷◌, ◌++◌}
+-- the nearer end of the range takes the place of the result, made in the register of its highest byte from R16 on, or
+-- else in R31.
+use Rattle.std.specs.Prelude.{ℕ, suc, ◌+◌, ◌*◌, nat_le, Bool, true, false, if◌then◌else◌, pos, List, [], ◌∷◌, ◌++◌}
 use Rattle.ec_isa.specs.declared.instructions.Instr.TheVariants.{Sbc, Com, Ldi, Neg, Subi, Brbc}
 use Rattle.ec_asm.specs.declared.items.AsmItem.{AsmItem}
 use Rattle.ec_asm.specs.declared.items.AsmItem.TheVariants.{Plain}
@@ -9,47 +10,70 @@ use Rattle.ec_asm.specs.declared.pieces.Location.{Location}
 use Rattle.ec_asm.specs.declared.pieces.Location.TheVariants.{InRegisters, InMemory}
 use Rattle.ec_asm.specs.declared.pieces.Operator.{Operator}
 use Rattle.ec_asm.specs.declared.pieces.Operator.TheVariants.{Sum, Difference}
+use Rattle.ec_asm.specs.Items.{chain}
 use Rattle.ec_asm.specs.Pieces.{operate_code}
-use Rattle.ec_fxcode.specs.Clamps.{put_byte, fills_code}
+use Rattle.ec_fxcode.specs.Clamps.{put_byte}
 
 -- the flag that is 1 where the result is out of range
 abbrev pub past_flag : (signed : Bool) → ℕ
 past_flag true = 3
 past_flag false = 0
 
--- R31 becomes the bytes of the nearer end below its highest byte, 255 or 0. Out of range of two's complement C is 1
--- where a sum is less than the least number, and where a difference is more than the greatest
-abbrev pub fill_code : (minus signed : Bool) → List AsmItem
-fill_code false true = Plain (Sbc 31 31) ∷ Plain (Com 31) ∷ []
-fill_code true true = Plain (Sbc 31 31) ∷ []
-fill_code false false = Plain (Ldi 31 255) ∷ []
-fill_code true false = Plain (Ldi 31 0) ∷ []
+-- a register becomes the bytes of the nearer end below its highest byte, 255 or 0. Out of range of two's complement C is
+-- 1 where a sum is less than the least number, and where a difference is more than the greatest
+abbrev pub fill_code : (register : ℕ) → (minus signed : Bool) → List AsmItem
+fill_code s false true = Plain (Sbc s s) ∷ Plain (Com s) ∷ []
+fill_code s true true = Plain (Sbc s s) ∷ []
+fill_code s false false = Plain (Ldi s 255) ∷ []
+fill_code s true false = Plain (Ldi s 0) ∷ []
 
 abbrev pub fill_words : (minus signed : Bool) → ℕ
 fill_words false true = 2
 fill_words true true = 1
 fill_words minus false = 1
 
--- then its highest byte: in two's complement 127 above bytes of 255, and 128 above 0
-abbrev pub top_code : (signed : Bool) → List AsmItem
-top_code true = Plain (Subi 31 128) ∷ []
-top_code false = []
-
-abbrev pub top_words : (signed : Bool) → ℕ
-top_words true = 1
-top_words false = 0
+-- those bytes are put to the place
+abbrev pub low_code : (register : ℕ) → Location → (n : ℕ) → List AsmItem
+low_code s q n = chain (λ i. put_byte s q i) n
 
 -- the words that put a byte to a place
 abbrev pub byte_words : Location → ℕ
 byte_words (InRegisters r) = 1
 byte_words (InMemory o k) = 2
 
--- the end of the range in suc n bytes
+-- then the register becomes the highest byte: in two's complement 127 above bytes of 255, and 128 above 0
+abbrev pub top_code : (register : ℕ) → (signed : Bool) → List AsmItem
+top_code s true = Plain (Subi s 128) ∷ []
+top_code s false = []
+
+abbrev pub top_words : (signed : Bool) → ℕ
+top_words true = 1
+top_words false = 0
+
+-- the end of the range in suc n bytes, all but the highest at the place, and that one in the register
+abbrev pub made_code : (register : ℕ) → (minus signed : Bool) → Location → (n : ℕ) → List AsmItem
+made_code s minus signed q n = fill_code s minus signed ++ (low_code s q n ++ top_code s signed)
+
+abbrev pub made_words : (minus signed : Bool) → Location → (n : ℕ) → ℕ
+made_words minus signed q n = fill_words minus signed + (byte_words q * n + top_words signed)
+
+-- it is made through R31
+abbrev pub aside_code : (minus signed : Bool) → Location → (n : ℕ) → List AsmItem
+aside_code minus signed q n = made_code 31 minus signed q n ++ put_byte 31 q n
+
+abbrev pub aside_words : (minus signed : Bool) → Location → (n : ℕ) → ℕ
+aside_words minus signed q n = made_words minus signed q n + byte_words q
+
+-- but in the register of its highest byte where an immediate reaches that one
 abbrev pub end_code : (minus signed : Bool) → Location → (n : ℕ) → List AsmItem
-end_code minus signed q n = fill_code minus signed ++ (fills_code q 0 n ++ (top_code signed ++ put_byte 31 q n))
+end_code minus signed (InRegisters r) n =
+    if nat_le 16 (r + n) then made_code (r + n) minus signed (InRegisters r) n else aside_code minus signed (InRegisters r) n
+end_code minus signed (InMemory o k) n = aside_code minus signed (InMemory o k) n
 
 abbrev pub end_words : (minus signed : Bool) → Location → (n : ℕ) → ℕ
-end_words minus signed q n = fill_words minus signed + (byte_words q * n + (top_words signed + byte_words q))
+end_words minus signed (InRegisters r) n =
+    if nat_le 16 (r + n) then made_words minus signed (InRegisters r) n else aside_words minus signed (InRegisters r) n
+end_words minus signed (InMemory o k) n = aside_words minus signed (InMemory o k) n
 
 -- it is passed over in range
 abbrev pub limit_code : (minus signed : Bool) → Location → (n : ℕ) → List AsmItem

@@ -2,7 +2,7 @@
 use Rattle.std.proofs.Common.{◌≡◌, ℕ, suc, ◌+◌, ◌-◌, ◌*◌, ◌<◌, ◌≤◌, ◌==◌, Bool, true, false, [], ◌++◌, pos, refl}
 use Rattle.std.proofs.Common.{subst, arith}
 use Rattle.std.specs.Prelude.{◌&&◌, if◌then◌else◌}
-use Rattle.std.proofs.lemmas.Bool.{lt-ltb}
+use Rattle.std.proofs.lemmas.Bool.{le-leb, lt-ltb}
 use Rattle.ec_isa.specs.declared.instructions.Instr.TheVariants.{Brbc}
 use Rattle.ec_asm.specs.declared.items.AsmItem.TheVariants.{Plain}
 use Rattle.ec_asm.specs.declared.pieces.Location.{Location}
@@ -11,10 +11,10 @@ use Rattle.ec_asm.specs.Items.{code_words}
 use Rattle.ec_asm.specs.Pieces.{copy_code, operate_code}
 use Rattle.ec_asm.specs.Valid.{Sizes}
 use Rattle.ec_asm.proofs.ItemWords.{words_cons}
-use Rattle.ec_fxcode.specs.Clamps.{put_byte, fills_code}
-use Rattle.ec_fxcode_limits.specs.Limits.{past_flag, fill_code, top_code, end_code, end_words, limit_code, operator_of, limited_code}
-use Rattle.ec_fxcode_limits.specs.Limits.{opposite_code}
-use Rattle.ec_fxcode_limits.proofs.Ends.{end_has}
+use Rattle.ec_fxcode.specs.Clamps.{put_byte}
+use Rattle.ec_fxcode_limits.specs.Limits.{past_flag, fill_code, low_code, top_code, made_code, end_code, end_words, limit_code, operator_of}
+use Rattle.ec_fxcode_limits.specs.Limits.{limited_code, opposite_code}
+use Rattle.ec_fxcode_limits.proofs.Ends.{each_end, end_has}
 use Rattle.ec_fxcode_limits.proofs.Limited.{limits_have}
 use Rattle.ec_select_bytes.specs.Values.{constant_code}
 use Rattle.ec_select_operations.specs.Code.{move_code, stopped_code, aside_location, from_zero_code, negated_code, negated_unary}
@@ -88,23 +88,32 @@ module _ (sizes : Sizes) where
   put_byte_fits s h (InRegisters r) i x = rw (reg (r + i) x, reg s h) refl
   put_byte_fits s h (InMemory o k) i x = rw (x, reg s h) refl
 
-  fill_fits : (minus signed : Bool) → Fit sizes (fill_code minus signed)
-  fill_fits false true = refl
-  fill_fits true true = refl
-  fill_fits false false = refl
-  fill_fits true false = refl
+  -- a register that an immediate reaches
+  fill_fits : (s : ℕ) → 16 ≤ s → s < 32 → (minus signed : Bool) → Fit sizes (fill_code s minus signed)
+  fill_fits s reach low false true = rw (reg s low) refl
+  fill_fits s reach low true true = rw (reg s low) refl
+  fill_fits s reach low false false = rw (le-leb 16 s reach, reg s low) refl
+  fill_fits s reach low true false = rw (le-leb 16 s reach, reg s low) refl
 
-  top_fits : (signed : Bool) → Fit sizes (top_code signed)
-  top_fits true = refl
-  top_fits false = refl
+  top_fits : (s : ℕ) → 16 ≤ s → s < 32 → (signed : Bool) → Fit sizes (top_code s signed)
+  top_fits s reach low true = rw (le-leb 16 s reach, reg s low) refl
+  top_fits s reach low false = refl
+
+  made_fits : (s : ℕ) → 16 ≤ s → s < 32 → (minus signed : Bool) (q : Location) (n : ℕ) → BytesFit sizes q n
+      → Fit sizes (made_code s minus signed q n)
+  made_fits s reach low minus signed q n x =
+      joined (fits sizes) (fill_code s minus signed) (low_code s q n ++ top_code s signed) (fill_fits s reach low minus signed)
+      (joined (fits sizes) (low_code s q n) (top_code s signed)
+      (chained (fits sizes) (λ i. put_byte s q i) n (λ i l. put_byte_fits s low q i (x i l))) (top_fits s reach low signed))
 
   end_fits : (minus signed : Bool) (q : Location) (n : ℕ) → BytesFit sizes q (suc n) → Fit sizes (end_code minus signed q n)
   end_fits minus signed q n x =
-      joined (fits sizes) (fill_code minus signed) (fills_code q 0 n ++ (top_code signed ++ put_byte 31 q n)) (fill_fits minus signed)
-      (joined (fits sizes) (fills_code q 0 n) (top_code signed ++ put_byte 31 q n)
-      (chained (fits sizes) (λ i. put_byte 31 q (0 + i)) (n - 0) (λ i l. put_byte_fits 31 (omega arith) q (0 + i) (x (0 + i)
-      (omega arith))))
-      (joined (fits sizes) (top_code signed) (put_byte 31 q n) (top_fits signed) (put_byte_fits 31 (omega arith) q n (x n (omega arith)))))
+      each_end (λ code words. Fit sizes code) minus signed q n
+      (λ r is reach. made_fits (r + n) reach (subst (λ (p : Location). ByteFits sizes p n) is (x n (omega arith))) minus signed q n
+      (fewer_fit sizes q n (suc n) (omega arith) x))
+      (joined (fits sizes) (made_code 31 minus signed q n) (put_byte 31 q n)
+      (made_fits 31 (omega arith) (omega arith) minus signed q n (fewer_fit sizes q n (suc n) (omega arith) x))
+      (put_byte_fits 31 (omega arith) q n (x n (omega arith))))
 
   limit_fits : (minus signed : Bool) (q : Location) (n : ℕ) → n ≤ 7 → BytesFit sizes q (suc n) → Fit sizes (limit_code minus signed q n)
   limit_fits minus signed q n few x = by_sign signed
