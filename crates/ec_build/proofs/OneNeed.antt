@@ -12,7 +12,7 @@ use Rattle.ec_select_operations.specs.Code.{result_wanted, wanted_behind, wanted
 use Rattle.ec_ir_known.specs.declared.known.RightNumber.{RightNumber}
 use Rattle.ec_select_operations.specs.Needs.{Need, at_least, without, either, wanted, is_fixed, is_whole, first_wanted}
 use Rattle.ec_select_operations.specs.Needs.{second_wanted, family_of, is_apart}
-use Rattle.ec_select_operations.specs.Needs.{only_wanted, index_needed, without_result, number_taken, takes_whole, right_taken}
+use Rattle.ec_select_operations.specs.Needs.{only_wanted, index_needed, without_result, number_taken, numbered, takes_whole, right_taken}
 use Rattle.ec_select_operations.specs.Needs.{right_needed, before, moves_pointer, masked_bytes, joined_bytes, moved_wanted, narrowed}
 use Rattle.ec_select_operations.specs.Needs.{loaded_bytes}
 use Rattle.ec_select_operations.specs.Needs.{compared_bytes, facts_of, known_right, needs}
@@ -61,13 +61,19 @@ same_right : (s : ℕ) (taken : Option RightNumber) (to : Temp) (at : ℕ) (f : 
 same_right s None to at f a b l h = same_value s to at f a b l h
 same_right s (Some k) to at f a b l h = same_without s to.at a b h
 
+-- and of what is stored
+same_stored : (s : ℕ) (taken : Option RightNumber) (at n : ℕ) (a b : Need) → AreSame s a b
+    → AreSame s (right_needed taken at n a) (right_needed taken at n b)
+same_stored s None at n a b h = same_least s at n n a b refl h
+same_stored s (Some k) at n a b h = h
+
 module _ (s : ℕ) (in_flash : Bool) (here there : ℕ → Need) where
   before_same : (n : Option RightNumber) (i : PlainIr) (a b : Need) → HasPlaces s i → TellSame s here there i → AreSame s a b
       → AreSame s (before here n i a) (before there n i b)
   before_same n (constant t x) a b l k h = same_without s t.at a b h
   before_same n (copy to from) a b l k h = same_value s to from.at (λ n. n) a b l.0 h
   before_same n (load_object t o offset) a b l k h = same_without s t.at a b h
-  before_same n (store_object o offset t) a b l k h = same_least s t.at t.bytes t.bytes a b refl h
+  before_same n (store_object o offset t) a b l k h = same_stored s (numbered n) t.at t.bytes a b h
   before_same n (binary_op op ty mode to x xty y yty) a b l k h =
       let w = is_apart (family_of op) mode ty xty yty in
       let taken = number_taken n w op in
@@ -122,7 +128,7 @@ module _ (s : ℕ) (in_flash : Bool) (here there : ℕ → Need) where
   result_same (cell_port true to cell offset index width) a b l h = same_wanted s to a b l.0 h
   result_same (load_object t o offset) a b l h = refl
   result_same (store_object o offset t) a b l h = refl
-  result_same (branch_zero t k) a b l h = refl
+  result_same (branch_zero t k) a b l h = same_wanted s t a b l h
   result_same (return_from from) a b l h = refl
   result_same (label k) a b l h = refl
   result_same (jump k) a b l h = refl

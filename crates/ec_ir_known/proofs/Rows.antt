@@ -127,7 +127,8 @@ right_same (field ptr space offset) a b h = refl
 right_same (load_at to ptr space) a b h = refl
 right_same (store_at ptr space from) a b h = refl
 right_same (load_object t o offset) a b h = refl
-right_same (store_object o offset t) a b h = refl
+right_same (store_object o offset t) a b h =
+    ap (λ (x : Option KnownNumber). right_of false false false (of_bytes t.bytes x)) (h t.at)
 right_same (unary_op op ty mode to c) a b h = refl
 right_same (conversion to ty mode c aty) a b h = refl
 right_same (jump l) a b h = refl

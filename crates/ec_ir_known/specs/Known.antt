@@ -15,7 +15,7 @@ use Rattle.ec_core.specs.Integers.{wrapped}
 use Rattle.ec_core.specs.Plain.{PlainType, integer}
 use Rattle.ec_ir.specs.declared.operations.Temp.{Temp}
 use Rattle.ec_ir.specs.Operations.{PlainIr, constant, copy, address, field, load_at, load_object}
-use Rattle.ec_ir.specs.Operations.{binary_op, unary_op, conversion, label, branch_zero}
+use Rattle.ec_ir.specs.Operations.{store_object, binary_op, unary_op, conversion, label, branch_zero}
 use Rattle.ec_ir.specs.Operations.{call_function, port_in, load_cell, cell_port}
 use Rattle.ec_ir_known.specs.declared.known.KnownNumber.{KnownNumber}
 use Rattle.ec_ir_known.specs.declared.known.RightNumber.{RightNumber}
@@ -235,11 +235,13 @@ takes_alone op to b = changes_byte op && not (b.at == to.at)
 
 -- the number that the second operand of a binary operator is known to hold. It is in a byte where the first operand, of
 -- more bytes, is known to be below 256, and so is the number, or what the second operand, of more bytes too, holds in
--- place of a known number. Where an operator takes a second operand below 256 alone, it is not. A branch tests against 0
+-- place of a known number. Where an operator takes a second operand below 256 alone, it is not. A branch tests against 0, and
+-- a store takes a known number alone
 abbrev pub right_number : Known → PlainIr → Option RightNumber
 right_number known (binary_op op ty mode to a aty b bty) =
     right_of (takes_alone op to b) (fits_byte known a) (fits_second known b bty) (number_in known b)
 right_number known (branch_zero t l) = right_of false (fits_byte known t) false (Some (pos 0))
+right_number known (store_object o offset t) = right_of false false false (number_in known t)
 right_number known i = None
 
 -- for each of the operations that are left

@@ -28,8 +28,9 @@ pub struct KnownNumber {
     pub width: u8,
 }
 
-/// The number that the second operand of a binary operator holds, where it is known. It is in a byte where it is below 256,
-/// and the first operand, which has more bytes, is too. Where neither is so, the second operand alone is below 256.
+/// The number that the second operand of a binary operator or the operand of a store holds, where it is known. It is in a
+/// byte where it is below 256, and the first operand, which has more bytes, is too. Where neither is so, the second operand
+/// alone is below 256.
 #[derive(Clone, Copy, Debug, PartialEq, Eq)]
 pub struct RightNumber {
     pub number: Option<i128>,
@@ -443,7 +444,7 @@ impl KnownNumbers {
         }
     }
 
-    /// What the second operand of a binary operator is known to hold; a branch tests against 0.
+    /// What the second operand of a binary operator is known to hold, or what a store takes; a branch tests against 0.
     pub fn right(&self, i: &Ir) -> Option<RightNumber>
         ensures { result ≡ right_number (known_of self.now) (plain_ir i.now) }
     {
@@ -461,6 +462,7 @@ impl KnownNumbers {
                 right_of(alone, self.fits_byte(*a), right, self.number(*b))
             }
             Ir::BranchZero(t, _) => right_of(false, self.fits_byte(*t), false, Some(0)),
+            Ir::StoreObj(_, _, t) => right_of(false, false, false, self.number(*t)),
             _ => None,
         }
     }
@@ -520,8 +522,8 @@ fn push_numbers(
     Ok(())
 }
 
-/// For each operation of a function what the second operand of a binary operator is known to hold, and 0 for that which a
-/// branch tests against.
+/// For each operation of a function what the second operand of a binary operator or the operand of a store is known to
+/// hold, and 0 for that which a branch tests against.
 ///
 /// The operations set places below `slots` alone.
 #[tactic(auto, using(crate::proofs::Rows::all_numbers))]

@@ -1,6 +1,6 @@
 -- Operators with a known number: their items, and their words.
 use Rattle.std.proofs.Common.{◌≡◌, ℕ, zero, suc, ◌+◌, ◌-◌, ◌*◌, ◌/◌, ◌%◌, ◌<◌, ◌≤◌, Bool, true, false, not, [], ◌∷◌, ◌++◌}
-use Rattle.std.proofs.Common.{refl, subst}
+use Rattle.std.proofs.Common.{refl, subst, ℤ, Option, Some, None}
 use Rattle.std.proofs.Common.{arith}
 use Rattle.std.specs.Prelude.{nat_le, nat_lt, if◌then◌else◌, ◌==◌, ◌&&◌}
 use Rattle.std.proofs.lemmas.Bool.{lt-ltb, and_parts}
@@ -15,7 +15,8 @@ use Rattle.ec_asm.specs.declared.pieces.Operator.TheVariants.{Sum, Difference, B
 use Rattle.ec_asm.specs.Items.{code_words}
 use Rattle.ec_asm.specs.Pieces.{compares}
 use Rattle.ec_asm.specs.Valid.{Sizes, is_offset}
-use Rattle.ec_select_bytes.specs.Values.{byte_of, constant_code, test_code}
+use Rattle.ec_select_bytes.specs.Values.{byte_of, constant_code}
+use Rattle.ec_ir.specs.Temporaries.{low_bytes}
 use Rattle.ec_select_bytes.specs.Laws.{ValuesHave}
 use Rattle.ec_select_numbers.specs.declared.operators.ByNumber.{ByNumber}
 use Rattle.ec_select_numbers.specs.declared.operators.ByNumber.TheVariants.{Subtract, Mask, Set}
@@ -24,11 +25,15 @@ use Rattle.ec_select_numbers.specs.ByNumber.{changed_byte, each_changed, changed
 use Rattle.ec_select_numbers.specs.ByNumber.{compared_byte, compared_code as compared_with_code}
 use Rattle.ec_select_numbers.specs.Laws.{NumbersAreStraight}
 use Rattle.ec_select_operations.specs.Code.{changed_by_code, same_location, masked_at, masked_code, truth_register}
+use Rattle.ec_select_functions.proofs.Joins.{several_there}
+use Rattle.ec_select_operations.specs.Stores.{is_repeated, work_stored, number_byte_code, store_object_code}
 use Rattle.ec_select.proofs.Fitting.{fits, Fit, chained, ByteFits, BytesFit, reg, joined}
-use Rattle.ec_select.proofs.Pieces.{compares_fits, constant_fits, test_fits, truth_in_fits}
+use Rattle.ec_select.proofs.Pieces.{compares_fits, constant_fits, test_fits, truth_in_fits, copy_fits}
+use Rattle.ec_select.proofs.Words.{chained_words, copy_words_most}
 use Rattle.ec_select_order.specs.Relations.{truth_in_code}
 use Rattle.ec_select_operations.specs.declared.bounds.Bound.{Bound}
 use Rattle.ec_select_operations.specs.Bounds.{is_equality, bounded_code, truth_by_code}
+use Rattle.ec_select_operations.specs.Tests.{join_there, joined_there_code, number_test}
 
 module _ (sizes : Sizes) where
   -- an immediate fits a register of R16 and above
@@ -91,6 +96,23 @@ module _ (sizes : Sizes) where
         let low = (and_parts (is_low_pair r n) (not (is_neutral op (byte_of number 0)) && not (is_neutral op (byte_of number 1))) q).0 in
         joined (fits sizes) (changed_pair op r number) (rest_changed op r number (n - 2)) (pair_fits op r number n low x)
         (rest_fits op r number n (low_parts r n low).1 x)
+
+  -- a number that is stored by R30
+  number_byte_fits : (p : Location) (number i : ℕ) → ByteFits sizes p i → Fit sizes (number_byte_code p number i)
+  number_byte_fits p number i x = by_repeat p (is_repeated number i) x
+    where
+      by_repeat : (p : Location) (b : Bool) → ByteFits sizes p i
+          → Fit sizes (if b then work_stored p i ∷ [] else Plain (Ldi 30 (byte_of number i)) ∷ work_stored p i ∷ [])
+      by_repeat (InRegisters r) true x = rw (reg (r + i) x) refl
+      by_repeat (InRegisters r) false x = rw (reg (r + i) x, lt-ltb (byte_of number i) 256 (omega arith)) refl
+      by_repeat (InMemory o k) true x = rw x refl
+      by_repeat (InMemory o k) false x = rw (lt-ltb (byte_of number i) 256 (omega arith), x) refl
+
+  pub store_object_fits : (number : Option ℤ) (p q : Location) (n : ℕ) → BytesFit sizes p n → BytesFit sizes q n
+      → Fit sizes (store_object_code number p q n)
+  store_object_fits None p q n x z = copy_fits sizes p q n x z
+  store_object_fits (Some k) p q n x z =
+      chained (fits sizes) (λ i. number_byte_code q (low_bytes 16 k) i) n (λ i l. number_byte_fits q (low_bytes 16 k) i (z i l))
 
   -- a number that is put to a place
   put_pair_fits : (r number n : ℕ) → is_low_pair r n ≡ true → BytesFit sizes (InRegisters r) n → Fit sizes (put_pair_code r number)
@@ -157,16 +179,31 @@ module _ (sizes : Sizes) where
       rw (first, lt-ltb k 256 b) refl
 
   -- a relation to a number, and its truth value
-  pub bounded_fits : (b : Bound) (p : Location) (n : ℕ) → BytesFit sizes p n → Fit sizes (bounded_code b p n)
-  bounded_fits b p n x = by_test (b.number == 0 && is_equality b.relation) where
-    by_test : (t : Bool) → Fit sizes (if t then test_code p n else compared_with_code p b.number n)
-    by_test true = test_fits sizes p n x
+  join_there_fits : (r i : ℕ) → ByteFits sizes (InRegisters r) 0 → ByteFits sizes (InRegisters r) (1 + i) → Fit sizes (join_there r i)
+  join_there_fits r i x z =
+      let begin : r + 0 ≡ r = omega arith in
+      let here : r < 32 = subst (λ (j : ℕ). j < 32) begin x in
+      rw (reg r here, reg (r + (1 + i)) z) refl
+
+  pub number_test_fits : (is_free : Bool) (p : Location) (n : ℕ) → BytesFit sizes p n → Fit sizes (number_test is_free p n)
+  number_test_fits false p n x = test_fits sizes p n x
+  number_test_fits true (InMemory o k) n x = test_fits sizes (InMemory o k) n x
+  number_test_fits true (InRegisters r) zero x = test_fits sizes (InRegisters r) zero x
+  number_test_fits true (InRegisters r) (suc zero) x = test_fits sizes (InRegisters r) (suc zero) x
+  number_test_fits true (InRegisters r) (suc (suc n)) x =
+      rw (several_there r n)
+      (chained (fits sizes) (join_there r) (suc n) (λ i l. join_there_fits r i (x 0 (omega arith)) (x (1 + i) (omega (arith, l)))))
+
+  pub bounded_fits : (is_free : Bool) (b : Bound) (p : Location) (n : ℕ) → BytesFit sizes p n → Fit sizes (bounded_code is_free b p n)
+  bounded_fits is_free b p n x = by_test (b.number == 0 && is_equality b.relation) where
+    by_test : (t : Bool) → Fit sizes (if t then number_test is_free p n else compared_with_code p b.number n)
+    by_test true = number_test_fits is_free p n x
     by_test false = compared_with_fits p b.number n x
 
   pub truth_by_fits : (to : Location) (b : Bound) (p : Location) (n : ℕ) → BytesFit sizes p n → ByteFits sizes to 0
       → Fit sizes (truth_by_code (truth_register to) b p n)
   truth_by_fits to b p n x z =
-      joined (fits sizes) (bounded_code b p n) (truth_in_code (truth_register to) b.relation b.signed) (bounded_fits b p n x)
+      joined (fits sizes) (bounded_code false b p n) (truth_in_code (truth_register to) b.relation b.signed) (bounded_fits false b p n x)
       (truth_in_fits sizes to b.relation b.signed z)
 
 -- ---- words
@@ -189,10 +226,44 @@ changed_by_words laws BitXor p number n = omega arith
 pub compared_with_words : NumbersAreStraight → (p : Location) (number n : ℕ) → code_words (compared_with_code p number n) ≤ 4 * n
 compared_with_words laws p number n = (laws Subtract p number n).1.few_words
 
-pub bounded_words : NumbersAreStraight → ValuesHave → (b : Bound) (p : Location) (n : ℕ) → code_words (bounded_code b p n) ≤ 4 * n
-bounded_words laws values b p n = by_test n (b.number == 0 && is_equality b.relation)
+join_there_words : (r n : ℕ) → code_words (joined_there_code r n) ≤ n
+join_there_words r n = let few = chained_words (join_there r) n 1 (λ i. omega arith) in omega (arith, few)
+
+pub number_test_words : ValuesHave → (is_free : Bool) (p : Location) (n : ℕ) → code_words (number_test is_free p n) ≤ 1 + 3 * n
+number_test_words values false p n = (values p 0 0 n).1
+number_test_words values true (InMemory o k) n = (values (InMemory o k) 0 0 n).1
+number_test_words values true (InRegisters r) zero = (values (InRegisters r) 0 0 0).1
+number_test_words values true (InRegisters r) (suc zero) = (values (InRegisters r) 0 0 1).1
+number_test_words values true (InRegisters r) (suc (suc n)) =
+    let few = join_there_words r (suc n) in rw (several_there r n) (omega (arith, few))
+
+some_test_words : ValuesHave → (is_free : Bool) (p : Location) (n : ℕ) → code_words (number_test is_free p n) ≤ 4 * n
+some_test_words values false p zero = omega arith
+some_test_words values true (InMemory o k) zero = omega arith
+some_test_words values true (InRegisters r) zero = omega arith
+some_test_words values is_free p (suc n) = let few = number_test_words values is_free p (suc n) in omega (arith, few)
+
+pub bounded_words : NumbersAreStraight → ValuesHave → (is_free : Bool) (b : Bound) (p : Location) (n : ℕ)
+    → code_words (bounded_code is_free b p n) ≤ 4 * n
+bounded_words laws values is_free b p n = by_test (b.number == 0 && is_equality b.relation)
   where
-    by_test : (n : ℕ) (t : Bool) → code_words (if t then test_code p n else compared_with_code p b.number n) ≤ 4 * n
-    by_test zero true = omega arith
-    by_test (suc n) true = let few = (values p 0 0 (suc n)).1 in omega (arith, few)
-    by_test n false = compared_with_words laws p b.number n
+    by_test : (t : Bool) → code_words (if t then number_test is_free p n else compared_with_code p b.number n) ≤ 4 * n
+    by_test true = some_test_words values is_free p n
+    by_test false = compared_with_words laws p b.number n
+
+-- ---- the words of a store to an object
+
+number_byte_words : (p : Location) (number i : ℕ) → code_words (number_byte_code p number i) ≤ 4
+number_byte_words p number i = by_repeat p (is_repeated number i)
+  where
+    by_repeat : (p : Location) (b : Bool)
+        → code_words (if b then work_stored p i ∷ [] else Plain (Ldi 30 (byte_of number i)) ∷ work_stored p i ∷ []) ≤ 4
+    by_repeat (InRegisters r) true = omega arith
+    by_repeat (InRegisters r) false = omega arith
+    by_repeat (InMemory o k) true = omega arith
+    by_repeat (InMemory o k) false = omega arith
+
+pub store_object_words : (number : Option ℤ) (p q : Location) (n : ℕ) → code_words (store_object_code number p q n) ≤ 4 * n
+store_object_words None p q n = copy_words_most p q n
+store_object_words (Some k) p q n =
+    chained_words (λ i. number_byte_code q (low_bytes 16 k) i) n 4 (number_byte_words q (low_bytes 16 k))

@@ -22,7 +22,7 @@ use Rattle.ec_ir.specs.Operations.{data_of}
 use Rattle.ec_ir.specs.Valid.{count, called_in}
 use Rattle.ec_select_operations.specs.declared.families.Told.{Told}
 use Rattle.ec_ir_known.specs.declared.known.RightNumber.{RightNumber}
-use Rattle.ec_select_operations.specs.Code.{Linkage, op_code, tells_next, ops_code}
+use Rattle.ec_select_operations.specs.Code.{Linkage, op_code, needed_behind, tells_next, ops_code}
 use Rattle.ec_select_functions.specs.Covered.{IsCovered, AreCovered}
 use Rattle.ec_select_operations.specs.Homes.{home}
 use Rattle.ec_select_functions.proofs.Cells.{UsesCells, functions_use}
@@ -269,9 +269,10 @@ module _ (core : Core) (p : PlainIrProgram) (valid : ValidWithCells p) (has : Ha
   code_places x f g e at told [] h u = refl
   code_places x f g e at told (i ∷ code) h u =
       let next = tells_next core (data_of p) (home (link f g).homes) at told i code in
-      let here = operation_places x f g e told next (at.known (i ∷ code)) (needs at code) i h.0 u.0 in
+      let need = needed_behind at.needed (needs at code) i in
+      let here = operation_places x f g e told next (at.known (i ∷ code)) need i h.0 u.0 in
       let rest = code_places x f g e at next code h.1 u.1 in
-      joined_count x (op_code (data_of p) (home (link f g).homes) (link f g) told next (at.known (i ∷ code)) (needs at code) i)
+      joined_count x (op_code (data_of p) (home (link f g).homes) (link f g) told next (at.known (i ∷ code)) need i)
       (ops_code (data_of p) (home (link f g).homes) (link f g) at next code) ∙ rw (here, rest) refl
 
   function_places : (x f : ℕ) (g : PlainIrFunction) → slice_get p.functions f ≡ Some g

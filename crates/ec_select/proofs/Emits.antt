@@ -188,7 +188,7 @@ module _ (p : PlainIrProgram) (valid : ValidWithCells p) (leaves : LeavesFillThe
     emits need (constant t n) code h v l = let m = h.most in (omega arith, omega arith)
     emits need (copy to from) code h v l = let m = h.2 in (omega arith, omega arith)
     emits need (load_object t o offset) code h v l = object_has o offset t.bytes h.1
-    emits need (store_object o offset t) code h v l = object_has o offset t.bytes h.1
+    emits need (store_object o offset t) code h v l = let m = h.0.most in (object_has o offset t.bytes h.1, omega (arith, m))
     emits need (binary_op op ty mode to a aty b bty) code h v l =
         binary_emits op to a b ty aty bty (wanted need to) h (omega arith)
     emits need (unary_op op ty mode to a) code h v l =

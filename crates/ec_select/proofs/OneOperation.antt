@@ -30,7 +30,7 @@ use Rattle.ec_ir.specs.Operations.{PlainIr, constant, copy, address, field, load
 use Rattle.ec_ir.specs.Operations.{store_object, binary_op, unary_op, conversion, label, jump, branch_zero}
 use Rattle.ec_ir.specs.Operations.{call_function, return_from, port_in, port_out, load_cell, store_cell, cell_port}
 use Rattle.ec_ir.specs.Temporaries.{low_bytes}
-use Rattle.ec_select_bytes.specs.Values.{test_code, extend_code}
+use Rattle.ec_select_bytes.specs.Values.{extend_code}
 use Rattle.ec_select_numbers.specs.ByNumber.{put_code}
 use Rattle.ec_select_places.specs.Conversions.{embed_code}
 use Rattle.ec_select_places.specs.Distances.{elements_code}
@@ -72,6 +72,8 @@ use Rattle.ec_select_operations.specs.Code.{kept_bytes, waiting_location, save_p
 use Rattle.ec_select_operations.specs.Code.{save_code}
 use Rattle.ec_select_operations.specs.Code.{restore_code, taken_code, call_code, result_code, return_code}
 use Rattle.ec_select_operations.specs.Code.{flag_code, operator_code, tested_code, jump_code, kept_need, own_code, op_code, tells_next}
+use Rattle.ec_select_operations.specs.Code.{needed_behind}
+use Rattle.ec_select_operations.specs.Tests.{number_test}
 use Rattle.ec_select_operations.specs.Code.{called_code, linked_code, routine_used, result_wanted}
 use Rattle.ec_select_routines.specs.Codes.{first_place, second_place, call_with_one, call_with_two}
 use Rattle.ec_select_operations.specs.Code.{ops_code}
@@ -111,7 +113,9 @@ use Rattle.ec_ir_known.specs.declared.known.RightNumber.{RightNumber}
 use Rattle.ec_select_operations.specs.Needs.{Need, Facts, wanted, wanted_result, needs, is_fixed, number_taken}
 use Rattle.ec_select_operations.specs.Needs.{compared_bytes as bytes_compared, takes_count, number_known, moves_pointer}
 use Rattle.ec_select_operations.specs.Needs.{takes_known}
-use Rattle.ec_select.proofs.ByNumber.{put_fits, changed_by_fits, masked_fits, bounded_fits, truth_by_fits}
+use Rattle.ec_select.proofs.ByNumber.{put_fits, changed_by_fits, masked_fits, number_test_fits, bounded_fits}
+use Rattle.ec_select.proofs.ByNumber.{truth_by_fits, store_object_fits}
+use Rattle.ec_select_operations.specs.Stores.{store_object_code}
 use Rattle.ec_select_functions.proofs.Taken.{TakenNumber, as_known, no_number, HasNumber, number_or_none, ComparesSo}
 use Rattle.ec_select_functions.proofs.Taken.{compares, Joins, joins}
 use Rattle.ec_select_operations.specs.Places.{object_location}
@@ -125,7 +129,7 @@ use Rattle.ec_select.proofs.FixedTypes.{type_fixed, either_fixed, no_fixed, no_f
 use Rattle.ec_select.proofs.Fitting.{fits, Fit, joined, chained, passing, and_first, and_second, ByteFits, BytesFit}
 use Rattle.ec_select.proofs.Fitting.{registers_fit, fewer_fit, two_fit}
 use Rattle.ec_select.proofs.Pieces.{copy_fits, transfer_fits, operate_fits, compare_fits, relation_in_fits, made_fits}
-use Rattle.ec_select.proofs.Pieces.{constant_fits, test_fits}
+use Rattle.ec_select.proofs.Pieces.{constant_fits}
 use Rattle.ec_select.proofs.Pieces.{extend_fits}
 use Rattle.ec_select.proofs.Pieces.{complement_fits, negation_fits}
 use Rattle.ec_select.proofs.PointerItems.{added_there_fits, PointerItemLaws, fewer_places, few_related, addressed_fits, member_fits}
@@ -439,8 +443,9 @@ module _ (sizes : Sizes) where
             let i = subst (λ z. IsBinary z k.slots to a b ty aty bty) x.is h in
             let compared = bytes_compared (Some (as_known number)) a.bytes in
             let sign = compared_signed (Some (as_known number)) left in
-            rw x.is (bounded_fits sizes (bound_of x.relation x.exchanged sign compared (low_bytes 16 number.number)) (home k.homes a)
-            compared (low_home a compared i.left (compared_few (as_known number) a.bytes)))
+            rw x.is (bounded_fits sizes (same_location (home k.homes a) (home k.homes to))
+            (bound_of x.relation x.exchanged sign compared (low_bytes 16 number.number)) (home k.homes a) compared
+            (low_home a compared i.left (compared_few (as_known number) a.bytes)))
         by_number (inr (inr x)) None number =
             let i = (subst (λ z. IsBinary z k.slots to a b ty aty bty) x.is h).0 in
             let compared = bytes_compared (Some (as_known number)) a.bytes in
@@ -1179,22 +1184,26 @@ module _ (sizes : Sizes) where
       by_fit : (items : List AsmItem) → Fit sizes items → list_all q items ≡ true
       by_fit items h = passing sizes q passes items h
 
-      branch_passes : (t : Temp) (size l : ℕ) → HasHome k.slots t → size ≤ t.bytes → q (BranchTo true 1 l) ≡ true
-          → list_all q (branch_code (home k.homes t) size l) ≡ true
-      branch_passes t size l h few a =
-          joined q (test_code (home k.homes t) size) (BranchTo true 1 l ∷ [])
-          (by_fit (test_code (home k.homes t) size) (test_fits sizes (home k.homes t) size (low_home t size h few))) (rw a refl)
+      test_passes : (is_free : Bool) (t : Temp) (size : ℕ) → HasHome k.slots t → size ≤ t.bytes
+          → list_all q (number_test is_free (home k.homes t) size) ≡ true
+      test_passes is_free t size h few =
+          by_fit (number_test is_free (home k.homes t) size)
+          (number_test_fits sizes is_free (home k.homes t) size (low_home t size h few))
 
-      tested_passes : (told telling : Option Told) (t : Temp) (size l : ℕ) → HasHome k.slots t → size ≤ t.bytes
+      branch_passes : (is_free : Bool) (t : Temp) (size l : ℕ) → HasHome k.slots t → size ≤ t.bytes → q (BranchTo true 1 l) ≡ true
+          → list_all q (branch_code is_free (home k.homes t) size l) ≡ true
+      branch_passes is_free t size l h few a =
+          joined q (number_test is_free (home k.homes t) size) (BranchTo true 1 l ∷ []) (test_passes is_free t size h few) (rw a refl)
+
+      tested_passes : (told telling : Option Told) (is_free : Bool) (t : Temp) (size l : ℕ) → HasHome k.slots t → size ≤ t.bytes
           → ((set : Bool) (flag : ℕ) → nat_lt flag 8 ≡ true → q (BranchTo set flag l) ≡ true)
-          → list_all q (tested_code told telling (home k.homes t) size l) ≡ true
-      tested_passes (Some (Operands r s)) None t size l h few a =
+          → list_all q (tested_code told telling is_free (home k.homes t) size l) ≡ true
+      tested_passes (Some (Operands r s)) None is_free t size l h few a =
           let one = a (not (is_set r)) (flag_of r s) (flag_small r s) in
           rw one refl
-      tested_passes (Some (Operands r s)) (Some behind) t size l h few a = refl
-      tested_passes told None t size l h few a = branch_passes t size l h few (a true 1 refl)
-      tested_passes told (Some behind) t size l h few a =
-          by_fit (test_code (home k.homes t) size) (test_fits sizes (home k.homes t) size (low_home t size h few))
+      tested_passes (Some (Operands r s)) (Some behind) is_free t size l h few a = refl
+      tested_passes told None is_free t size l h few a = branch_passes is_free t size l h few (a true 1 refl)
+      tested_passes told (Some behind) is_free t size l h few a = test_passes is_free t size h few
 
       jump_passes : (told : Option Told) (l : ℕ) → q (JumpTo l) ≡ true
           → ((set : Bool) (flag : ℕ) → nat_lt flag 8 ≡ true → q (BranchTo set flag l) ≡ true)
@@ -1256,8 +1265,8 @@ module _ (sizes : Sizes) where
           (λ e. load_index_fits (kept_in p o) o offset t h.1 (index_few telling t.bytes e))
           (object_fits (own_telling told telling) (kept_in p o) o offset t h.0 h.1))
       own_passes results f called told telling known need (store_object o offset t) h u a =
-          by_fit (copy_code (home k.homes t) (object_location p.objects o offset) t.bytes)
-          (copy_fits sizes (home k.homes t) (object_location p.objects o offset) t.bytes (at_home t h.0)
+          by_fit (store_object_code (number_known known) (home k.homes t) (object_location p.objects o offset) t.bytes)
+          (store_object_fits sizes (number_known known) (home k.homes t) (object_location p.objects o offset) t.bytes (at_home t h.0)
           (objects.scalars o offset t.bytes h.1))
       own_passes results f called told telling known need (binary_op op ty mode to x aty y bty) h u a =
           by_fit (own_code p (home k.homes) k told telling known need (binary_op op ty mode to x aty y bty))
@@ -1277,7 +1286,8 @@ module _ (sizes : Sizes) where
       own_passes results f called told telling known need (label l) h u a = rw a refl
       own_passes results f called told telling known need (jump l) h u a = jump_passes told (k.label_of l) a.0 a.1
       own_passes results f called told telling known need (branch_zero t l) h u a =
-          tested_passes told telling t (bytes_compared known t.bytes) (k.label_of l) h (compared_within known t.bytes) a
+          tested_passes told telling (wanted need t == 0) t (bytes_compared known t.bytes) (k.label_of l) h
+          (compared_within known t.bytes) a
       own_passes results f called told telling known need (call_function g to) h u a =
           call_passes results g to (wanted_result need to) (kept_need need (call_function g to)) h (wanted_few need to) a
       own_passes results f called told telling known need (return_from from) h u a = return_passes results f k.is_main from h
@@ -1415,7 +1425,8 @@ module _ (sizes : Sizes) where
       operations_pass results f called at told [] h u a = refl
       operations_pass results f called at told (i ∷ code) h u a =
           let next = tells_next k.core p (home k.homes) at told i code in
-          joined q (op_code p (home k.homes) k told next (at.known (i ∷ code)) (needs at code) i)
+          let need = needed_behind at.needed (needs at code) i in
+          joined q (op_code p (home k.homes) k told next (at.known (i ∷ code)) need i)
           (ops_code p (home k.homes) k at next code)
-          (operation_passes results f called told next (at.known (i ∷ code)) (needs at code) i h.0 u.0 a.0 a.1)
+          (operation_passes results f called told next (at.known (i ∷ code)) need i h.0 u.0 a.0 a.1)
           (operations_pass results f called at next code h.1 u.1 a.2)

@@ -37,7 +37,7 @@ use Rattle.ec_select_fixed.specs.FixedLaws.{FixedBinariesHave, FixedUnariesHave,
 use Rattle.ec_select_bytes.specs.Complements.{negation_code}
 use Rattle.ec_select_bytes.specs.ComplementLaws.{ComplementsHave}
 use Rattle.ec_select_bytes.specs.Laws.{ValuesHave}
-use Rattle.ec_select_bytes.specs.Values.{test_code, extend_code}
+use Rattle.ec_select_bytes.specs.Values.{extend_code}
 use Rattle.ec_select_order.specs.declared.relations.Relation.{Relation}
 use Rattle.ec_select_order.specs.declared.relations.Relation.TheVariants.{Less, NotLess, Equal, NotEqual}
 use Rattle.ec_select_order.specs.Laws.{RelationsHaveWords}
@@ -78,6 +78,7 @@ use Rattle.ec_select_operations.specs.declared.families.Told.TheVariants.{Operan
 use Rattle.ec_select_operations.specs.declared.homes.Homes.{Homes}
 use Rattle.ec_select_operations.specs.declared.bounds.Bound.{Bound}
 use Rattle.ec_select_operations.specs.Bounds.{bound_of, bounded_code, truth_by_code}
+use Rattle.ec_select_operations.specs.Tests.{number_test}
 use Rattle.ec_select_operations.specs.Code.{counted_by_code, leaves_bit, top_bit_code}
 use Rattle.ec_select_operations.specs.Code.{masked_code}
 use Rattle.ec_select_operations.specs.Code.{compared_signed, counted_code, same_location, transfer_code, move_code}
@@ -119,7 +120,7 @@ use Rattle.ec_select_numbers.specs.Laws.{NumbersAreStraight, PutsAreStraight}
 use Rattle.ec_select_operations.specs.Code.{taking_code, integer_binary, bytes_code, combined_by_code}
 use Rattle.ec_ir_known.specs.declared.known.RightNumber.{RightNumber}
 use Rattle.ec_select_operations.specs.Needs.{Need, wanted, wanted_result, is_fixed, number_taken, compared_bytes as bytes_compared}
-use Rattle.ec_select.proofs.ByNumber.{masked_words, bounded_words}
+use Rattle.ec_select.proofs.ByNumber.{masked_words, bounded_words, number_test_words}
 use Rattle.ec_select_operations.specs.Needs.{number_known, takes_known}
 use Rattle.ec_select.proofs.CombinedWords.{combined_by_words, combined_by_place}
 use Rattle.ec_select_operations.specs.Places.{object_location}
@@ -292,9 +293,9 @@ module _ (laws : WordLaws) where
 
   pub truth_by_words : (d : ℕ) (b : Bound) (p : Location) (n : ℕ) → code_words (truth_by_code d b p n) ≤ 3 + 4 * n
   truth_by_words d b p n =
-      let x = bounded_words laws.numbers laws.values b p n in
+      let x = bounded_words laws.numbers laws.values false b p n in
       let y = truth_in_words d b.relation b.signed in
-      omega (arith, joined_words (bounded_code b p n) (truth_in_code d b.relation b.signed), x, y)
+      omega (arith, joined_words (bounded_code false b p n) (truth_in_code d b.relation b.signed), x, y)
 
   fewer_bytes : (up : Bool) (bytes n : ℕ) → n ≤ bytes → shifted_bytes up bytes n ≤ bytes
   fewer_bytes true bytes n l = l
@@ -516,13 +517,13 @@ module _ (laws : WordLaws) where
           let w = combined_by_place laws.numbers o (home h a) (home h to) number n
           (λ m. brought_words h to a m (same q) j.left_bytes) in omega (arith, w, l)) j.signed j.result_type
 
-      by_flag : HasHome slots a → (s : Bool) → aty ≡ integer s a.bytes → is_bitwise op ≡ false → (bound : Bound) (compared : ℕ)
-          → compared ≤ a.bytes → code_words (bounded_code bound (home h a) compared) ≤ binary_words op ty aty bty
-      by_flag ia s e q bound compared few =
+      by_flag : HasHome slots a → (s : Bool) → aty ≡ integer s a.bytes → is_bitwise op ≡ false → (is_free : Bool) (bound : Bound)
+          (compared : ℕ) → compared ≤ a.bytes → code_words (bounded_code is_free bound (home h a) compared) ≤ binary_words op ty aty bty
+      by_flag ia s e q is_free bound compared few =
           let y = other_row op ty aty bty q in
           let x = second_within ty aty bty s a.bytes e in
-          let z = bounded_words laws.numbers laws.values bound (home h a) compared in
-          let w = within (code_words (bounded_code bound (home h a) compared)) (widest (ty ∷ aty ∷ bty ∷ []))
+          let z = bounded_words laws.numbers laws.values is_free bound (home h a) compared in
+          let w = within (code_words (bounded_code is_free bound (home h a) compared)) (widest (ty ∷ aty ∷ bty ∷ []))
           (omega (arith, x, z, few)) (some_within ty aty bty) in
           omega (arith, y, w)
 
@@ -595,7 +596,7 @@ module _ (laws : WordLaws) where
           let j = subst (λ z. IsBinary z slots to a b ty aty bty) x.is i in
           let compared = bytes_compared (Some (as_known number)) a.bytes in
           let sign = compared_signed (Some (as_known number)) left in
-          rw x.is (by_flag j.left j.signed j.left_type (no_bits x)
+          rw x.is (by_flag j.left j.signed j.left_type (no_bits x) (same_location (home h a) (home h to))
           (bound_of x.relation x.exchanged sign compared (low_bytes 16 number.number)) compared
           (compared_few (as_known number) a.bytes))
       by_number (inr (inr x)) None number =
@@ -1157,17 +1158,17 @@ module _ (laws : WordLaws) where
       (pointer_converted ty aty i.pointer i.types).no_fixed
       (own_words (is_pointer aty) pointed usual most i.pointer (pointer_conversion_most slots h to a ty aty n i l))
 
-  branch_most : (p : Location) (bytes l : ℕ) → code_words (branch_code p bytes l) ≤ 6 + 3 * bytes
-  branch_most p bytes l =
-      let x = (laws.values p 0 bytes bytes).1 in
-      omega (arith, joined_words (test_code p bytes) (BranchTo true 1 l ∷ []), x)
+  branch_most : (is_free : Bool) (p : Location) (bytes l : ℕ) → code_words (branch_code is_free p bytes l) ≤ 6 + 3 * bytes
+  branch_most is_free p bytes l =
+      let x = number_test_words laws.values is_free p bytes in
+      omega (arith, joined_words (number_test is_free p bytes) (BranchTo true 1 l ∷ []), x)
 
-  pub tested_most : (told telling : Option Told) (p : Location) (bytes l : ℕ)
-      → code_words (tested_code told telling p bytes l) ≤ 6 + 3 * bytes
-  tested_most (Some (Operands r s)) None p bytes l = omega arith
-  tested_most (Some (Operands r s)) (Some behind) p bytes l = omega arith
-  tested_most told None p bytes l = branch_most p bytes l
-  tested_most told (Some behind) p bytes l = let x = (laws.values p 0 bytes bytes).1 in omega (arith, x)
+  pub tested_most : (told telling : Option Told) (is_free : Bool) (p : Location) (bytes l : ℕ)
+      → code_words (tested_code told telling is_free p bytes l) ≤ 6 + 3 * bytes
+  tested_most (Some (Operands r s)) None is_free p bytes l = omega arith
+  tested_most (Some (Operands r s)) (Some behind) is_free p bytes l = omega arith
+  tested_most told None is_free p bytes l = branch_most is_free p bytes l
+  tested_most told (Some behind) is_free p bytes l = let x = number_test_words laws.values is_free p bytes in omega (arith, x)
 
   pub jump_most : (told : Option Told) (l : ℕ) → code_words (jump_code told l) ≤ 3
   jump_most (Some (Operands r s)) l = omega arith

@@ -231,7 +231,7 @@ module _ (laws : WordLaws) where
           unless_none n (11 + 5 * bytes + 2 * n) (own ++ truth) (omega (arith, joined_words own truth, x, y, few))
       known (Some z) (Some told) =
           let bound = bound_of r exchanged (compared_signed (Some k) left) compared (low_bytes 16 z) in
-          let x = bounded_words laws.numbers laws.values bound p compared in
+          let x = bounded_words laws.numbers laws.values (same_location p to) bound p compared in
           let few = compared_few k bytes in
           omega (arith, x, few)
 

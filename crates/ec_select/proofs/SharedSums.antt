@@ -18,7 +18,7 @@ use Rattle.ec_ir.specs.Costs.{op_words, code_words as operations_words}
 use Rattle.ec_ir_shapes.specs.Costs.{shape_code, own_words, op_shapes}
 use Rattle.ec_select_operations.specs.declared.families.Told.{Told}
 use Rattle.ec_select_operations.specs.Code.{Linkage, own_code, called_code, linked_code, routine_used, op_code, ops_code, tells_next}
-use Rattle.ec_select_operations.specs.Code.{result_wanted, kept_need, wanted_behind, wanted_bytes}
+use Rattle.ec_select_operations.specs.Code.{result_wanted, kept_need, needed_behind, wanted_behind, wanted_bytes}
 use Rattle.ec_select_operations.specs.Emitted.{linkage}
 use Rattle.ec_select_operations.specs.Homes.{home}
 use Rattle.ec_select_operations.specs.Needs.{Need, facts_of, needs, nothing, takes_count}
@@ -55,6 +55,13 @@ behind_is at need (binary_op op ty mode to a aty b bty) s e = refl
 behind_is at need (unary_op op ty mode to a) s e = refl
 behind_is at need (conversion to ty mode a aty) s e = refl
 behind_is at need i s e = absurd cc
+
+-- what is needed behind one is what is needed before what stands there
+needed_is : (at : ℕ → Need) (need : Need) (i : PlainIr) (s : Shape) → op_shapes i ≡ s ∷ [] → needed_behind at need i ≡ need
+needed_is at need (binary_op op ty mode to a aty b bty) s e = refl
+needed_is at need (unary_op op ty mode to a) s e = refl
+needed_is at need (conversion to ty mode a aty) s e = refl
+needed_is at need i s e = absurd cc
 
 same_routine : (l : ℕ) (i : PlainIr) (s : Shape) → op_shapes i ≡ s ∷ [] → routine_for l i ≡ routine_for l (operation_of (shape_of i))
 same_routine l (binary_op op ty mode to a aty b bty) s e = refl
@@ -250,7 +257,7 @@ module _ (laws : WordLaws) (routine_laws : RoutineLaws) (p : PlainProgram) (resu
       → code_words (own_code p (home k.homes) k before telling known need i) ≤ alone_words i) where
     one_few : (at : ℕ → Need) (before telling : Option Told) (known : Option RightNumber) (need : Need) (i : PlainIr)
         → IsCovered p results f called k.slots i → IsInPlace i → HasTypeBytes i → HasOperandTypes i
-        → code_words (op_code p (home k.homes) k before telling known need i)
+        → code_words (op_code p (home k.homes) k before telling known (needed_behind at need i) i)
         ≤ alone_words i + total (cost us) (uses_of k.core p k.homes known (wanted_behind at need i) i)
     one_few at before telling known need i h q b t = by_shape (op_shapes i) refl where
       n : ℕ
@@ -281,16 +288,18 @@ module _ (laws : WordLaws) (routine_laws : RoutineLaws) (p : PlainProgram) (resu
       at_most : (x y z : ℕ) → x ≡ y → y ≤ z → x ≤ z
       at_most x y z e h = omega (arith, e, h)
 
-      by_shape : (ss : List Shape) → op_shapes i ≡ ss → code_words (op_code p (home k.homes) k before telling known need i)
+      by_shape : (ss : List Shape) → op_shapes i ≡ ss
+          → code_words (op_code p (home k.homes) k before telling known (needed_behind at need i) i)
           ≤ alone_words i + total (cost us) (uses_of k.core p k.homes known (wanted_behind at need i) i)
       by_shape [] e =
-          let own = own_code p (home k.homes) k before telling known need i in
-          let calls = λ (l : ℕ). called_code (home k.homes) l (result_wanted need i) i in
+          let behind = needed_behind at need i in
+          let own = own_code p (home k.homes) k before telling known behind i in
+          let calls = λ (l : ℕ). called_code (home k.homes) l (result_wanted behind i) i in
           let most = alone_words i + total (cost us) (uses_of k.core p k.homes known (wanted_behind at need i) i) in
           subst (λ o. code_words (linked_code (routine_used known i o) calls own) ≤ most) (sym (unrouted (ap has_some e)))
           (unlinked (takes_count known i) calls own most
           (more (code_words own) (alone_words i) (total (cost us) (uses_of k.core p k.homes known (wanted_behind at need i) i))
-          (short before telling known need i h q b e)))
+          (short before telling known behind i h q b e)))
       by_shape (s ∷ []) e =
           let own = own_code p (home k.homes) k before telling known need i in
           let calls = λ (l : ℕ). called_code (home k.homes) l (result_wanted need i) i in
@@ -302,9 +311,12 @@ module _ (laws : WordLaws) (routine_laws : RoutineLaws) (p : PlainProgram) (resu
           (own_items k.core p k.homes known (result_wanted need i) i) (called_code (home k.homes) 0 (result_wanted need i) i)
           (stands_once us (shape_of i)) (routed (ap has_some e))
           (λ l. at_most (code_words (calls l)) call call (call_alike (home k.homes) l (result_wanted need i) i) (omega arith)) x in
-          subst (λ vs. code_words (op_code p (home k.homes) k before telling known need i) ≤ alone_words i + total (cost us) vs)
+          subst
+          (λ x. code_words (op_code p (home k.homes) k before telling known x i)
+          ≤ alone_words i + total (cost us) (uses_of k.core p k.homes known (wanted_behind at need i) i)) (sym (needed_is at need i s e))
+          (subst (λ vs. code_words (op_code p (home k.homes) k before telling known need i) ≤ alone_words i + total (cost us) vs)
           (sym (one_use p k known at need i s e))
-          (last (code_words (op_code p (home k.homes) k before telling known need i)) (cost us u) (alone_words i) few)
+          (last (code_words (op_code p (home k.homes) k before telling known need i)) (cost us u) (alone_words i) few))
       by_shape (s ∷ (r ∷ ss)) e = absurd (one_at_most i s r ss e)
 
     pub ops_few : (labels : ℕ → Need) (all : List PlainIr) (before : Option Told) (code : List PlainIr)
@@ -320,7 +332,7 @@ module _ (laws : WordLaws) (routine_laws : RoutineLaws) (p : PlainProgram) (resu
         let behind = uses_in k.core p k.homes (wanted_bytes at code) (numbers_left all code) code in
         let next = tells_next k.core p (home k.homes) at before i code in
         let m = wanted_behind at.needed (needs at code) i in
-        let here = op_code p (home k.homes) k before next known (needs at code) i in
+        let here = op_code p (home k.homes) k before next known (needed_behind at.needed (needs at code) i) i in
         let others = ops_code p (home k.homes) k at next code in
         sums (code_words here) (code_words others) (alone_words i) (total alone_words code)
         (total (cost us) (uses_of k.core p k.homes known m i))

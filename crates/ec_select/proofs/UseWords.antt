@@ -1,6 +1,6 @@
 -- The words of each operation's own code: at most what it counts by itself, or its shape for one use.
 use Rattle.std.proofs.Common.{◌≡◌, ◌⊎◌, ℕ, ◌+◌, ◌*◌, ◌≤◌, true, false, List, [], ◌∷◌, ◌++◌, refl, ap, arith}
-use Rattle.std.specs.Prelude.{⊤, ◌&&◌, Option, Some, None, option_map, max}
+use Rattle.std.specs.Prelude.{⊤, ◌==◌, ◌&&◌, Option, Some, None, option_map, max}
 use Rattle.std.specs.List.{AllByRecursion}
 use Rattle.std.proofs.lemmas.Bool.{and_parts}
 use Rattle.ec_asm.specs.Items.{code_words}
@@ -25,7 +25,7 @@ use Rattle.ec_select_operations.specs.Code.{object_code, Linkage, operation_code
 use Rattle.ec_select_operations.specs.Code.{is_signed, is_difference, offset_code, load_index_code, own_telling}
 use Rattle.ec_select_places.specs.Steps.{z_pair}
 use Rattle.ec_select_operations.specs.Homes.{home}
-use Rattle.ec_select_operations.specs.Needs.{Need, wanted, moves_pointer, compared_bytes as bytes_compared}
+use Rattle.ec_select_operations.specs.Needs.{Need, wanted, moves_pointer, compared_bytes as bytes_compared, number_known}
 use Rattle.ec_select_operations.specs.Places.{object_location}
 use Rattle.ec_select_operations.specs.Pointers.{kept_in, has_tables}
 use Rattle.ec_select_operations.specs.Ports.{cell_place}
@@ -40,6 +40,7 @@ use Rattle.ec_select.proofs.Indexed.{index_few, moves_pointers, kind_words, inde
 use Rattle.ec_select.proofs.OwnWords.{most_in, binary_own, indexed_row, unary_own, conversion_own}
 use Rattle.ec_select.proofs.PointerTypes.{made_bytes}
 use Rattle.ec_select.proofs.PortItems.{point_words, in_words_most, out_words_most, cell_in_words, cell_out_words}
+use Rattle.ec_select.proofs.ByNumber.{store_object_words}
 use Rattle.ec_select.proofs.Words.{copy_words_most}
 
 -- ---- what an operation may have
@@ -167,7 +168,8 @@ module _ (laws : WordLaws) (p : PlainProgram) (results : ℕ → ℕ) (f : ℕ) 
       (object_most laws (own_telling told telling) k.core (kept_in p o) p.objects o offset (home k.homes t) t.bytes some) in
       omega (arith, x)
   use_most told telling known need kept (store_object o offset t) h q b =
-      let x = copy_words_most (home k.homes t) (object_location p.objects o offset) t.bytes in omega (arith, x)
+      let x = store_object_words (number_known known) (home k.homes t) (object_location p.objects o offset) t.bytes in
+      omega (arith, x)
   use_most told telling known need kept (binary_op op ty mode to a aty c bty) h q b =
       let s = binary_shape op ty mode aty bty in
       let i = binary_op op ty mode to a aty c bty in
@@ -196,7 +198,7 @@ module _ (laws : WordLaws) (p : PlainProgram) (results : ℕ → ℕ) (f : ℕ) 
   use_most told telling known need kept (label l) h q b = omega arith
   use_most told telling known need kept (jump l) h q b = let x = jump_most laws told (k.label_of l) in omega (arith, x)
   use_most told telling known need kept (branch_zero t l) h q b =
-      let x = tested_most laws told telling (home k.homes t) (bytes_compared known t.bytes) (k.label_of l) in
+      let x = tested_most laws told telling (wanted need t == 0) (home k.homes t) (bytes_compared known t.bytes) (k.label_of l) in
       let few = compared_within known t.bytes in
       omega (arith, x, few)
   use_most told telling known need kept (call_function g to) h q b =

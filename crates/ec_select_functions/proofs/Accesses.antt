@@ -1,5 +1,5 @@
 -- Loads and stores of objects.
-use Rattle.std.proofs.Common.{◌≡◌, ◌≢◌, ℕ, zero, suc, ◌+◌, ◌/◌, ◌%◌, ◌^◌, ◌<◌, ◌≤◌, ⊎_elim, inl, inr, true, pos, List}
+use Rattle.std.proofs.Common.{◌≡◌, ◌≢◌, ℕ, zero, suc, ◌+◌, ◌-◌, ◌/◌, ◌%◌, ◌^◌, ◌<◌, ◌≤◌, ⊎_elim, inl, inr, true, pos, List}
 use Rattle.std.proofs.Common.{[]}
 use Rattle.std.proofs.Common.{◌∷◌, ◌++◌, Option, Some, None, refl, sym, ap, ◌∙◌, subst, arith, append-nil, append_assoc}
 use Rattle.std.specs.Prelude.{Bool, false, ◌==◌, if◌then◌else◌, drop, slice_get, slice_index, option_and_then}
@@ -35,7 +35,9 @@ use Rattle.ec_core.proofs.Filled.{leaves_fill_their_types}
 use Rattle.ec_ir.specs.declared.operations.Temp.{Temp}
 use Rattle.ec_ir.specs.Meaning.{is_kept, Mach, machine}
 use Rattle.ec_ir.specs.Temporaries.{Content, bits, points, content_of, with_temp, low_bytes}
+use Rattle.ec_select_bytes.specs.Values.{byte_of}
 use Rattle.ec_select_pointers.specs.AccessLaws.{each, Brings}
+use Rattle.ec_select_operations.specs.Stores.{store_number_code}
 use Rattle.ec_select_operations.specs.Homes.{HasHome}
 use Rattle.ec_select_functions.specs.Covered.{HasScalarAt}
 use Rattle.ec_select_places.specs.Steps.{z_pair}
@@ -49,6 +51,8 @@ use Rattle.ec_select_functions.proofs.Cells.{memory_of, same_objects, same_group
 use Rattle.ec_select_functions.proofs.Match.{wanted_most, kept_left, held_row, same_content, same_leaf, at_width}
 use Rattle.ec_select_functions.proofs.Match.{written_wide}
 use Rattle.ec_select_functions.proofs.Moves.{Frame, Wide, widened, row_kept_wide, numbers_kept, work_kept, copied, z_stands}
+use Rattle.ec_select_functions.proofs.Moves.{work_outside}
+use Rattle.ec_select_functions.proofs.Stores.{number_log, number_is_stored, byte_below}
 use Rattle.ec_select_functions.proofs.Wrapped.{low_below, low_of_number}
 
 -- ---- events
@@ -279,6 +283,25 @@ each_log make a (suc n) x byte h =
     let p = each_log make a n x byte (λ i l. h i (omega arith)) in
     let q = h n (omega arith) in
     rw (p, q) refl
+
+number_object : (b number n x : ℕ) → ((i : ℕ) → i < n → byte_of number i ≡ x / 256 ^ i % 256)
+    → number_log Object b number n ≡ byte_accesses ByteWrite b x n
+number_object b number zero x h = refl
+number_object b number (suc n) x h =
+    let p = number_object b number n x (λ i l. h i (omega arith)) in
+    let q = h n (omega arith) in
+    rw (p, q) refl
+
+quiet_number : (b number n : ℕ) → number_log Own b number n ≡ []
+quiet_number b number zero = refl
+quiet_number b number (suc n) = rw (quiet_number b number n) refl
+
+number_write_log : (storage : PlainStorage) (b number n x : ℕ) → ((i : ℕ) → i < n → byte_of number i ≡ x / 256 ^ i % 256)
+    → number_log (kind_in storage) b number n ≡ log_of (kind_in storage) ByteWrite b x n
+number_write_log (static inits) b number n x h = number_object b number n x h
+number_write_log (local g) b number n x h = number_object b number n x h
+number_write_log (param g) b number n x h = number_object b number n x h
+number_write_log (register first) b number n x h = quiet_number b number n
 
 -- ---- objects that changed
 
@@ -788,6 +811,31 @@ module _ (p : PlainProgram) (e : Env) (slots : ℕ) (home : Temp → Location) (
       subst (λ (i : ℕ). A need (machine m.temps (after_write l space u (worked c m.state))) (block e (copy_code (home t) to i) v)) size
       (stored l space need need0 m v v1 c u z mine more (widened v v1 b n frame) here numbers d.inputs d.safe
       (d.seen ∙ ap (λ f. v.seen ++ f) log))
+
+  -- by a number that its bytes hold, wherever they stand
+  pub number_store_matches : (l : ObjectLeaf p DataBank) (space : SpaceId) (need need0 : Need) (m : Mach) (v : View)
+      (number c : ℕ) (u : Value) → 1 ≤ l.bytes → (z : A need0 m v) → IsStanding l need0 m v z → ((i : ℕ) → need i ≤ need0 i)
+      → ((f : ℕ → ℕ) (a : ℕ) → ((j : ℕ) → j < l.bytes → f (a + j) ≡ byte_of number j) → HoldsLeaf p place f a l.bytes u)
+      → A need (machine m.temps (after_write l space u (worked c m.state)))
+      (block e (store_number_code (location_in l.declared.storage l.object l.at) number l.bytes) v)
+  number_store_matches l space need need0 m v number c u some z mine more holds =
+      let storage = l.declared.storage in
+      let b = place l.object + l.at in
+      let n = l.bytes in
+      let to = location_in storage l.object l.at in
+      let v1 = block e (store_number_code to number n) v in
+      let far : Outside b n 30 = work_outside b n (y.layout.leaves_work l) in
+      let d = number_is_stored e to n b number (kind_in storage) v (y.layout.leaves_at l) far (storage_held storage) in
+      let here : HoldsLeaf p place v1.at b n u = holds v1.at b d.there in
+      let held : AreHeld v1.at b n = λ j r. rw (d.there j r) (byte_below number j) in
+      let digit : (i : ℕ) → i < n → byte_of number i ≡ seen_number p place n (told u) / 256 ^ i % 256 =
+      λ i r. sym (d.there i r) ∙ told_digit p place v1.at b n u held here i r in
+      let log = number_write_log storage b number n (seen_number p place n (told u)) digit in
+      let frame : Frame v v1 b n = λ f g h j r. d.same f j r in
+      let work : v1.at 30 < 256 = rw (d.work (n - 1) (omega (arith, some))) (byte_below number (n - 1)) in
+      let numbers = numbers_kept v v1 b n z.bytes frame held work in
+      stored l space need need0 m v v1 c u z mine more (widened v v1 b n frame) here numbers d.inputs d.safe
+      (d.seen ∙ ap (λ f. v.seen ++ f) log)
 
   -- by code that brings its bytes to an address
   pub store_brings : (l : ObjectLeaf p DataBank) (space : SpaceId) (t : Temp) (need need0 : Need) (m : Mach) (v w : View)

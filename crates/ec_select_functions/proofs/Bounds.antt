@@ -7,15 +7,12 @@ use Rattle.ec_asm.specs.declared.pieces.Location.{Location}
 use Rattle.ec_asm.specs.View.{View}
 use Rattle.ec_asm.specs.Change.{Env, Own, flag_at}
 use Rattle.ec_asm.specs.Items.{HasAt, block, code_steps, all_straight}
-use Rattle.ec_asm.specs.Pieces.{StandsFrom, Outside, KeepsAll, value}
+use Rattle.ec_asm.specs.Pieces.{StandsFrom, Outside, value}
 use Rattle.ec_asm.specs.PieceLaws.{HoldsNumbers}
 use Rattle.ec_asm.proofs.Hoare.{has_parts, block_goes, goes_on_to}
 use Rattle.ec_asm.proofs.Numbers.{pow_pos}
 use Rattle.ec_core.specs.Plain.{PlainProgram}
 use Rattle.ec_ir.specs.declared.operations.Temp.{Temp}
-use Rattle.ec_select_bytes.specs.Values.{test_code}
-use Rattle.ec_select_bytes.proofs.Straight.{values_are_straight, values_take}
-use Rattle.ec_select_bytes.proofs.Tests.{tests_keep, tests_tell_zero}
 use Rattle.ec_select_numbers.specs.declared.operators.ByNumber.TheVariants.{Subtract}
 use Rattle.ec_select_numbers.specs.ByNumber.{compared_code}
 use Rattle.ec_select_numbers.specs.Laws.{KeepsOthers, ComparesWith}
@@ -27,11 +24,13 @@ use Rattle.ec_select_operations.specs.declared.bounds.Bound.{Bound}
 use Rattle.ec_select_operations.specs.declared.families.Told.TheVariants.{Operands}
 use Rattle.ec_select_operations.specs.Bounds.{is_equality, bounded_code, truth_by_code}
 use Rattle.ec_select_operations.specs.Homes.{HasHome}
+use Rattle.ec_select_operations.specs.Tests.{number_test}
 use Rattle.ec_select_functions.proofs.Computed.{stand}
+use Rattle.ec_select_functions.proofs.Joins.{changed_bytes, number_tested, test_form}
 use Rattle.ec_select_functions.proofs.Moves.{work_outside, narrower}
 use Rattle.ec_select_functions.proofs.Related.{TellsTo, tells_to}
 use Rattle.ec_select_functions.proofs.Setting.{Setting}
-use Rattle.ec_select_functions.proofs.Tested.{TellsTruth, test_some, comparison_some}
+use Rattle.ec_select_functions.proofs.Tested.{TellsTruth, comparison_some}
 use Rattle.ec_select_functions.proofs.Truth.{bit_is, not_not}
 use Rattle.ec_select_functions.proofs.Wrapped.{kept_below}
 
@@ -56,11 +55,11 @@ flag_tells r signed truth v q = record {
 
 -- ---- what a comparison leaves
 
--- the flag of a relation tells whether a number of n + 1 bytes stands so to a known one, and all else is kept
-pub record Relates (b : Bound) (n a : ℕ) (v w : View) : Type 0 where
+-- the flag of a relation tells whether a number of n + 1 bytes stands so to a known one, and all else is kept but so many bytes
+pub record Relates (b : Bound) (n a changed : ℕ) (v w : View) : Type 0 where
   pub flag : flag_at w.flags (flag_of b.relation b.signed)
       ≡ from_bool (flag_bit b.relation (stand_so b.relation b.signed (suc n) (value v.at a (suc n)) (b.number % 256 ^ suc n)))
-  pub keeps : KeepsOthers v w a 0
+  pub keeps : KeepsOthers v w a changed
 
 module _ (e : Env) (q : Location) (number n a : ℕ) (v w : View) (c : ComparesWith e q number n a v w) where
   abbrev left : ℕ
@@ -90,48 +89,48 @@ flag_by_test Equal signed n x z w q zero f = f ∙ ap (λ k. from_bool (x == k))
 flag_by_test NotEqual signed n x z w q zero f =
     f ∙ ap (λ k. from_bool (x == k)) (sym zero) ∙ ap from_bool (sym (not_not (x == z)))
 
-all_kept : (v w : View) (a : ℕ) → HoldsNumbers v → KeepsAll v w → KeepsOthers v w a 0
-all_kept v w a h k = record {
-  same = λ i d g z o. k.same i d g;
-  bytes = λ i u. rw (k.same i (omega arith) (omega arith)) (h i u);
+more_changed : (v w : View) (a n : ℕ) → KeepsOthers v w a 0 → KeepsOthers v w a n
+more_changed v w a n k = record {
+  same = λ i d g z o. k.same i d g z (λ u. omega arith);
+  bytes = k.bytes;
   inputs = k.inputs;
   safe = k.safe;
   seen = k.seen;
 }
 
 -- the code is straight, and has some steps, but few
-pub record IsShort (b : Bound) (q : Location) (n : ℕ) : Type 0 where
-  pub straight : all_straight (bounded_code b q (suc n)) ≡ true
-  pub some : 1 ≤ code_steps (bounded_code b q (suc n))
-  pub few : code_steps (bounded_code b q (suc n)) ≤ 3 * suc n
+pub record IsShort (is_free : Bool) (b : Bound) (q : Location) (n : ℕ) : Type 0 where
+  pub straight : all_straight (bounded_code is_free b q (suc n)) ≡ true
+  pub some : 1 ≤ code_steps (bounded_code is_free b q (suc n))
+  pub few : code_steps (bounded_code is_free b q (suc n)) ≤ 3 * suc n
 
 -- ---- temporaries
 
 module _ (p : PlainProgram) (e : Env) (slots : ℕ) (home : Temp → Location) (base : Temp → ℕ) (place : ℕ → ℕ)
     (y : Setting p e slots home base place) where
-  pub bounded_form : (b : Bound) (q : Location) (n : ℕ) → IsShort b q n
-  bounded_form b q n = record {
+  pub bounded_form : (is_free : Bool) (b : Bound) (q : Location) (n : ℕ) → IsShort is_free b q n
+  bounded_form is_free b q n = record {
     straight = by_straight (b.number == 0 && is_equality b.relation);
     some = by_some (b.number == 0 && is_equality b.relation);
     few = by_few (b.number == 0 && is_equality b.relation);
   }
     where
-      by_straight : (x : Bool) → all_straight (if x then test_code q (suc n) else compared_code q b.number (suc n)) ≡ true
-      by_straight true = (values_are_straight q 0 0 (suc n)).1
+      by_straight : (x : Bool) → all_straight (if x then number_test is_free q (suc n) else compared_code q b.number (suc n)) ≡ true
+      by_straight true = (test_form is_free q (suc n)).straight
       by_straight false = (y.numbers.straight Subtract q b.number (suc n)).1.is_straight
 
-      by_some : (x : Bool) → 1 ≤ code_steps (if x then test_code q (suc n) else compared_code q b.number (suc n))
-      by_some true = test_some q (suc n) (omega arith)
+      by_some : (x : Bool) → 1 ≤ code_steps (if x then number_test is_free q (suc n) else compared_code q b.number (suc n))
+      by_some true = (test_form is_free q (suc n)).some (omega arith)
       by_some false = comparison_some q b.number n
 
-      by_few : (x : Bool) → code_steps (if x then test_code q (suc n) else compared_code q b.number (suc n)) ≤ 3 * suc n
-      by_few true = let few = (values_take q 0 0 (suc n)).1 in omega (arith, few)
+      by_few : (x : Bool) → code_steps (if x then number_test is_free q (suc n) else compared_code q b.number (suc n)) ≤ 3 * suc n
+      by_few true = let few = (test_form is_free q (suc n)).few in omega (arith, few)
       by_few false = (y.numbers.straight Subtract q b.number (suc n)).1.few_steps
 
   -- the bytes of a temporary are compared
-  pub temp_relates : (b : Bound) (t : Temp) (n : ℕ) (v : View) → HasHome slots t → suc n ≤ t.bytes → HoldsNumbers v
-      → Relates b n (base t) v (block e (bounded_code b (home t) (suc n)) v)
-  temp_relates b t n v it l h = by_test (b.number == 0 && is_equality b.relation) refl
+  pub temp_relates : (is_free : Bool) (b : Bound) (t : Temp) (n : ℕ) (v : View) → HasHome slots t → suc n ≤ t.bytes → HoldsNumbers v
+      → Relates b n (base t) (changed_bytes is_free) v (block e (bounded_code is_free b (home t) (suc n)) v)
+  temp_relates is_free b t n v it l h = by_test (b.number == 0 && is_equality b.relation) refl
     where
       stands : StandsFrom e (home t) (suc n) (base t) Own
       stands = stand p e slots home base place y t (suc n) it l
@@ -140,20 +139,25 @@ module _ (p : PlainProgram) (e : Env) (slots : ℕ) (home : Temp → Location) (
       outside = narrower (base t) t.bytes (suc n) 30 l (work_outside (base t) t.bytes (y.layout.temps_work t it))
 
       by_test : (x : Bool) → (b.number == 0 && is_equality b.relation) ≡ x
-          → Relates b n (base t) v (block e (if x then test_code (home t) (suc n) else compared_code (home t) b.number (suc n)) v)
+          → Relates b n (base t) (changed_bytes is_free) v
+          (block e (if x then number_test is_free (home t) (suc n) else compared_code (home t) b.number (suc n)) v)
       by_test false q =
           let w = block e (compared_code (home t) b.number (suc n)) v in
           let c = y.numbers.compared e (home t) b.number n (base t) v stands outside h in
-          record { flag = flag_by_number e (home t) b.number n (base t) v w c b.relation b.signed; keeps = c.keeps }
+          record {
+            flag = flag_by_number e (home t) b.number n (base t) v w c b.relation b.signed;
+            keeps = more_changed v w (base t) (changed_bytes is_free) c.keeps;
+          }
       by_test true q =
-          let w = block e (test_code (home t) (suc n)) v in
+          let w = block e (number_test is_free (home t) (suc n)) v in
+          let tests = number_tested is_free e (home t) (suc n) (base t) v (omega arith) stands h in
           let parts = and_parts (b.number == 0) (is_equality b.relation) q in
           let zero : b.number % 256 ^ suc n ≡ 0 =
           ap (λ k. k % 256 ^ suc n) (eqb-true b.number 0 parts.0) ∙ kept_below 0 (256 ^ suc n) (pow_pos (suc n)) in
           record {
             flag = flag_by_test b.relation b.signed (suc n) (value v.at (base t) (suc n)) (b.number % 256 ^ suc n) w parts.1 zero
-                (tests_tell_zero e (home t) n (base t) v stands h);
-            keeps = all_kept v w (base t) h (tests_keep e (home t) (suc n) (base t) v stands h);
+                tests.zero_is;
+            keeps = tests.keeps;
           }
 
   -- and the truth value is told in a register
@@ -162,12 +166,12 @@ module _ (p : PlainProgram) (e : Env) (slots : ℕ) (home : Temp → Location) (
       → TellsTo d e (3 + 3 * suc n) pc v end
       (stand_so b.relation b.signed (suc n) (value v.at (base t) (suc n)) (b.number % 256 ^ suc n))
   temp_tells d b t n pc end v it l h stands =
-      let compared = bounded_code b (home t) (suc n) in
+      let compared = bounded_code false b (home t) (suc n) in
       let truth = stand_so b.relation b.signed (suc n) (value v.at (base t) (suc n)) (b.number % 256 ^ suc n) in
       let s = has_parts e compared (truth_in_code d b.relation b.signed) pc end stands in
       let v1 = block e compared v in
-      let x = temp_relates b t n v it l h in
-      let form = bounded_form b (home t) n in
+      let x = temp_relates false b t n v it l h in
+      let form = bounded_form false b (home t) n in
       let few = form.few in
       let first = block_goes e compared pc s.0 v form.straight s.1 in
       let k = tells_to d e 3 s.0 v1 end truth x.keeps.bytes (truths_are_told_in d b.relation b.signed truth e s.0 end v1 x.flag s.2) in

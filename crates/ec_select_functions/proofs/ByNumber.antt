@@ -24,7 +24,7 @@ use Rattle.ec_fx.specs.declared.formats.FxKind.{FxKind}
 use Rattle.ec_core.specs.State.{worked}
 use Rattle.ec_ir.specs.declared.operations.Temp.{Temp}
 use Rattle.ec_ir.specs.Meaning.{Mach, machine}
-use Rattle.ec_ir.specs.Temporaries.{bits, points, Held, Temps, with_content, low_bytes}
+use Rattle.ec_ir.specs.Temporaries.{Content, bits, points, Held, Temps, with_content, low_bytes}
 use Rattle.ec_ir_known.specs.declared.known.KnownNumber.{KnownNumber}
 use Rattle.ec_ir_known.specs.declared.known.RightNumber.{RightNumber}
 use Rattle.ec_ir_known.specs.Known.{Known, of_bytes, number_in, is_any, is_byte_of, is_byte, fits_byte, fits_second, is_wide_type, right_of}
@@ -228,6 +228,43 @@ number_there known alone a b bty k temps q held low s = by_number (number_in kno
         let no : None ≡ Some k = sym (none ((alone || fits_byte known a) && fits_second known b bty)) ∙ q in absurd cc
     by_number (Some n) e q =
         let is : Some n ≡ Some k = q in number_held (known b.at) (temps b.at) b.bytes low k first (e ∙ is) s
+
+-- a pointer is no known number
+number_points : (o : Option KnownNumber) (h : Option Held) (bytes : ℕ) (q : ObjectPointer) (k : ℤ) → is_held o h ≡ true
+    → of_bytes bytes o ≡ Some k → h ≢ Some (record { bytes = bytes; content = points q })
+number_points None h bytes q k held r s = absurd cc
+number_points (Some n) h bytes q k held r s = by_size (n.bytes == bytes) r
+  where
+    t : is_held (Some n) (Some (record { bytes = bytes; content = points q })) ≡ true
+    t = subst (λ (x : Option Held). is_held (Some n) x ≡ true) s held
+
+    by_size : (x : Bool) → (if x then n.number else None) ≡ Some k → ⊥
+    by_size false r = let no : None ≡ Some k = r in absurd cc
+    by_size true r =
+        let parts = and_parts (bytes == n.bytes) (are_bits n.number n.width n.bytes (points q)) t in
+        let no : are_bits (Some k) n.width n.bytes (points q) ≡ true =
+        subst (λ (x : Option ℤ). are_bits x n.width n.bytes (points q) ≡ true) r parts.1 in
+        absurd cc
+
+-- a temporary that is stored holds the number that it is known to hold
+pub stored_held : (known : Known) (t : Temp) (k : ℤ) (temps : Temps)
+    → number_known (right_of false false false (number_in known t)) ≡ Some k → are_held known temps (t.at ∷ []) ≡ true
+    → (c : Content) → temps t.at ≡ Some (record { bytes = t.bytes; content = c }) → c ≡ bits (low_bytes t.bytes k)
+stored_held known t k temps q held c s = by_content c s
+  where
+    first : is_held (known t.at) (temps t.at) ≡ true
+    first = (and_parts (is_held (known t.at) (temps t.at)) true held).0
+
+    by_number : (o : Option ℤ) → number_known (right_of false false false o) ≡ Some k → o ≡ Some k
+    by_number None r = let no : None ≡ Some k = r in absurd cc
+    by_number (Some n) r = r
+
+    number : number_in known t ≡ Some k
+    number = by_number (number_in known t) q
+
+    by_content : (c : Content) → temps t.at ≡ Some (record { bytes = t.bytes; content = c }) → c ≡ bits (low_bytes t.bytes k)
+    by_content (bits low) s = ap bits (number_held (known t.at) (temps t.at) t.bytes low k first number s)
+    by_content (points p) s = absurd (number_points (known t.at) (temps t.at) t.bytes p k first number s)
 
 -- what is known of operands, of which no number is
 record IsOfBytes (known : Known) (alone : Bool) (a b : Temp) (bty : PlainType) (byte : Bool) : Type 0 where

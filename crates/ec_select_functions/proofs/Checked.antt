@@ -1,5 +1,5 @@
--- Runs that have no meaning as soon as an operand of a binary operator, or what a branch tests, does not hold what is
--- known of it.
+-- Runs that have no meaning as soon as an operand of a binary operator, or what a branch tests or a store takes, does not
+-- hold what is known of it.
 use Rattle.std.proofs.Common.{◌≡◌, ℕ, suc, Bool, true, false, List, [], ◌∷◌, refl}
 use Rattle.std.specs.Prelude.{if◌then◌else◌}
 use Rattle.ec_asm.specs.Change.{Env}
@@ -10,7 +10,7 @@ use Rattle.ec_core.specs.Plain.{PlainProgram}
 use Rattle.ec_core.specs.State.{Inputs, worked, Outcome, undefined}
 use Rattle.ec_ir.specs.Costs.{op_steps}
 use Rattle.ec_ir.specs.Meaning.{Mach, Frame, perform}
-use Rattle.ec_ir.specs.Operations.{PlainIr, binary_op, branch_zero, PlainIrFunction}
+use Rattle.ec_ir.specs.Operations.{PlainIr, binary_op, branch_zero, store_object, PlainIrFunction}
 use Rattle.ec_ir_known.specs.Known.{known_at}
 use Rattle.ec_ir_known.specs.Laws.{are_held, checked_from}
 use Rattle.ec_select_functions.proofs.Follow.{Follows}
@@ -19,6 +19,7 @@ use Rattle.ec_select_functions.proofs.Follow.{Follows}
 abbrev pub operand_places : List PlainIr → List ℕ
 operand_places (binary_op op ty mode to a aty b bty ∷ rest) = b.at ∷ a.at ∷ []
 operand_places (branch_zero t l ∷ rest) = t.at ∷ []
+operand_places (store_object o offset t ∷ rest) = t.at ∷ []
 operand_places code = []
 
 -- whether they hold what is known of them

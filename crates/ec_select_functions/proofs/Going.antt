@@ -19,6 +19,7 @@ use Rattle.ec_ir.specs.Operations.{PlainIr, PlainIrFunction}
 use Rattle.ec_ir.specs.Valid.{called_in}
 use Rattle.ec_select_operations.specs.declared.families.Told.{Told}
 use Rattle.ec_select_operations.specs.Code.{Linkage, own_code, called_code, linked_code, routine_used, result_wanted, tells_next, ops_code}
+use Rattle.ec_select_operations.specs.Code.{needed_behind}
 use Rattle.ec_select_operations.specs.Routines.{HasRoutineOf}
 use Rattle.ec_select_functions.specs.Covered.{IsCovered, AreCovered}
 use Rattle.ec_select_functions.specs.Laws.{CanCall}
@@ -83,12 +84,13 @@ module _ (p : PlainProgram) (functions : List PlainIrFunction) (e : Env) (slots 
 
   -- that of one at its use, which has been told nothing, tells nothing, and takes no number
   abbrev pub code_of : PlainIr → List PlainIr → List AsmItem
-  code_of i rest = own_code p home link None None None (needs at rest) i
+  code_of i rest = own_code p home link None None None (needed_behind labels (needs at rest) i) i
 
   -- an operation whose code stands at its use and which has been told so much, and those behind it
   abbrev pub own_told : Option Told → PlainIr → List PlainIr → List AsmItem
   own_told told i rest =
-      own_code p home link told (tells_next link.core p home at told i rest) (at.known (i ∷ rest)) (needs at rest) i
+      own_code p home link told (tells_next link.core p home at told i rest) (at.known (i ∷ rest))
+      (needed_behind labels (needs at rest) i) i
       ++ items_told (tells_next link.core p home at told i rest) rest
 
   abbrev pub own_items : PlainIr → List PlainIr → List AsmItem
@@ -100,8 +102,10 @@ module _ (p : PlainProgram) (functions : List PlainIrFunction) (e : Env) (slots 
       → HasAt e (first ++ own_told told i rest) pc end
   at_use_behind first told i rest pc linked none stands =
       subst (λ x. HasAt e (first ++ (x ++ items_told (tells_next link.core p home at told i rest) rest)) pc end)
-      (own_is (routine_used (at.known (i ∷ rest)) i (link.routine_of i)) (λ l. called_code home l (result_wanted (needs at rest) i) i)
-      (own_code p home link told (tells_next link.core p home at told i rest) (at.known (i ∷ rest)) (needs at rest) i)
+      (own_is (routine_used (at.known (i ∷ rest)) i (link.routine_of i))
+      (λ l. called_code home l (result_wanted (needed_behind labels (needs at rest) i) i) i)
+      (own_code p home link told (tells_next link.core p home at told i rest) (at.known (i ∷ rest))
+      (needed_behind labels (needs at rest) i) i)
       (λ l q. none l (linked l (used_is (takes_count (at.known (i ∷ rest)) i) (link.routine_of i) l q)).0)) stands
 
   -- the function runs: it is one of those that are active, which are main and those that were called, and its code is for the

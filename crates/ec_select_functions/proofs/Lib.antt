@@ -5,6 +5,7 @@ pub mod Counts
 pub mod OnIntegers
 pub mod OnWholes
 pub mod Taken
+pub mod Joins
 -- For this crate alone.
 mod Wrapped
 mod Transfers
@@ -14,6 +15,7 @@ mod Computed
 mod ByNumber
 mod Bounds
 mod Next
+mod Stores
 mod Accesses
 mod FixedRuns
 mod Limited

@@ -27,7 +27,7 @@ use Rattle.ec_select_operations.specs.Pointers.{address_number}
 use Rattle.ec_select_functions.proofs.Cells.{memory_of, same_objects, same_groups}
 use Rattle.ec_select_functions.proofs.Setting.{Setting}
 use Rattle.ec_select_functions.specs.Relation.{accesses, AreLeft, HoldsContent, HoldsLeaf, AreFrames, FramesStand, Matches}
-use Rattle.ec_select_functions.proofs.Moves.{Frame, Wide, widened, row_kept_wide}
+use Rattle.ec_select_functions.proofs.Moves.{Frame, Wide, Quiet, widened, row_kept_wide}
 
 -- ---- contents
 
@@ -273,7 +273,32 @@ module _ (p : PlainProgram) (e : Env) (slots : ℕ) (home : Temp → Location) (
     safe = safe;
   }
 
-  -- the same where of the work registers R30 alone has changed
+  -- a temporary has changed of which nothing is needed
+  pub free_changed : (t : Temp) (need : Need) (m : Mach) (v v1 : View) → HasHome slots t → wanted need t ≡ 0 → M need m v
+      → Wide v v1 (base t) t.bytes → HoldsNumbers v1 → Quiet v v1 → M need m v1
+  free_changed t need m v v1 it none z frame numbers quiet = record {
+    temps_hold = λ u h iu q w. same_content p place v.at v1.at (base u) (wanted need u) u.bytes h.content
+        (λ j l.
+        ⊎_elim
+        (λ (same : u.at ≡ t.at).
+        let needed : need u.at ≡ need t.at = ap need same in
+        let some = it.some in
+        absurd (omega (arith, needed, none, some, l)))
+        (λ other. temp_row t u v v1 it iu (λ r. other (sym r)) frame j (omega arith))
+        (cases_eq u.at t.at))
+        (z.temps_hold u h iu q w);
+    leaves_hold = λ l x u q w. same_leaf p place v.at v1.at (place l.object + l.at) l.bytes u (leaf_row t l v v1 it frame)
+        (z.leaves_hold l x u q w);
+    tables_hold = z.tables_hold;
+    frames = z.frames;
+    kept = λ k byte q w. aside_kept t v v1 it frame k q ∙ z.kept k byte q w;
+    bytes = numbers;
+    left = kept_left y.inputs m.state v v1 quiet.inputs z.left;
+    seen = quiet.seen ∙ z.seen;
+    safe = quiet.safe ∙ z.safe;
+  }
+
+  -- the same as where one was written, where of the work registers R30 alone has changed
   pub written : (t : Temp) (c : Content) (need need0 : Need) (m : Mach) (s1 : State) (v v1 : View) → HasHome slots t
       → M need0 m v → ((u : ℕ) → u ≢ t.at → need u ≤ need0 u) → Frame v v1 (base t) t.bytes
       → HoldsContent p place v1.at (base t) (wanted need t) t.bytes c → HoldsNumbers v1 → memory_of s1 ≡ memory_of m.state

@@ -1,7 +1,7 @@
 -- What the code of addresses, loads and stores does for its operation.
 use Rattle.std.proofs.Common.{◌≡◌, ◌≢◌, ℕ, suc, ◌+◌, ◌*◌, ◌%◌, ◌^◌, ◌<◌, ◌≤◌, Bool, true, false, pos, Ok, Err}
 use Rattle.std.proofs.Common.{List, [], ◌∷◌, ◌++◌, ◌&&◌, ⊎_elim, inl, inr, refl, sym, ap, ◌∙◌, subst, arith, Some, None}
-use Rattle.std.proofs.Common.{Option, zero, max, ◌⊎◌}
+use Rattle.std.proofs.Common.{Option, zero, max, ◌⊎◌, ℤ}
 use Rattle.std.specs.Prelude.{Result, ◌==◌, nat_le, if◌then◌else◌, slice_get, unwrap_or, option_map, Contains}
 use Rattle.std.specs.Prelude.{IsSomeAnd}
 use Rattle.std.specs.Prelude.{int_le, ◌+ℤ◌}
@@ -45,11 +45,13 @@ use Rattle.ec_ir.specs.Meaning.{put, put_named, is_among, is_kept, before_store,
 use Rattle.ec_ir.specs.Operations.{PlainIr, address, field, load_at, store_at, load_object, store_object}
 use Rattle.ec_ir.specs.Operations.{PlainIrFunction}
 use Rattle.ec_ir.specs.Valid.{IsParameterOf}
-use Rattle.ec_ir.specs.Temporaries.{Content, points, value_of_type, Held, Temps, content_of, held, with_temp, with_content}
+use Rattle.ec_ir_known.specs.declared.known.RightNumber.{RightNumber}
+use Rattle.ec_ir.specs.Temporaries.{low_bytes, bits, Content, points, value_of_type, Held, Temps, content_of, held, with_temp, with_content}
 use Rattle.ec_select_pointers.specs.Addresses.{pointer_bytes, address_code, field_code}
 use Rattle.ec_select_pointers.specs.AddressLaws.{HasPut, IsTag, pointer_number}
 use Rattle.ec_select_pointers.specs.Accesses.{load_table_code}
 use Rattle.ec_select_pointers.specs.Far.{far_address_code, field_far_code, load_far_table_code}
+use Rattle.ec_select_bytes.specs.Values.{byte_of}
 use Rattle.ec_select_places.specs.Steps.{z_pair}
 use Rattle.ec_select_operations.specs.declared.families.Told.TheVariants.{Index}
 use Rattle.ec_select_operations.specs.Code.{Linkage, is_far, is_whole_address, by_kind, banked_code, load_index_code, object_code, own_code}
@@ -57,6 +59,8 @@ use Rattle.ec_select_operations.specs.Code.{ops_code}
 use Rattle.ec_select_functions.specs.Covered.{HasScalarAt, IsStoredIn, IsAddress, IsInto}
 use Rattle.ec_select_operations.specs.Homes.{HasHome}
 use Rattle.ec_select_operations.specs.Needs.{Need, Facts, facts_of, needs, wanted, at_least, without, loaded_bytes}
+use Rattle.ec_select_operations.specs.Needs.{number_known, numbered, right_needed}
+use Rattle.ec_select_operations.specs.Stores.{store_object_code, store_number_code}
 use Rattle.ec_select_operations.specs.Places.{location_in, kind_in, object_location, ObjectLeaf}
 use Rattle.ec_select_operations.specs.Pointers.{home_of, kept_in, tag_of, tag_in, number_with, address_number}
 use Rattle.ec_select_operations.specs.Pointers.{has_tables, IsPointerSize, IsPointed, IsPointerIn}
@@ -65,6 +69,8 @@ use Rattle.ec_select_functions.specs.Standing.{address_end}
 use Rattle.ec_select_functions.specs.Relation.{AreFrames, Matches, HoldsLeaf, HoldsContent}
 use Rattle.ec_select_functions.proofs.Accesses.{leaf_with, home_is, recorded_work, table_kind, leaf_stands}
 use Rattle.ec_select_functions.proofs.Accesses.{after_read, after_write, load_matches, load_brings, store_matches}
+use Rattle.ec_select_functions.proofs.Accesses.{number_store_matches}
+use Rattle.ec_select_functions.proofs.Stores.{store_straight, store_steps, all_needed, stored_more}
 use Rattle.ec_select_functions.proofs.Accesses.{load_aside_matches, load_aside_brings}
 use Rattle.ec_select_functions.proofs.Accesses.{store_brings}
 use Rattle.ec_select_functions.proofs.Follow.{Follows, after}
@@ -83,6 +89,7 @@ use Rattle.ec_select_functions.proofs.Reached.{table_among, loads, leaf_there, l
 use Rattle.ec_select_functions.proofs.Reached.{access_to, Reaches, from_access}
 use Rattle.ec_select_functions.proofs.Reached.{from_pointer, from_read, from_put, from_no_access, leaves_z}
 use Rattle.ec_select_functions.proofs.Setting.{Setting, frames_active}
+use Rattle.ec_select_functions.proofs.Wrapped.{value_of_bytes, low_part, low_below}
 
 -- ---- pointers
 
@@ -1221,13 +1228,19 @@ module _ (p : PlainProgram) (functions : List PlainIrFunction) (e : Env) (slots 
           (from_read p e slots home base place y (bank_of has.declared.home) l space x s (load_on n rest t m) (suc n) m.state.work pc v
           (λ u j. at_value (bank_of has.declared.home) refl x u q j))
 
+  -- what is stored is the number that it is known to be
+  abbrev pub HoldsStored : Option ℤ → Temp → Temps → Type 0
+  HoldsStored number t temps =
+      (k : ℤ) → number ≡ Some k → (c : Content) → temps t.at ≡ Some (record { bytes = t.bytes; content = c })
+      → c ≡ bits (low_bytes t.bytes k)
+
   -- where what is kept has been settled
   store_named : (o offset : ℕ) (t : Temp) (rest : List PlainIr) (n pc : ℕ) (m : Mach) (v : View) → HasHome slots t
       → (has : HasScalarAt p o offset t.bytes) → HasAt e (own_items (store_object o offset t) rest) pc end
       → (h : M (needs at (store_object o offset t ∷ rest)) m v) → is_kept h.frames.functions has.declared.storage ≡ true
-      → Rest n rest
+      → HoldsStored (number_known (at.known (store_object o offset t ∷ rest))) t m.temps → Rest n rest
       → G (suc n) m.state.work pc v (next (put_named p o offset t m.temps (begun (store_object o offset t) m)) (store_on n rest m))
-  store_named o offset t rest n pc m v it has stands h mine f = at_object (slice_get m.state.objects o) refl
+  store_named o offset t rest n pc m v it has stands h mine known_there f = at_object (slice_get m.state.objects o) refl
     where
       i : PlainIr
       i = store_object o offset t
@@ -1241,32 +1254,85 @@ module _ (p : PlainProgram) (functions : List PlainIrFunction) (e : Env) (slots 
       space : SpaceId
       space = has.declared.space
 
-      stays : (b : ℕ) → need b ≤ at_least t.at t.bytes need b
-      stays b = least_other t.at t.bytes b need
+      known : Option RightNumber
+      known = at.known (i ∷ rest)
+
+      need0 : Need
+      need0 = needs at (i ∷ rest)
+
+      stays : (b : ℕ) → need b ≤ need0 b
+      stays b = stored_more (numbered known) t.at t.bytes need b
+
+      location : Location
+      location = object_location p.objects o offset
+
+      code : Option ℤ → List AsmItem
+      code x = store_object_code x (home t) location t.bytes
+
+      straight : (x : Option ℤ) → all_straight (code x) ≡ true
+      straight None = copy_straight (home t) location t.bytes
+      straight (Some k) = store_straight location (low_bytes 16 k) t.bytes
+
+      steps : (x : Option ℤ) → (t.bytes ≤ code_steps (code x)) × (code_steps (code x) ≤ 2 * t.bytes)
+      steps None = let take = copy_steps (home t) location t.bytes in (omega (arith, take.0), omega (arith, take.1))
+      steps (Some k) = store_steps location (low_bytes 16 k) t.bytes
 
       stored : (l : ObjectLeaf p DataBank) (c : Content) (u : Value) → l.object ≡ o → l.at ≡ offset → l.bytes ≡ t.bytes
           → l.declared ≡ has.declared → m.temps t.at ≡ Some (record { bytes = t.bytes; content = c }) → value_of_type p l.ty c ≡ Ok u
           → G (suc n) m.state.work pc v (store_on n rest m u (after_write p e slots home base place y l space u s))
-      stored l c u object begins size declared held typed =
-          let content = whole p e slots home base place y need m v t _ h it held refl in
-          let value_there : HoldsLeaf p place v.at (base t) t.bytes u =
-          typed_leaf p place (pointed_below p e slots home base place y) v.at (base t) t.bytes l.ty c u (l.size ∙ size) typed content in
-          let holds : HoldsLeaf p place v.at (base t) l.bytes u = subst (λ b. HoldsLeaf p place v.at (base t) b u) (sym size) value_there in
-          let m1 = machine m.temps (after_write p e slots home base place y l space u s) in
-          let to : location_in l.declared.storage l.object l.at ≡ object_location p.objects o offset =
-          sym (location_is DataBank l) ∙ ap (λ b. object_location p.objects b l.at) object
-          ∙ ap (λ b. object_location p.objects o b) begins in
-          let matches : M need m1 (block e (code_of i rest) v) =
-          subst (λ (z : Location). M need m1 (block e (copy_code (home t) z t.bytes) v)) to
-          (store_matches p e slots home base place y l space t need (at_least t.at t.bytes need) m v
-          (op_steps i) u it size h
-          (subst (λ (d : PlainObject). is_kept h.frames.functions d.storage ≡ true) (sym declared) mine) stays holds) in
-          let work : m1.state.work ≡ m.state.work + op_steps i = recorded_work l.declared.storage _ _ in
-          let take = copy_steps (home t) (object_location p.objects o offset) t.bytes in
+      stored l c u object begins size declared there typed =
+          let take = steps (number_known known) in
           let some = it.some in
-          passes i rest n (suc n) m.state.work m1.state.work pc v (R n rest m1) stands
-          (copy_straight (home t) (object_location p.objects o offset) t.bytes) (omega (arith, take.0, some)) (omega (arith, take.1, work))
-          (λ mid z. f mid m1 _ z matches)
+          goes_past p functions e slots home base place y labels all end results me link stack (code (number_known known)) (items rest)
+          n (suc n) m.state.work m1.state.work pc v (R n rest m1) stands (straight (number_known known))
+          (omega (arith, take.0, some)) (omega (arith, take.1, work))
+          (λ mid z. f mid m1 _ z (matches (number_known known) refl))
+        where
+          m1 : Mach
+          m1 = machine m.temps (after_write p e slots home base place y l space u s)
+
+          work : m1.state.work ≡ m.state.work + op_steps i
+          work = recorded_work l.declared.storage _ _
+
+          to : location_in l.declared.storage l.object l.at ≡ location
+          to =
+              sym (location_is DataBank l) ∙ ap (λ b. object_location p.objects b l.at) object
+              ∙ ap (λ b. object_location p.objects o b) begins
+
+          kept : is_kept h.frames.functions l.declared.storage ≡ true
+          kept = subst (λ (d : PlainObject). is_kept h.frames.functions d.storage ≡ true) (sym declared) mine
+
+          -- its value stands where content is that of the temporary
+          leaf : (g : ℕ → ℕ) (b : ℕ) (x : Content) → value_of_type p l.ty x ≡ Ok u → HoldsContent p place g b t.bytes t.bytes x
+              → HoldsLeaf p place g b l.bytes u
+          leaf g b x is row =
+              subst (λ n. HoldsLeaf p place g b n u) (sym size)
+              (typed_leaf p place (pointed_below p e slots home base place y) g b t.bytes l.ty x u (l.size ∙ size) is row)
+
+          number_leaf : (k : ℤ) → number_known known ≡ Some k → (g : ℕ → ℕ) (b : ℕ)
+              → ((j : ℕ) → j < l.bytes → g (b + j) ≡ byte_of (low_bytes 16 k) j) → HoldsLeaf p place g b l.bytes u
+          number_leaf k q g b row =
+              let number : value g b t.bytes ≡ low_bytes t.bytes k % 256 ^ t.bytes =
+              value_of_bytes g b t.bytes (low_bytes 16 k) (λ j r. row j (omega (arith, size, r)))
+              ∙ low_part k t.bytes 16 (let most = it.most in omega (arith, most)) ∙ sym (low_part k t.bytes t.bytes (omega arith)) in
+              leaf g b (bits (low_bytes t.bytes k))
+              (subst (λ (x : Content). value_of_type p l.ty x ≡ Ok u) (known_there k q c there) typed) (number, low_below t.bytes k)
+
+          matches : (x : Option ℤ) → number_known known ≡ x → M need m1 (block e (code x) v)
+          matches None q =
+              let needed : M (at_least t.at t.bytes need) m v =
+              subst (λ (r : Option RightNumber). M (right_needed r t.at t.bytes need) m v) (all_needed known q) h in
+              let content = whole p e slots home base place y need m v t _ needed it there refl in
+              subst (λ (z : Location). M need m1 (block e (copy_code (home t) z t.bytes) v)) to
+              (store_matches p e slots home base place y l space t need need0 m v (op_steps i) u it size h kept stays
+              (leaf v.at (base t) c typed content))
+          matches (Some k) q =
+              let some = it.some in
+              subst (λ (z : Location). M need m1 (block e (store_number_code z (low_bytes 16 k) t.bytes) v)) to
+              (subst (λ (n : ℕ). M need m1
+              (block e (store_number_code (location_in l.declared.storage l.object l.at) (low_bytes 16 k) n) v)) size
+              (number_store_matches p e slots home base place y l space need need0 m v (low_bytes 16 k) (op_steps i) u
+              (omega (arith, size, some)) h kept stays (number_leaf k q)))
 
       at_object : (z : Option ObjectState) → slice_get m.state.objects o ≡ z
           → G (suc n) m.state.work pc v (next (put p (object_access p None o offset s) t m.temps s) (store_on n rest m))
@@ -1287,9 +1353,10 @@ module _ (p : PlainProgram) (functions : List PlainIrFunction) (e : Env) (slots 
       → HasScalarAt p o offset t.bytes → IsSomeAnd (slice_get p.objects o) (λ d. IsStoredIn me y.called d.storage)
       → IsRunning p functions e slots home base place y labels all end results me link stack
       → HasAt e (own_items (store_object o offset t) rest) pc end
-      → M (needs at (store_object o offset t ∷ rest)) m v → Rest n rest
+      → M (needs at (store_object o offset t ∷ rest)) m v
+      → HoldsStored (number_known (at.known (store_object o offset t ∷ rest))) t m.temps → Rest n rest
       → G (suc n) m.state.work pc v (P n (store_object o offset t) rest m)
-  store_follows o offset t rest n pc m v it has named running stands h f =
+  store_follows o offset t rest n pc m v it has named running stands h known_there f =
       subst (λ (z : Option PlainObject). G (suc n) m.state.work pc v (stored_in (option_map (λ (d : PlainObject). d.storage) z)))
       (sym has.is_object) (by_storage has.declared.storage refl named_in)
     where
@@ -1327,18 +1394,18 @@ module _ (p : PlainProgram) (functions : List PlainIrFunction) (e : Env) (slots 
           → G (suc n) m.state.work pc v (stored_in (Some has.declared.storage))
       by_storage (static inits) q k =
           subst (λ z. G (suc n) m.state.work pc v (stored_in (Some z))) (sym q)
-          (store_named o offset t rest n pc m v it has stands h (rw q refl) f)
+          (store_named o offset t rest n pc m v it has stands h (rw q refl) known_there f)
       by_storage (local g) q k =
           subst (λ z. G (suc n) m.state.work pc v (stored_in (Some z))) (sym q)
           (store_named o offset t rest n pc m v it has stands h
-          (rw q (⊎_elim (λ (i : g ≡ me). mine g i) (λ (i : IsParameterOf y.called (local g)). let j = i.is in absurd cc) k)) f)
+          (rw q (⊎_elim (λ (i : g ≡ me). mine g i) (λ (i : IsParameterOf y.called (local g)). let j = i.is in absurd cc) k)) known_there f)
       by_storage (param g) q k =
           subst (λ z. G (suc n) m.state.work pc v (stored_in (Some z))) (sym q)
           (store_named o offset t rest n pc (machine m.temps (kept_for p (g ∷ fs) m.state)) v it has stands
           (kept_matches p e y.inputs slots base place y.aside y.stands y.active y.called y.active y.called
           (needs at (store_object o offset t ∷ rest)) (g ∷ fs) m.temps m.state v (frames_with g k) h)
           (rw q (or_left (g == g) (is_among fs g) (eq-eqb g g refl)))
-          f)
+          known_there f)
       by_storage (register r) q k =
           subst (λ z. G (suc n) m.state.work pc v (stored_in (Some z))) (sym q)
-          (store_named o offset t rest n pc m v it has stands h (rw q refl) f)
+          (store_named o offset t rest n pc m v it has stands h (rw q refl) known_there f)

@@ -78,7 +78,7 @@ use Rattle.ec_select_places.specs.Conversions.{embedded, embed_code}
 use Rattle.ec_select_operations.specs.declared.families.Told.TheVariants.{Index}
 use Rattle.ec_select_operations.specs.declared.families.Family.{Family}
 use Rattle.ec_select_operations.specs.declared.families.Family.TheVariants.{Compared}
-use Rattle.ec_select_operations.specs.Code.{Linkage, own_code, tells_next, ops_code, family_of, by_kind}
+use Rattle.ec_select_operations.specs.Code.{Linkage, own_code, needed_behind, tells_next, ops_code, family_of, by_kind}
 use Rattle.ec_select_operations.specs.Code.{move_code, conversion_code, is_far, moved_code, offset_code, is_difference}
 use Rattle.ec_select_operations.specs.Code.{truth_register, truth_at_code}
 use Rattle.ec_select_operations.specs.Code.{takes_index, indexed_code}
@@ -1583,12 +1583,13 @@ module _ (p : PlainProgram) (functions : List PlainIrFunction) (e : Env) (slots 
   -- an operation whose code stands at its use, and those behind it
   abbrev own_items : PlainIr → List PlainIr → List AsmItem
   own_items i rest =
-      own_code p home link None (tells_next link.core p home at None i rest) (at.known (i ∷ rest)) (needs at rest) i
+      own_code p home link None (tells_next link.core p home at None i rest) (at.known (i ∷ rest))
+      (needed_behind labels (needs at rest) i) i
       ++ ops_code p home link at (tells_next link.core p home at None i rest) rest
 
   -- its code, where it has been told nothing and tells nothing, and its second operand may be known to hold a number
   abbrev known_code : Option RightNumber → PlainIr → List PlainIr → List AsmItem
-  known_code known i rest = own_code p home link None None known (needs at rest) i
+  known_code known i rest = own_code p home link None None known (needed_behind labels (needs at rest) i) i
 
   -- where it takes no number
   abbrev code_of : PlainIr → List PlainIr → List AsmItem

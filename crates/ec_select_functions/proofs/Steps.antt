@@ -65,7 +65,7 @@ use Rattle.ec_select_operations.specs.Homes.{HasHome}
 use Rattle.ec_ir_known.specs.declared.known.RightNumber.{RightNumber}
 use Rattle.ec_ir_known.specs.Known.{known_at, is_byte, changes_byte, takes_alone}
 use Rattle.ec_select_bytes.specs.Values.{test_code, extend_code, widen_code}
-use Rattle.ec_select_bytes.proofs.Tests.{tests_keep, tests_tell_zero}
+use Rattle.ec_select_bytes.proofs.Tests.{tests_keep}
 use Rattle.ec_select_bytes.specs.Complements.{negation_code}
 use Rattle.ec_select_bytes.proofs.Straight.{values_are_straight, values_take, complements_are_straight}
 use Rattle.ec_select_bytes.proofs.Straight.{complements_take}
@@ -90,7 +90,7 @@ use Rattle.ec_select_operations.specs.Code.{Linkage, told_of, is_only_tested, te
 use Rattle.ec_select_operations.specs.Code.{is_over_jump, turned as turned_round, tested_code, is_mask, is_masked}
 use Rattle.ec_select_operations.specs.Code.{is_untold, related_bytes, pointers_code}
 use Rattle.ec_select_operations.specs.Code.{told_taking, masked_code, told_number_code, op_code, own_code, called_code}
-use Rattle.ec_select_operations.specs.Code.{linked_code, result_wanted, ops_code, family_of, same_location}
+use Rattle.ec_select_operations.specs.Code.{linked_code, result_wanted, needed_behind, ops_code, family_of, same_location}
 use Rattle.ec_select_operations.specs.Code.{reversed_code, is_index_alone, index_behind}
 use Rattle.ec_select_operations.specs.Code.{combined_code, binary_code, turn_code, unary_code, move_code, transfer_code}
 use Rattle.ec_select_operations.specs.Code.{counted_by_code, bytes_code, counted_code, taking_code, changed_by_code}
@@ -151,16 +151,18 @@ use Rattle.ec_select_functions.proofs.PointerNumbers.{number_below}
 use Rattle.ec_select_functions.proofs.PointerSteps.{pointer_binary_follows, pointer_conversion_follows, no_fixed_operand}
 use Rattle.ec_select_functions.proofs.PointerSteps.{index_follows, comparison_decided, pointer_size}
 use Rattle.ec_select_functions.proofs.Computed.{stand, constant_matches, copy_matches, binary_matches, moved_numbers}
-use Rattle.ec_select_functions.proofs.Computed.{result_of, location_same}
+use Rattle.ec_select_functions.proofs.Computed.{result_of, location_is, location_same}
 use Rattle.ec_select_functions.proofs.Taken.{is_changed, TakesSum, TakesOrder, TakesShift, takes, taken_is, compared_some}
 use Rattle.ec_select_functions.proofs.Taken.{is_joined, joins}
 use Rattle.ec_select_functions.proofs.Taken.{whole_unmoved, fixed_unmoved, TakenNumber, as_known, no_number, HasNumber}
 use Rattle.ec_select_functions.proofs.Taken.{number_or_none, compares, is_order, turned_unmoved, or_turned}
 use Rattle.ec_select_functions.proofs.ByNumber.{changed_form, right_held, on_no_bytes, ByteNumber, byte_value}
 use Rattle.ec_select_functions.proofs.ByNumber.{byte_bytes, number_low, number_matches, AreTested, tested_held}
-use Rattle.ec_select_functions.proofs.ByNumber.{number_there, bytes_held, IsAlone, alone_held}
+use Rattle.ec_select_functions.proofs.ByNumber.{number_there, bytes_held, IsAlone, alone_held, stored_held}
 use Rattle.ec_select_functions.proofs.Joined.{joined_matches}
 use Rattle.ec_select_functions.proofs.TopBits.{leaves_top_bit, byte_leaves_none, top_bit, bit_of, bit_below}
+use Rattle.ec_select_operations.specs.Tests.{number_test}
+use Rattle.ec_select_functions.proofs.Joins.{changed_bytes, number_tested, IsBriefTest, test_form}
 use Rattle.ec_select_functions.proofs.Bounds.{flag_bit, flag_tells, bounded_form, temp_relates, temp_tells}
 use Rattle.ec_select_functions.proofs.Next.{stands_to, bound_stands}
 use Rattle.ec_select_functions.proofs.LowMasks.{IsLowMasked, IsUnmasked, mask_or_not, low_mask_matches}
@@ -177,7 +179,7 @@ use Rattle.ec_select_functions.proofs.Negated.{negated_passes}
 use Rattle.ec_select_functions.proofs.Placed.{binary_roomy, KnownCount, located_apart, count_passes, placed_passes}
 use Rattle.ec_select_functions.proofs.Follow.{Follows, after, stay, from_held, from_number}
 use Rattle.ec_select_functions.proofs.Match.{kept_left, wanted_most, read_first, whole, at_width, weaker, written}
-use Rattle.ec_select_functions.proofs.Match.{written_wide}
+use Rattle.ec_select_functions.proofs.Match.{written_wide, free_changed}
 use Rattle.ec_select_functions.proofs.Match.{same_content, same_leaf, least_here, least_other, without_other}
 use Rattle.ec_select_functions.proofs.Match.{held_row}
 use Rattle.ec_select_functions.proofs.PortSteps.{in_follows, out_follows, load_cell_follows, store_cell_follows}
@@ -201,7 +203,7 @@ use Rattle.ec_core.specs.ArithmeticValues.{is_comparison}
 use Rattle.ec_space.specs.Spaces.{width}
 use Rattle.ec_space.specs.declared.space.SpaceId.{SpaceId}
 use Rattle.ec_select_operations.specs.Pointers.{IsPointerSize}
-use Rattle.ec_select_functions.proofs.Tested.{TellsTruth, zero_told, turned_told, test_some}
+use Rattle.ec_select_functions.proofs.Tested.{TellsTruth, zero_told, turned_told}
 use Rattle.ec_select_functions.proofs.Masked.{mask_byte, order_unmasked, shift_unmasked, mask_low, masks}
 use Rattle.ec_select_functions.proofs.Masked.{masked_form}
 use Rattle.ec_select_functions.proofs.Multiplied.{product_low}
@@ -235,12 +237,13 @@ module _ (p : PlainProgram) (functions : List PlainIrFunction) (e : Env) (slots 
 
   -- that of one at its use, which has been told nothing, tells nothing, and takes no number
   abbrev pub code_of : PlainIr → List PlainIr → List AsmItem
-  code_of i rest = own_code p home link None None None (needs at rest) i
+  code_of i rest = own_code p home link None None None (needed_behind labels (needs at rest) i) i
 
   -- an operation whose code stands at its use and which has been told so much, and those behind it
   abbrev own_told : Option Told → PlainIr → List PlainIr → List AsmItem
   own_told told i rest =
-      own_code p home link told (tells_next link.core p home at told i rest) (at.known (i ∷ rest)) (needs at rest) i
+      own_code p home link told (tells_next link.core p home at told i rest) (at.known (i ∷ rest))
+      (needed_behind labels (needs at rest) i) i
       ++ items_told (tells_next link.core p home at told i rest) rest
 
   abbrev own_items : PlainIr → List PlainIr → List AsmItem
@@ -249,8 +252,9 @@ module _ (p : PlainProgram) (functions : List PlainIrFunction) (e : Env) (slots 
   -- one that calls a routine with a label, if there is one, and those behind it
   abbrev linked_items : Option ℕ → PlainIr → List PlainIr → List AsmItem
   linked_items routine i rest =
-      linked_code routine (λ l. called_code home l (result_wanted (needs at rest) i) i)
-      (own_code p home link None (tells_next link.core p home at None i rest) (at.known (i ∷ rest)) (needs at rest) i)
+      linked_code routine (λ l. called_code home l (result_wanted (needed_behind labels (needs at rest) i) i) i)
+      (own_code p home link None (tells_next link.core p home at None i rest) (at.known (i ∷ rest))
+      (needed_behind labels (needs at rest) i) i)
       ++ items_told (tells_next link.core p home at None i rest) rest
 
   -- an operation that takes no number, and those behind it
@@ -260,12 +264,12 @@ module _ (p : PlainProgram) (functions : List PlainIrFunction) (e : Env) (slots 
 
   abbrev plain_items : PlainIr → List PlainIr → List AsmItem
   plain_items i rest =
-      own_code p home link None (plain_told i rest) None (needs at rest) i ++ items_told (plain_told i rest) rest
+      own_code p home link None (plain_told i rest) None (needed_behind labels (needs at rest) i) i ++ items_told (plain_told i rest) rest
 
   -- the same where its second operand may be known to hold a number
   abbrev known_items : Option RightNumber → PlainIr → List PlainIr → List AsmItem
   known_items known i rest =
-      own_code p home link None (plain_told i rest) known (needs at rest) i ++ items_told (plain_told i rest) rest
+      own_code p home link None (plain_told i rest) known (needed_behind labels (needs at rest) i) i ++ items_told (plain_told i rest) rest
 
   -- what is needed before it, if it moves no pointer
   abbrev plain_needs : PlainIr → List PlainIr → Need
@@ -3371,7 +3375,8 @@ module _ (p : PlainProgram) (functions : List PlainIrFunction) (e : Env) (slots 
   onward : (told : Option Told) (i : PlainIr) (ops : List PlainIr) (pc : ℕ) → HasAt e (items_told told (i ∷ ops)) pc end
       → (mid : ℕ) × HasAt e (items_told (tells_next link.core p home at told i ops) ops) mid end
   onward told i ops pc stands =
-      let s = has_parts e (op_code p home link told (tells_next link.core p home at told i ops) (at.known (i ∷ ops)) (needs at ops) i)
+      let s = has_parts e (op_code p home link told (tells_next link.core p home at told i ops) (at.known (i ∷ ops))
+      (needed_behind labels (needs at ops) i) i)
       (items_told (tells_next link.core p home at told i ops) ops) pc
       end stands in
       (s.0, s.2)
@@ -3587,10 +3592,18 @@ module _ (p : PlainProgram) (functions : List PlainIrFunction) (e : Env) (slots 
       kept_matches need m v (block e (test_code (home t) size) v)
       (tests_keep e (home t) size (base t) v (stand p e slots home base place y t size it l) h.bytes) h
 
-  zero_flag : (n : ℕ) → 1 ≤ n → (q : Location) (a : ℕ) (v : View) → StandsFrom e q n a Own → HoldsNumbers v
-      → (block e (test_code q n) v).flags.z ≡ from_bool (value v.at a n == 0)
-  zero_flag zero l q a v s h = absurd (omega arith)
-  zero_flag (suc n) l q a v s h = tests_tell_zero e q n a v s h
+  -- and all that is needed by that of a number of which nothing is
+  number_tests : (need : Need) (m : Mach) (v : View) (t : Temp) (size : ℕ) → HasHome slots t → 1 ≤ size → size ≤ t.bytes
+      → M need m v → (is_free : Bool) → (wanted need t == 0) ≡ is_free → M need m (block e (number_test is_free (home t) size) v)
+  number_tests need m v t size it some l h false q = tested need m v t size it l h
+  number_tests need m v t size it some l h true q =
+      let v1 = block e (number_test true (home t) size) v in
+      let k = (number_tested true e (home t) size (base t) v some (stand p e slots home base place y t size it l) h.bytes).keeps in
+      let most = it.some in
+      let frame : Frame v v1 (base t) t.bytes =
+      wider_frame v v1 (base t) t.bytes 1 most (λ i x z w o. k.same i x z w o) in
+      free_changed p e slots home base place y t need m v v1 it (eqb-true (wanted need t) 0 q) h (widened v v1 (base t) t.bytes frame)
+      k.bytes (record { inputs = k.inputs; safe = k.safe; seen = k.seen })
 
   either_left : (a b : Need) (u : ℕ) → a u ≤ either a b u
   either_left a b u = omega arith
@@ -3729,10 +3742,14 @@ module _ (p : PlainProgram) (functions : List PlainIrFunction) (e : Env) (slots 
 
   -- ---- a branch
 
+  -- whether nothing is needed of what a branch tests, behind it and at its label
+  abbrev is_tested_last : (l : ℕ) (t : Temp) → List PlainIr → Bool
+  is_tested_last l t rest = wanted (either (needs at rest) (labels l)) t == 0
+
   -- a test of so many bytes, which tells a jump behind it or branches, and what comes then
   abbrev branch_items : (l : ℕ) (t : Temp) (size : ℕ) → List PlainIr → (over : Bool) → List AsmItem
   branch_items l t size rest over =
-      tested_code None (if over then Some (turned_round None) else None) (home t) size (link.label_of l)
+      tested_code None (if over then Some (turned_round None) else None) (is_tested_last l t rest) (home t) size (link.label_of l)
       ++ items_told (if over then Some (turned_round None) else None) rest
 
   pub branch_follows : (start l : ℕ) (t : Temp) (size : ℕ) (rest : List PlainIr) (n pc : ℕ) (m : Mach) (v : View)
@@ -3744,13 +3761,10 @@ module _ (p : PlainProgram) (functions : List PlainIrFunction) (e : Env) (slots 
       let need0 = at_least t.at size both in
       let within = by.within in
       let c = op_steps (branch_zero t l) in
-      let kept = tested need0 m v t size it within h in
-      let here : M need m v1 =
-      weaker p e slots home base place y need0 need m v1 kept
-      (λ u. let a = either_left need (labels l) u in let b = least_other t.at size u both in omega (arith, a, b)) in
-      let there : M (labels l) m v1 =
-      weaker p e slots home base place y need0 (labels l) m v1 kept
-      (λ u. let a = either_right need (labels l) u in let b = least_other t.at size u both in omega (arith, a, b)) in
+      let before : M both m v = weaker p e slots home base place y need0 both m v h (λ u. least_other t.at size u both) in
+      let kept = number_tests both m v t size it by.some within before is_free refl in
+      let here : M need m v1 = weaker p e slots home base place y both need m v1 kept (either_left need (labels l)) in
+      let there : M (labels l) m v1 = weaker p e slots home base place y both (labels l) m v1 kept (either_right need (labels l)) in
       from_held p place e t m.temps (worked c m.state) _ (suc n) m.state.work pc v
       (λ x q w.
       let enough = least_here t.at size both in
@@ -3764,8 +3778,14 @@ module _ (p : PlainProgram) (functions : List PlainIrFunction) (e : Env) (slots 
       both : Need
       both = either need (labels l)
 
+      is_free : Bool
+      is_free = is_tested_last l t rest
+
       test : List AsmItem
-      test = test_code (home t) size
+      test = number_test is_free (home t) size
+
+      form : IsBriefTest is_free (home t) size
+      form = test_form is_free (home t) size
 
       v1 : View
       v1 = block e test v
@@ -3775,12 +3795,12 @@ module _ (p : PlainProgram) (functions : List PlainIrFunction) (e : Env) (slots 
 
       few : k ≤ 1 + 2 * t.bytes
       few =
-          let most = (values_take (home t) 0 0 size).1 in
+          let most = form.few in
           let within = by.within in
           omega (arith, most, within)
 
       some : 1 ≤ k
-      some = test_some (home t) size by.some
+      some = form.some by.some
 
       behind : Behind rest
       behind = record { covered = r.covered.1; live = r.live; inside = r.inside }
@@ -3811,7 +3831,7 @@ module _ (p : PlainProgram) (functions : List PlainIrFunction) (e : Env) (slots 
           → G (suc n) m.state.work pc v (branched n l t rest m b)
       by_over here there true q stands b z =
           let s = has_parts e test (items_told (Some (turned_round None)) rest) pc end stands in
-          let goes = block_goes e test pc s.0 v (values_are_straight (home t) 0 0 size).1 s.1 in
+          let goes = block_goes e test pc s.0 v form.straight s.1 in
           after p place e k n (suc n) m.state.work (m.state.work + k) pc s.0 v v1 (branched n l t rest m b) goes (omega (arith, some))
           (omega arith)
           (turned_follows start l t rest (turned_round None) n (m.state.work + k) s.0 m v1 b ready behind r.covered.0.3 (over_jump l rest q)
@@ -3821,12 +3841,12 @@ module _ (p : PlainProgram) (functions : List PlainIrFunction) (e : Env) (slots 
           let s = has_parts e (test ++ jumper) (items rest) pc end stands in
           let s1 = has_parts e test jumper pc s.0 s.1 in
           let to_end : HasAt e (items rest) s1.2.0 end = subst (λ x. HasAt e (items rest) x end) s1.2.2 s.2 in
-          let goes = block_goes e test pc s1.0 v (values_are_straight (home t) 0 0 size).1 s1.1 in
+          let goes = block_goes e test pc s1.0 v form.straight s1.1 in
           by_flag s1.0 s1.2.0 goes s1.2.1 to_end here there b z
 
       told_by_flag : v1.flags.z ≡ from_bool (value v.at (base t) size == 0)
       told_by_flag =
-          zero_flag size by.some (home t) (base t) v (stand p e slots home base place y t size it by.within) h.bytes
+          (number_tested is_free e (home t) size (base t) v by.some (stand p e slots home base place y t size it by.within) h.bytes).zero_is
 
       by_content : M need m v1 → M (labels l) m v1 → (over : Bool) → is_over_jump l (slice_get rest 0) (slice_get rest 1) ≡ over
           → HasAt e (branch_items l t size rest over) pc end → (x : Content)
@@ -3902,7 +3922,7 @@ module _ (p : PlainProgram) (functions : List PlainIrFunction) (e : Env) (slots 
           (again (needs at rest) m v c here))
 
       by_over : (over : Bool) → is_over_jump l (slice_get rest 0) (slice_get rest 1) ≡ over
-          → HasAt e (tested_code (Some (Operands relation signed)) (telling over) (home t) size (link.label_of l)
+          → HasAt e (tested_code (Some (Operands relation signed)) (telling over) (is_tested_last l t rest) (home t) size (link.label_of l)
           ++ items_told (telling over) rest) pc end
           → G n m.state.work pc v (branched n l t rest m (not truth))
       by_over true q stands =
@@ -3957,34 +3977,53 @@ module _ (p : PlainProgram) (functions : List PlainIrFunction) (e : Env) (slots 
             ∙ bit_is (not (is_set r));
       }) s1.2 here there f))
 
+  -- what is outside of a temporary is outside of a free one at its place
+  free_outside : (t x1 : Temp) → HasHome slots t → HasHome slots x1 → (k : ℕ) → Outside (base t) t.bytes k
+      → Outside (base x1) (changed_bytes (same_location (home x1) (home t))) k
+  free_outside t x1 it i1 k o = by_test (same_location (home x1) (home t)) refl
+    where
+      first : (u : Temp) → HasHome slots u → address_at e (home u) 0 ≡ base u + 0
+      first u iu = (stand p e slots home base place y u 1 iu iu.some).at 0 (omega arith)
+
+      by_test : (b : Bool) → same_location (home x1) (home t) ≡ b → Outside (base x1) (changed_bytes b) k
+      by_test false w l = omega arith
+      by_test true w l =
+          let same = location_is (home x1) (home t) w in
+          let there = sym (first x1 i1) ∙ ap (λ x. address_at e x 0) same ∙ first t it in
+          let some = it.some in
+          let z = o (omega (arith, l, there)) in
+          omega (arith, l, there, z, some)
+
   -- the same with a number
   told_number_passes : (start l : ℕ) (own : Bound) (truth : Bool) (t x1 : Temp) (bytes c : ℕ) (rest : List PlainIr)
       (n pc : ℕ) (need0 : Need) (m : Mach) (v : View) → Ready start all → Behind (branch_zero t l ∷ rest) → HasHome slots t
       → HasHome slots x1 → suc bytes ≤ x1.bytes → 102 ≤ c
       → stands_to own (suc bytes) (value v.at (base x1) (suc bytes)) ≡ truth
       → wanted (either (needs at rest) (labels l)) t ≡ 0
-      → HasAt e (bounded_code own (home x1) (suc bytes) ++ own_told (Some (so_told own.relation own.signed)) (branch_zero t l) rest) pc end
+      → HasAt e (bounded_code (same_location (home x1) (home t)) own (home x1) (suc bytes)
+      ++ own_told (Some (so_told own.relation own.signed)) (branch_zero t l) rest) pc end
       → ((k : ℕ) → k ≢ t.at → either (needs at rest) (labels l) k ≤ need0 k) → M need0 m v → Onwards n
       → G (suc n) m.state.work pc v (R (suc n) (branch_zero t l ∷ rest) (told_machine t truth c m))
   told_number_passes start l own truth t x1 bytes c rest n pc need0 m v ready behind it i1 q1 big is none stands more h f =
       let both = either (needs at rest) (labels l) in
       let low = low_bytes t.bytes (pos (from_bool truth)) in
-      let code = bounded_code own (home x1) (suc bytes) in
+      let is_free = same_location (home x1) (home t) in
+      let code = bounded_code is_free own (home x1) (suc bytes) in
       let v1 = block e code v in
       let m1 = told_machine t truth c m in
       let s1 = has_parts e code (own_told (Some (so_told own.relation own.signed)) (branch_zero t l) rest) pc end stands in
-      let k = temp_relates p e slots home base place y own x1 bytes v i1 q1 h.bytes in
+      let k = temp_relates p e slots home base place y is_free own x1 bytes v i1 q1 h.bytes in
       let empty : value v1.at (base t) 0 ≡ low % 256 ^ 0 = omega arith in
       let matches : M both m1 v1 =
       written p e slots home base place y t (bits low) both need0 m (worked c m.state) v v1 it h more
-      (λ i d g j o. k.keeps.same i d g j (λ u. omega arith))
+      (λ i d g j o. k.keeps.same i d g j (free_outside t x1 it i1 i o))
       (subst (λ j. value v1.at (base t) j ≡ low % 256 ^ j) (sym none) empty, low_below t.bytes (pos (from_bool truth)))
       k.keeps.bytes refl (k.keeps.seen ∙ h.seen) (kept_left y.inputs m.state v v1 k.keeps.inputs h.left) (k.keeps.safe ∙ h.safe) in
       let here : M (needs at rest) m1 v1 =
       weaker p e slots home base place y both (needs at rest) m1 v1 matches (either_left (needs at rest) (labels l)) in
       let there : M (labels l) m1 v1 =
       weaker p e slots home base place y both (labels l) m1 v1 matches (either_right (needs at rest) (labels l)) in
-      let form = bounded_form p e slots home base place y own (home x1) bytes in
+      let form = bounded_form p e slots home base place y is_free own (home x1) bytes in
       let few = form.few in
       let some = form.some in
       let eight = i1.most in
@@ -4278,7 +4317,8 @@ module _ (p : PlainProgram) (functions : List PlainIrFunction) (e : Env) (slots 
       (n pc : ℕ) (m : Mach) (v : View) → Ready start all → Behind (branch_zero t l ∷ rest) → HasHome slots t → HasHome slots a
       → HasHome slots b → b.bytes ≡ a.bytes → AreComparedBy a b r exchanged s own size m
       → wanted (either (needs at rest) (labels l)) t ≡ 0
-      → HasAt e (bounded_code own (home a) size ++ own_told (Some (so_told own.relation own.signed)) (branch_zero t l) rest) pc end
+      → HasAt e (bounded_code (same_location (home a) (home t)) own (home a) size
+      ++ own_told (Some (so_told own.relation own.signed)) (branch_zero t l) rest) pc end
       → M (at_least a.at (operand_wanted op size (wanted (needs at (branch_zero t l ∷ rest)) t))
       (without t.at (needs at (branch_zero t l ∷ rest)))) m v
       → Onwards n
@@ -4337,7 +4377,7 @@ module _ (p : PlainProgram) (functions : List PlainIrFunction) (e : Env) (slots 
           (ap (stands_to own size) left ∙ sym (by.same low1 low2 qa qb below1)) in
           told_number_passes start l own (truth_of low1 low2) t a bytes c rest n pc need0 m v ready behind it ia
           (omega (arith, is_size, within)) (relation_big op ty (integer s a.bytes) (integer s b.bytes)) truth none
-          (subst (λ j. HasAt e (bounded_code own (home a) j
+          (subst (λ j. HasAt e (bounded_code (same_location (home a) (home t)) own (home a) j
           ++ own_told (Some (so_told own.relation own.signed)) (branch_zero t l) rest) pc end) is_size stands) more all_needed f
 
   -- AND of a byte and a number, and the branch behind it
@@ -5061,9 +5101,9 @@ module _ (p : PlainProgram) (functions : List PlainIrFunction) (e : Env) (slots 
           let same : so_told own_bound.relation own_bound.signed ≡ told = cc in
           told_number_follows start z.l op r exchanged is i.signed own_bound size ty mode t a b z.rest n pc m v ready
           behind1 i.result i.left i.right i.same_bytes by z.none
-          (subst (λ (x : Told). HasAt e (bounded_code own_bound (home a) size
+          (subst (λ (x : Told). HasAt e (bounded_code (same_location (home a) (home t)) own_bound (home a) size
           ++ own_told (Some x) (branch_zero t z.l) z.rest) pc end) (sym same)
-          (at_use_behind (bounded_code own_bound (home a) size) (Some told) (branch_zero t z.l) z.rest pc
+          (at_use_behind (bounded_code (same_location (home a) (home t)) own_bound (home a) size) (Some told) (branch_zero t z.l) z.rest pc
           behind1.covered.0.1 (λ l none. none)
           (subst (λ x. HasAt e (told_number_code x sign (home a) (home t) (low_bytes 16 k.number) size
           ++ items_told (Some told) (branch_zero t z.l ∷ z.rest)) pc end) is stands1)))
@@ -6539,6 +6579,7 @@ module _ (p : PlainProgram) (functions : List PlainIrFunction) (e : Env) (slots 
       let i = r.covered.0.0 in
       store_follows p functions e slots home base place y labels all end results me link stack o offset t rest n pc m v i.0 i.1 i.2
       r.here (at_use (store_object o offset t) rest pc r (λ l none. none)) h
+      (λ k q c s. stored_held (known_at all (store_object o offset t ∷ rest)) t k m.temps q held c s)
       (λ pc1 m1 v1 s z. go n (omega arith) pc1 rest m1 v1
       (record { covered = r.covered.1; live = r.live; inside = r.inside; here = r.here; stands = s }) z)
   performs start ready n go calls returns pc (binary_op op ty mode t a aty b bty) rest m v r h held more =

@@ -16,7 +16,7 @@ use Rattle.ec_select_operations.specs.Needs.{Need, at_least, without, either, wa
 use Rattle.ec_select_operations.specs.Needs.{is_fixed, is_whole, first_wanted, second_wanted, only_wanted, family_of}
 use Rattle.ec_select_operations.specs.Needs.{is_apart}
 use Rattle.ec_select_operations.specs.Needs.{index_needed, all_or_none, operand_wanted, right_wanted, returned_need}
-use Rattle.ec_select_operations.specs.Needs.{number_taken, takes_whole, right_taken, right_needed, before, Facts}
+use Rattle.ec_select_operations.specs.Needs.{number_taken, numbered, takes_whole, right_taken, right_needed, before, Facts}
 use Rattle.ec_select_operations.specs.Needs.{is_low_mask, is_number, masked_bytes, joined_bytes, moves_pointer}
 use Rattle.ec_select_operations.specs.Needs.{pointer_wanted, moved_wanted}
 use Rattle.ec_select_operations.specs.Needs.{narrowed}
@@ -126,7 +126,8 @@ pub before_more : (n s : ℕ) (at other : ℕ → Need) (known : Option RightNum
 before_more n s at other known (constant t x) a b l k q h = more_without s t.at a b h
 before_more n s at other known (copy to from) a b l k q h = more_value s to from a b l.0 h
 before_more n s at other known (load_object t o offset) a b l k q h = more_without s t.at a b h
-before_more n s at other known (store_object o offset t) a b l k q h = more_least s t.at t.bytes t.bytes a b (omega arith) h
+before_more n s at other known (store_object o offset t) a b l k q h =
+    more_second_needed s (numbered known) t.at t.bytes t.bytes a b (omega arith) h
 before_more n s at other known (binary_op op ty mode to x xty y yty) a b l k q h =
     let w = is_apart (family_of op) mode ty xty yty in
     let taken = number_taken known w op in

@@ -17,7 +17,7 @@ use Rattle.ec_select_operations.specs.Needs.{Need, nothing, at_least, without, e
 use Rattle.ec_select_operations.specs.Needs.{all_or_none, is_fixed, is_whole, first_wanted, second_wanted, only_wanted}
 use Rattle.ec_select_operations.specs.Needs.{family_of, is_apart}
 use Rattle.ec_select_operations.specs.Needs.{index_needed, operand_wanted, right_wanted, returned_need, without_result}
-use Rattle.ec_select_operations.specs.Needs.{number_taken, takes_whole, right_taken, compared_bytes, right_needed}
+use Rattle.ec_select_operations.specs.Needs.{number_taken, numbered, takes_whole, right_taken, compared_bytes, right_needed}
 use Rattle.ec_select_operations.specs.Needs.{is_low_mask, is_number, masked_bytes, joined_bytes, before, facts_of, known_right, needs}
 use Rattle.ec_select_operations.specs.Needs.{moves_pointer, moved_wanted, narrowed, loaded_bytes}
 use Rattle.ec_select_live.specs.Least.{HasLabel}
@@ -72,7 +72,7 @@ pub before_same : (s : ℕ) (at : ℕ → Need) (k : Option RightNumber) (i : Pl
 before_same s at k (constant t n) a b l h = same_without s t.at a b h
 before_same s at k (copy to from) a b l h = same_value s to from a b l.0 h
 before_same s at k (load_object t o offset) a b l h = same_without s t.at a b h
-before_same s at k (store_object o offset t) a b l h = same_least s t.at t.bytes t.bytes a b refl h
+before_same s at k (store_object o offset t) a b l h = same_right s (numbered k) t.at t.bytes t.bytes a b refl h
 before_same s at k (binary_op op ty mode to x xty y yty) a b l h =
     let w = is_apart (family_of op) mode ty xty yty in
     let taken = number_taken k w op in
@@ -123,7 +123,7 @@ result_same s (unary_op op ty mode to x) a b l h = same_wanted s to a b l.0 h
 result_same s (conversion to ty mode x xty) a b l h = same_wanted s to a b l.0 h
 result_same s (load_object t o offset) a b l h = refl
 result_same s (store_object o offset t) a b l h = refl
-result_same s (branch_zero t k) a b l h = refl
+result_same s (branch_zero t k) a b l h = same_wanted s t a b l h
 result_same s (return_from from) a b l h = refl
 result_same s (label k) a b l h = refl
 result_same s (jump k) a b l h = refl
@@ -246,7 +246,7 @@ pub before_bounded : (s : ℕ) (at : ℕ → Need) (n : Option RightNumber) (i :
 before_bounded s at n (constant t x) a l k h = bounded_without t.at a h
 before_bounded s at n (copy to from) a l k h = bounded_value to from a l.0.1 h
 before_bounded s at n (load_object t o offset) a l k h = bounded_without t.at a h
-before_bounded s at n (store_object o offset t) a l k h = bounded_least t.at t.bytes a l.1 h
+before_bounded s at n (store_object o offset t) a l k h = bounded_right (numbered n) t.at t.bytes a l.1 h
 before_bounded s at n (binary_op op ty mode to x xty y yty) a l k h =
     let w = is_apart (family_of op) mode ty xty yty in
     let taken = number_taken n w op in

@@ -3,7 +3,7 @@ ghost use Rattle.std.specs.Prelude.{◌≡◌, ◌<◌, length};
 ghost use Rattle.ec_ir.specs.Operations.{plain_ir};
 ghost use Rattle.ec_select_operations.specs.Needs.{before, either, at_least, without, wanted, index_needed};
 ghost use Rattle.ec_select_operations.specs.Needs.{returned_need, without_result, first_wanted, second_wanted};
-ghost use Rattle.ec_select_operations.specs.Needs.{only_wanted, right_needed, compared_bytes, masked_bytes, joined_bytes};
+ghost use Rattle.ec_select_operations.specs.Needs.{only_wanted, right_needed, numbered, compared_bytes, masked_bytes, joined_bytes};
 ghost use Rattle.ec_select_operations.specs.Needs.{moved_wanted, loaded_bytes, narrowed};
 ghost use Rattle.ec_select_live.specs.Places.{MayHavePlace, HasPlaces};
 ghost use Rattle.ec_select_live.specs.Tables.{need_of, needs_of, AreSame};
@@ -17,7 +17,7 @@ use ec_ir::{Ir, Temp};
 use ec_ir_known::RightNumber;
 use ec_select_operations::{
     compared_bytes, family_of, is_apart, is_fixed, is_whole, joined_bytes, masked_bytes,
-    moves_pointer, number_taken, right_taken, takes_whole,
+    moves_pointer, number_taken, numbered, right_taken, takes_whole,
 };
 use ec_space::{NoMemory, Seq, SpaceId};
 use std::alloc::Global;
@@ -221,7 +221,7 @@ pub fn before(
             at_load(need, *to, *ptr, loaded_bytes(*space, in_flash, ptr.bytes))
         }
         Ir::Store { ptr, from, .. } => at_store(need, *ptr, *from),
-        Ir::StoreObj(_, _, t) => keep(need, *t, t.bytes),
+        Ir::StoreObj(_, _, t) => keep_right(need, numbered(known), *t, t.bytes),
         Ir::Copy(to, a) => pass_on(need, false, *to, *a),
         Ir::Un { ty, to, a, .. } => pass_on(need, is_whole(ty), *to, *a),
         Ir::Conv { to, ty, a, aty, .. } => { pass_on(need, is_fixed(ty) || is_fixed(aty), *to, *a) }

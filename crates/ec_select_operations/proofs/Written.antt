@@ -16,7 +16,7 @@ use Rattle.ec_select_operations.specs.declared.families.Told.{Told}
 use Rattle.ec_select_operations.specs.Code.{restore_code, operation_code, tells_any, wanted_behind, wanted_bytes}
 use Rattle.ec_select_operations.specs.Code.{is_waiting, look, known_left, leaves_z, is_store_by_z, waits}
 use Rattle.ec_select_operations.specs.Code.{op_code, tells_next, ops_code, own_code, called_code, linked_code}
-use Rattle.ec_select_operations.specs.Code.{routine_used, result_wanted, index_behind}
+use Rattle.ec_select_operations.specs.Code.{routine_used, result_wanted, index_behind, needed_behind}
 use Rattle.ec_ir_known.specs.declared.known.RightNumber.{RightNumber}
 use Rattle.ec_ir_known.specs.Known.{known_at, right_number, numbers_left}
 use Rattle.ec_select_operations.specs.Needs.{Need, without_result, Facts, facts_of, needs}
@@ -79,7 +79,7 @@ module _ (p : PlainProgram) (home : Temp → Location) (k : Linkage) (routine_of
 
   same_code : (at : ℕ → Need) (told telling : Option Told) (known : Option RightNumber) (need : Need) (i : PlainIr)
       → operation_code p home k told telling known (wanted_behind at need i) (need_in (kept_row k.slots need i)) i
-      ≡ own_code p home (routed k routine_of) told telling known need i
+      ≡ own_code p home (routed k routine_of) told telling known (needed_behind at need i) i
   same_code at told telling known need (call_function f to) =
       let a = same_save (without_result to need) in
       let b = same_restore (without_result to need) in
@@ -108,7 +108,7 @@ module _ (p : PlainProgram) (home : Temp → Location) (k : Linkage) (routine_of
 
   -- of what a call of a routine leaves so much is needed
   same_called : (at : ℕ → Need) (need : Need) (i : PlainIr) (l : ℕ)
-      → called_code home l (wanted_behind at need i) i ≡ called_code home l (result_wanted need i) i
+      → called_code home l (wanted_behind at need i) i ≡ called_code home l (result_wanted (needed_behind at need i) i) i
   same_called at need (constant t n) l = refl
   same_called at need (copy to from) l = refl
   same_called at need (address t o offset) l = refl
@@ -134,12 +134,12 @@ module _ (p : PlainProgram) (home : Temp → Location) (k : Linkage) (routine_of
   same_linked : (at : ℕ → Need) (told telling : Option Told) (known : Option RightNumber) (need : Need) (i : PlainIr)
       → linked_code (routine_used known i (routine_of i)) (λ l. called_code home l (wanted_behind at need i) i)
       (operation_code p home k told telling known (wanted_behind at need i) (need_in (kept_row k.slots need i)) i)
-      ≡ op_code p home (routed k routine_of) told telling known need i
+      ≡ op_code p home (routed k routine_of) told telling known (needed_behind at need i) i
   same_linked at told telling known need i =
       linked_same (routine_used known i (routine_of i)) (λ l. called_code home l (wanted_behind at need i) i)
-      (λ l. called_code home l (result_wanted need i) i)
+      (λ l. called_code home l (result_wanted (needed_behind at need i) i) i)
       (operation_code p home k told telling known (wanted_behind at need i) (need_in (kept_row k.slots need i)) i)
-      (own_code p home (routed k routine_of) told telling known need i) (same_called at need i)
+      (own_code p home (routed k routine_of) told telling known (needed_behind at need i) i) (same_called at need i)
       (same_code at told telling known need i)
 
   -- what is needed of the place of an index behind the first operation

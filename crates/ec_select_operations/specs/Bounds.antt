@@ -2,12 +2,12 @@
 use Rattle.std.specs.Prelude.{ℕ, ◌+◌, ◌/◌, ◌%◌, ◌^◌, ◌==◌, nat_le, Bool, true, false, ◌&&◌, not, if◌then◌else◌, List, ◌++◌}
 use Rattle.ec_asm.specs.declared.items.AsmItem.{AsmItem}
 use Rattle.ec_asm.specs.declared.pieces.Location.{Location}
-use Rattle.ec_select_bytes.specs.Values.{test_code}
 use Rattle.ec_select_numbers.specs.ByNumber.{compared_code}
 use Rattle.ec_select_order.specs.declared.relations.Relation.{Relation}
 use Rattle.ec_select_order.specs.declared.relations.Relation.TheVariants.{Less, NotLess, Equal, NotEqual}
 use Rattle.ec_select_order.specs.Relations.{truth_in_code}
 use Rattle.ec_select_operations.specs.declared.bounds.Bound.{Bound}
+use Rattle.ec_select_operations.specs.Tests.{number_test}
 
 -- the relation that holds where another one does not
 abbrev pub opposite : Relation → Relation
@@ -60,10 +60,10 @@ is_equality NotLess = false
 is_equality Equal = true
 is_equality NotEqual = true
 
--- whether a number of n bytes stands so: a flag of the relation tells it
-abbrev pub bounded_code : Bound → Location → (n : ℕ) → List AsmItem
-bounded_code b p n = if b.number == 0 && is_equality b.relation then test_code p n else compared_code p b.number n
+-- whether a number of n bytes, which may be free, stands so: a flag of the relation tells it
+abbrev pub bounded_code : (is_free : Bool) → Bound → Location → (n : ℕ) → List AsmItem
+bounded_code free b p n = if b.number == 0 && is_equality b.relation then number_test free p n else compared_code p b.number n
 
 -- and a truth value in register d
 abbrev pub truth_by_code : (d : ℕ) → Bound → Location → (n : ℕ) → List AsmItem
-truth_by_code d b p n = bounded_code b p n ++ truth_in_code d b.relation b.signed
+truth_by_code d b p n = bounded_code false b p n ++ truth_in_code d b.relation b.signed

@@ -34,7 +34,7 @@ use Rattle.ec_ir.specs.Operations.{PlainIr, constant, copy, address, field, load
 use Rattle.ec_ir.specs.Operations.{store_object, binary_op, unary_op, conversion, label, jump, branch_zero}
 use Rattle.ec_ir.specs.Operations.{call_function, return_from, port_in, port_out, load_cell, store_cell, cell_port}
 use Rattle.ec_ir.specs.Temporaries.{low_bytes}
-use Rattle.ec_select_bytes.specs.Values.{constant_code, test_code, extend_code}
+use Rattle.ec_select_bytes.specs.Values.{constant_code, extend_code}
 use Rattle.ec_select_bytes.specs.Complements.{complement_code, negation_code}
 use Rattle.ec_select_order.specs.declared.relations.Relation.{Relation}
 use Rattle.ec_select_order.specs.declared.relations.Relation.TheVariants.{Equal, NotEqual}
@@ -68,6 +68,7 @@ use Rattle.ec_select_operations.specs.declared.families.Told.{Told}
 use Rattle.ec_select_operations.specs.declared.families.Told.TheVariants.{Operands, InZ, Index}
 use Rattle.ec_select_operations.specs.Bounds.{bound_of, bounded_code, truth_by_code}
 pub use Rattle.ec_select_operations.specs.Bounds.{opposite}
+use Rattle.ec_select_operations.specs.Tests.{number_test}
 use Rattle.ec_select_operations.specs.declared.homes.Homes.{Homes}
 use Rattle.ec_select_operations.specs.Homes.{home, result_location}
 use Rattle.ec_fxcode_formats.specs.Brought.{can_bring, bring_code}
@@ -86,6 +87,7 @@ pub use Rattle.ec_select_operations.specs.Needs.{has_one_format, takes_place, is
 pub use Rattle.ec_select_operations.specs.Needs.{family_of, is_as_exact, is_on_integers, is_apart}
 use Rattle.ec_select_operations.specs.Places.{object_location}
 use Rattle.ec_select_operations.specs.Pointers.{is_pointer, is_into_data, home_of, kept_in, tag_in, is_table, has_tables}
+use Rattle.ec_select_operations.specs.Stores.{store_object_code}
 use Rattle.ec_select_operations.specs.Ports.{in_code, out_code, cell_place, cell_in_code, cell_out_code}
 
 abbrev pub same_location : Location → Location → Bool
@@ -198,8 +200,8 @@ turn_code Invert p n = complement_code p n
 abbrev pub unary_code : UnOp → (from to : Location) → ℕ → List AsmItem
 unary_code op from to n = move_code from to n ++ turn_code op to n
 
-abbrev pub branch_code : Location → ℕ → ℕ → List AsmItem
-branch_code p bytes l = test_code p bytes ++ BranchTo true 1 l ∷ []
+abbrev pub branch_code : (is_free : Bool) → Location → ℕ → ℕ → List AsmItem
+branch_code free p bytes l = number_test free p bytes ++ BranchTo true 1 l ∷ []
 
 -- ---- a comparison, and a branch on what it tells by a flag
 
@@ -378,12 +380,12 @@ abbrev pub masked_code : (a to : Location) → (k : ℕ) → List AsmItem
 masked_code (InRegisters r) to k = masked_at (nat_le 16 r && same_location (InRegisters r) to) r k
 masked_code (InMemory o j) to k = LoadObj 30 o j ∷ Plain (Andi 30 k) ∷ []
 
--- what leaves a flag alone: of AND the lowest byte, and a comparison of so many bytes. There is no such code for other
--- operators
+-- what leaves a flag alone: of AND the lowest byte, and a comparison of so many bytes, where a first operand that stands at
+-- the result's place is free. There is no such code for other operators
 abbrev pub told_number_code : Family → (signed : Bool) → (a to : Location) → (number compared : ℕ) → List AsmItem
 told_number_code (Combined op) signed a to number compared = masked_code a to (number % 256)
 told_number_code (Compared r exchanged) signed a to number compared =
-    bounded_code (bound_of r exchanged signed compared number) a compared
+    bounded_code (same_location a to) (bound_of r exchanged signed compared number) a compared
 told_number_code f signed a to number compared = []
 
 -- so many low bytes of two numbers below 256 are compared, which have no signs. There is no such code for other operators
@@ -423,13 +425,13 @@ abbrev pub integer_binary : (known : Option RightNumber) → (telling : Option T
 integer_binary known telling op left right a b to bytes n =
     taking_code (number_taken known false op) telling (family_of op) left right a b to bytes n
 
--- it branches where the operands of the comparison before it do not stand so, or where a number of so many bytes is 0. Where
--- it tells a jump of this, it does not branch
-abbrev pub tested_code : (told telling : Option Told) → Location → (bytes l : ℕ) → List AsmItem
-tested_code (Some (Operands r signed)) None p bytes l = unless_code r signed l
-tested_code (Some (Operands r signed)) (Some behind) p bytes l = []
-tested_code told None p bytes l = branch_code p bytes l
-tested_code told (Some behind) p bytes l = test_code p bytes
+-- it branches where the operands of the comparison before it do not stand so, or where a number of so many bytes, which may
+-- be free, is 0. Where it tells a jump of this, it does not branch
+abbrev pub tested_code : (told telling : Option Told) → (is_free : Bool) → Location → (bytes l : ℕ) → List AsmItem
+tested_code (Some (Operands r signed)) None free p bytes l = unless_code r signed l
+tested_code (Some (Operands r signed)) (Some behind) free p bytes l = []
+tested_code told None free p bytes l = branch_code free p bytes l
+tested_code told (Some behind) free p bytes l = number_test free p bytes
 
 -- it jumps, or where the branch before it told it something, only where operands do not stand so
 abbrev pub jump_code : Option Told → (l : ℕ) → List AsmItem
@@ -962,9 +964,9 @@ pointer_conversion aty from to m n =
 
 -- ---- operations
 
--- An operation, of whose result so many bytes are needed, and after a call so many of other places; what the one before
--- it told, and what it tells itself; and the number that its second operand is known to hold. A constant is taken in two's
--- complement of 16 bytes, since no temporary has more
+-- An operation, of whose result, or of what a branch tests, so many bytes are needed, and after a call so many of other
+-- places; what the one before it told, and what it tells itself; and the number that its second operand, or what it stores,
+-- is known to hold. A constant is taken in two's complement of 16 bytes, since no temporary has more
 abbrev pub operation_code : PlainProgram → (Temp → Location) → Linkage → (told telling : Option Told) → Option RightNumber → ℕ
     → Need → PlainIr → List AsmItem
 operation_code p home k told telling known bytes kept (constant t n) = put_code (home t) (low_bytes 16 n) bytes
@@ -981,7 +983,7 @@ operation_code p home k told telling known bytes kept (load_object t o offset) =
     by_kind (is_index telling t.bytes) (load_index_code k.core (kept_in p o) p.objects o offset t.bytes)
     (object_code (own_telling told telling) k.core (kept_in p o) p.objects o offset (home t) t.bytes)
 operation_code p home k told telling known bytes kept (store_object o offset t) =
-    copy_code (home t) (object_location p.objects o offset) t.bytes
+    store_object_code (number_known known) (home t) (object_location p.objects o offset) t.bytes
 operation_code p home k told telling known bytes kept (binary_op op ty mode to a aty b bty) =
     by_kind (is_index told b.bytes && moves_pointer op aty bty)
     (offset_code k.core (is_difference op) (is_signed bty) (home a) z_pair (home to) (max 2 bytes) b.bytes (element_size p aty)
@@ -1001,7 +1003,7 @@ operation_code p home k told telling known bytes kept (conversion to ty mode a a
 operation_code p home k told telling known bytes kept (label l) = Label (k.label_of l) ∷ []
 operation_code p home k told telling known bytes kept (jump l) = jump_code told (k.label_of l)
 operation_code p home k told telling known bytes kept (branch_zero t l) =
-    tested_code told telling (home t) (bytes_compared known t.bytes) (k.label_of l)
+    tested_code told telling (bytes == 0) (home t) (bytes_compared known t.bytes) (k.label_of l)
 operation_code p home k told telling known bytes kept (call_function f to) = call_code home k f to bytes kept
 operation_code p home k told telling known bytes kept (return_from from) = return_code home k.is_main from
 operation_code p home k told telling known bytes kept (port_in to port index width) =
@@ -1017,7 +1019,7 @@ operation_code p home k told telling known bytes kept (cell_port true to cell of
 operation_code p home k told telling known bytes kept (cell_port false from cell offset index width) =
     cell_out_code (option_map home index) (home from) cell offset width
 
--- the bytes that are needed of an operation's result
+-- the bytes that are needed of an operation's result, or of what a branch has tested
 abbrev pub result_wanted : Need → PlainIr → ℕ
 result_wanted need (constant t n) = wanted need t
 result_wanted need (copy to from) = wanted need to
@@ -1025,6 +1027,7 @@ result_wanted need (address t o offset) = wanted need t
 result_wanted need (binary_op op ty mode to a aty b bty) = wanted need to
 result_wanted need (unary_op op ty mode to a) = wanted need to
 result_wanted need (conversion to ty mode a aty) = wanted need to
+result_wanted need (branch_zero t l) = wanted need t
 result_wanted need (call_function f to) = wanted_result need to
 result_wanted need (port_in to port index width) = wanted need to
 result_wanted need (cell_port true to cell offset index width) = wanted need to
@@ -1050,6 +1053,11 @@ index_row need i = []
 abbrev pub index_behind : Facts → List PlainIr → ℕ
 index_behind at [] = 0
 index_behind at (i ∷ code) = get_or (index_row (needs at code) i) 0 0
+
+-- what is needed behind an operation: behind a branch also at its label
+abbrev pub needed_behind : (ℕ → Need) → Need → PlainIr → Need
+needed_behind at need (branch_zero t l) = either need (at l)
+needed_behind at need i = need
 
 -- what a call keeps
 abbrev pub kept_need : Need → PlainIr → Need
@@ -1106,7 +1114,8 @@ abbrev pub ops_code : PlainProgram → (Temp → Location) → Linkage → Facts
     → List PlainIr → List AsmItem
 ops_code p home k at told [] = []
 ops_code p home k at told (i ∷ code) =
-    op_code p home k told (tells_next k.core p home at told i code) (at.known (i ∷ code)) (needs at code) i
+    op_code p home k told (tells_next k.core p home at told i code) (at.known (i ∷ code))
+    (needed_behind at.needed (needs at code) i) i
     ++ ops_code p home k at (tells_next k.core p home at told i code) code
 
 -- the code of a function, which begins with its label, where a table tells what is needed at its own labels

@@ -125,7 +125,8 @@ abbrev pub CanBeEmitted : PlainProgram → Linking → ℕ → PlainIr → Type 
 CanBeEmitted p k wanted (constant t n) = (wanted ≤ t.bytes) × (t.bytes ≤ 16)
 CanBeEmitted p k wanted (copy to from) = (wanted ≤ to.bytes) × (wanted ≤ from.bytes)
 CanBeEmitted p k wanted (load_object t o offset) = HasBytes (object_location p.objects o offset) t.bytes
-CanBeEmitted p k wanted (store_object o offset t) = HasBytes (object_location p.objects o offset) t.bytes
+CanBeEmitted p k wanted (store_object o offset t) =
+    HasBytes (object_location p.objects o offset) t.bytes × (t.bytes ≤ 16)
 CanBeEmitted p k wanted (binary_op op ty mode to a aty b bty) =
     OfKind (is_fixed aty || is_fixed bty) (FixedHasBytes op wanted to a b ty aty bty)
     (OfKind (is_pointer aty || is_pointer bty) (PointersHaveBytes p op wanted to a b ty aty bty)

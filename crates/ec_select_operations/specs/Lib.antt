@@ -3,7 +3,9 @@ pub mod Needs
 pub mod Places
 pub mod Pointers
 pub mod Ports
+pub mod Tests
 pub mod Bounds
+pub mod Stores
 pub mod Code
 pub mod Emitted
 pub mod Routines

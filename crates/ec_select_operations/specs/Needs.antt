@@ -277,14 +277,15 @@ abbrev pub right_taken : (known : Option RightNumber) → (takes apart : Bool) �
 right_taken None takes apart op = None
 right_taken (Some n) takes apart op = numbered (if takes then Some n else number_taken (Some n) apart op)
 
--- of a second operand that is taken as a number nothing is needed
+-- of a second operand, or of what is stored, nothing is needed where it is taken as a number
 abbrev pub right_needed : Option RightNumber → (at bytes : ℕ) → Need → Need
 right_needed None at bytes need = at_least at bytes need
 right_needed (Some n) at bytes need = need
 
 -- ---- operations
 
--- what is needed before an operation, whose second operand may be known to hold a number; a branch tests against 0. `at`
+-- what is needed before an operation, whose second operand may be known to hold a number, or what it stores; a branch
+-- tests against 0. `at`
 -- tells what is needed at each label, and `need` what is after the operation
 abbrev pub before : (ℕ → Need) → Option RightNumber → PlainIr → Need → Need
 before at n (constant t k) need = without t.at need
@@ -294,7 +295,7 @@ before at n (field ptr space offset) need = at_least ptr.at 2 need
 before at n (load_at to ptr space) need = at_least ptr.at ptr.bytes (without to.at need)
 before at n (store_at ptr space from) need = at_least from.at from.bytes (at_least ptr.at 2 need)
 before at n (load_object t o offset) need = without t.at need
-before at n (store_object o offset t) need = at_least t.at t.bytes need
+before at n (store_object o offset t) need = right_needed (numbered n) t.at t.bytes need
 before at n (binary_op op ty mode to a aty b bty) need =
     at_least a.at
     (moved_wanted (moves_pointer op aty bty) (wanted need to)

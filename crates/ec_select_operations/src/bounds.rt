@@ -5,8 +5,8 @@ ghost use Rattle.ec_asm.specs.Pieces.{HasBytes};
 ghost use Rattle.ec_select_operations.specs.Bounds.{opposite, next_number, is_greatest, exchanged_bound, of_one, simplest};
 ghost use Rattle.ec_select_operations.specs.Bounds.{bound_of, is_equality, bounded_code, truth_by_code};
 
+use crate::tests::test_number;
 use ec_asm::{AsmItem, Location};
-use ec_select_bytes::test;
 use ec_select_numbers::compare_with;
 use ec_select_order::{Relation, truth_in};
 use ec_space::{NoMemory, Seq};
@@ -135,21 +135,22 @@ fn is_equality(relation: Relation) -> bool
     matches!(relation, Relation::Equal | Relation::NotEqual)
 }
 
-/// Appends code that leaves in a flag of the relation whether so many bytes of a number stand so to those of the known
-/// one. Where memory runs out, a part of the code is appended.
+/// Appends code that leaves in a flag of the relation whether so many bytes of a number, which may be free, stand so to
+/// those of the known one. Where memory runs out, a part of the code is appended.
 pub(crate) fn bounded(
     out: &mut Seq<AsmItem>,
+    is_free: bool,
     of: Bound,
     at: Location,
     bytes: u8,
 ) -> Result<(), NoMemory>
     requires at { HasBytes at bytes }
     requires most { bytes ≤ 16 }
-    ensures ok { OnOk result (out.new.items ≡ out.old.items ++ bounded_code of at bytes) }
+    ensures ok { OnOk result (out.new.items ≡ out.old.items ++ bounded_code is_free of at bytes) }
     ensures err { OnErr result (BeginWith out.old.items out.new.items) }
 {
     if of.number == 0 && is_equality(of.relation) {
-        test(out, at, bytes)
+        test_number(out, is_free, at, bytes)
     } else {
         compare_with(out, at, of.number, bytes)
     }
@@ -169,6 +170,6 @@ pub(crate) fn truth_by(
     ensures ok { OnOk result (out.new.items ≡ out.old.items ++ truth_by_code register of at bytes) }
     ensures err { OnErr result (BeginWith out.old.items out.new.items) }
 {
-    bounded(out, of, at, bytes)?;
+    bounded(out, false, of, at, bytes)?;
     truth_in(out, register, of.relation, of.signed)
 }

@@ -12,11 +12,12 @@ ghost use Rattle.ec_select_operations.specs.Homes.{home};
 
 use crate::bounds::opposite;
 use crate::homes::{Homes, home};
+use crate::tests::test_number;
 use crate::transfers::transfer;
 use ec_asm::{AsmItem, Location, Operator, compare, operate};
 use ec_core::{BinOp, UnOp};
 use ec_ir::Temp;
-use ec_select_bytes::{combine_before, complement, extend, jump, negate, test};
+use ec_select_bytes::{combine_before, complement, extend, jump, negate};
 use ec_select_order::{Relation, branch_unless, relate_in};
 use ec_select_products::{Factor, multiply};
 use ec_select_quotients::{Division, quotient};
@@ -466,14 +467,20 @@ pub fn unary(
     turn(out, op, to, bytes)
 }
 
-/// Appends code that jumps to a label where all bytes of a number are 0. Where memory runs out, a part of the code is
-/// appended.
-pub fn branch(out: &mut Seq<AsmItem>, at: Location, bytes: u8, label: u64) -> Result<(), NoMemory>
+/// Appends code that jumps to a label where all bytes of a number, which may be free, are 0. Where memory runs out, a part of
+/// the code is appended.
+pub fn branch(
+    out: &mut Seq<AsmItem>,
+    is_free: bool,
+    at: Location,
+    bytes: u8,
+    label: u64,
+) -> Result<(), NoMemory>
     requires { HasBytes at bytes }
-    ensures ok { OnOk result (out.new.items ≡ out.old.items ++ branch_code at bytes label) }
+    ensures ok { OnOk result (out.new.items ≡ out.old.items ++ branch_code is_free at bytes label) }
     ensures err { OnErr result (BeginWith out.old.items out.new.items) }
 {
-    test(out, at, bytes)?;
+    test_number(out, is_free, at, bytes)?;
     out.extend_from_slice(&[AsmItem::BranchTo {
         set: true,
         flag: 1,
@@ -588,18 +595,19 @@ pub(crate) fn turned(told: Option<Told>) -> Told
 }
 
 /// Appends code that jumps to a label: where the operands of the comparison before it do not stand so, or where all
-/// bytes of a number are 0. Where it tells a jump of this, the code only tests the number. Where memory runs out, a part
-/// of the code is appended.
+/// bytes of a number, which may be free, are 0. Where it tells a jump of this, the code only tests the number. Where memory
+/// runs out, a part of the code is appended.
 pub fn branch_on(
     out: &mut Seq<AsmItem>,
     told: Option<Told>,
     telling: Option<Told>,
+    is_free: bool,
     at: Location,
     bytes: u8,
     label: u64,
 ) -> Result<(), NoMemory>
     requires { HasBytes at bytes }
-    ensures ok { OnOk result (out.new.items ≡ out.old.items ++ tested_code told telling at bytes label) }
+    ensures ok { OnOk result (out.new.items ≡ out.old.items ++ tested_code told telling is_free at bytes label) }
     ensures err { OnErr result (BeginWith out.old.items out.new.items) }
 {
     match (told, telling) {
@@ -607,8 +615,8 @@ pub fn branch_on(
             branch_unless(out, relation, signed, label)
         }
         (Some(Told::Operands { .. }), Some(_)) => Ok(()),
-        (_, None) => branch(out, at, bytes, label),
-        (_, Some(_)) => test(out, at, bytes),
+        (_, None) => branch(out, is_free, at, bytes, label),
+        (_, Some(_)) => test_number(out, is_free, at, bytes),
     }
 }
 

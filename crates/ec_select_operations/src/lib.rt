@@ -21,6 +21,8 @@ mod numbers;
 mod operations;
 mod pointers;
 mod routines;
+mod stores;
+mod tests;
 mod transfers;
 mod types;
 mod waiting;
@@ -41,7 +43,7 @@ pub use in_z::{go_to_member, load_by, load_or_fetch, store_by};
 pub use laws::{needed_code_is_written, needed_functions_are_written, one_shape_has_one_routine};
 pub use numbers::{
     compared_bytes, integer_binary, joined_bytes, masked_bytes, moves_pointer, number_at,
-    number_taken, right_taken, takes_whole,
+    number_taken, numbered, right_taken, takes_whole,
 };
 pub use operations::{Flags, all_operations, function, operation};
 pub use pointers::{
@@ -49,4 +51,5 @@ pub use pointers::{
     move_by_told, move_pointer, move_to_member, pointer_binary, pointer_conversion, put_address,
 };
 pub use routines::{called, routine};
+pub use stores::store_object;
 pub use types::{is_fixed, is_pointer, is_whole};

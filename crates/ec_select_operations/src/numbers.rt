@@ -98,7 +98,7 @@ pub fn number_taken(known: Option<RightNumber>, apart: bool, op: BinOp) -> Optio
 }
 
 /// What is known of a second operand, where that is a number.
-fn numbered(known: Option<RightNumber>) -> Option<RightNumber>
+pub fn numbered(known: Option<RightNumber>) -> Option<RightNumber>
     ensures { result ≡ numbered known }
 {
     match known {
@@ -539,8 +539,8 @@ fn mask(out: &mut Seq<AsmItem>, from: Location, to: Location, k: u8) -> Result<(
     }
 }
 
-/// Appends code that leaves in a flag what an operator with a known number tells; a comparison is of so many bytes. Where
-/// memory runs out, a part of the code is appended.
+/// Appends code that leaves in a flag what an operator with a known number tells; a comparison is of so many bytes, which are
+/// free where they stand at the place of the result. Where memory runs out, a part of the code is appended.
 fn tell_by_number(
     out: &mut Seq<AsmItem>,
     op: BinOp,
@@ -563,7 +563,7 @@ fn tell_by_number(
             exchanged,
         } => {
             let bound = bound_of(relation, exchanged, signed, compared, number);
-            bounded(out, bound, from, compared)
+            bounded(out, is_same(from, to), bound, from, compared)
         }
         _ => Ok(()),
     }

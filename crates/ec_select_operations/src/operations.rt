@@ -20,15 +20,17 @@ use crate::fixed::{fixed_binary, fixed_conversion, fixed_unary, is_apart, is_unt
 use crate::homes::{Homes, home, index_place};
 use crate::in_z::{go_to_member, load_by, load_or_fetch, own_telling, store_by, tells_in_z};
 use crate::numbers::{
-    bits_of, compared_bytes, integer_binary, moves_pointer, number_at, number_taken, told_taking,
+    bits_of, compared_bytes, integer_binary, moves_pointer, number_at, number_known, number_taken,
+    told_taking,
 };
 use crate::pointers::{
     load_index, move_by_told, object_location, pointer_binary, pointer_conversion, put_address,
 };
 use crate::routines::called;
+use crate::stores::store_object;
 use crate::types::{is_fixed, is_pointer, is_signed};
 use crate::waiting::is_waiting;
-use ec_asm::{AsmItem, Location, copy};
+use ec_asm::{AsmItem, Location};
 use ec_ir::{Ir, IrProgram, Temp};
 use ec_ir_known::RightNumber;
 use ec_select_bytes::{
@@ -237,10 +239,10 @@ fn told_behind(
     )
 }
 
-/// Appends the code of an operation of a function. Of its result so many bytes are wanted, and no more than its
-/// temporary has; after a call so many of the first places, as a row tells. It has been told something by the operation
-/// before it, and is telling the next one something; its second operand may be known to hold a number. Where memory runs
-/// out, a part of the code is appended.
+/// Appends the code of an operation of a function. Of its result, or of what a branch tests, so many bytes are wanted, and
+/// no more than its temporary has; after a call so many of the first places, as a row tells. It has been told something by
+/// the operation before it, and is telling the next one something; its second operand, or what it stores, may be known to
+/// hold a number. Where memory runs out, a part of the code is appended.
 #[tactic(auto, using(crate::proofs::Emits::fewer_bytes))]
 pub fn operation(
     out: &mut Seq<AsmItem>,
@@ -322,8 +324,9 @@ pub fn operation(
                 t.bytes,
             )
         }
-        Ir::StoreObj(o, offset, t) => copy(
+        Ir::StoreObj(o, offset, t) => store_object(
             out,
+            number_known(known),
             home(homes, *t),
             object_location(program.objs.as_slice(), *o, *offset, t.bytes),
             t.bytes,
@@ -424,6 +427,7 @@ pub fn operation(
             out,
             flags.told,
             flags.telling,
+            wanted == 0,
             home(homes, *t),
             compared_bytes(known, t.bytes),
             of.first_label + *l,
